@@ -1,0 +1,182 @@
+-- Reading and writing have one answer. Of two rows in one file the longer goes on where the shorter ends, so a number that is cut short, a
+-- header that passes a limit and a whole table exclude each other.
+-- Assumes nothing.
+use Prim.Native.Nat.{ℕ, _+_, _≤_, _<_}
+use mathlib.Core.Path.{_≡_, refl, _∙_, sym, ap}
+use mathlib.Core.List.{List, [], _∷_, _++_, append-nil}
+use mathlib.Core.Logic.{_⊎_, inl, inr, ⊎-elim}
+use lib.ListN.{length, length-append}
+use native.Mathlib.Omega.{arith}
+use Rattle.numbers.specs.Outcome.{Outcome, given, refused}
+use Rattle.numbers.specs.Number.{NoNumber}
+use Rattle.numbers.specs.Series.{fileOf, Row, Laid}
+use Rattle.numbers.proofs.Groups.{lt-or-ge}
+use Rattle.numbers.proofs.OneNumber.{refused-once}
+use Rattle.numbers.proofs.Overlay.{laid-once, laid-fits, too-small-once}
+use Rattle.numbers.proofs.Rows.{row-compare, row-same, row-stops, file-row, row-inside}
+use Rattle.table.specs.Layout.{headWords, tableWords, InLimits, Sized}
+use Rattle.table.proofs.Headers.{SameHeader, header-in-front, limits-same, words-same, same-header-back}
+use Rattle.table.proofs.Sizes.{sized-no-fault, fault-once}
+use Rattle.files.specs.Reading.{leftOver, IsFile, Cut, Over}
+use Rattle.files.specs.Plan.{PlanDue, HeaderAbove, TableTooLong, PlanUnread, PlanTaken, PlanUnwritten, PlanGiven}
+use Rattle.files.specs.Cursors.{cursorWords, CursorDue, CursorWhole, CursorTaken, CursorGiven}
+use Rattle.files.specs.Theorems.{PlanReadOneAnswer, PlanWrittenOneAnswer, CursorReadOneAnswer, CursorWrittenOneAnswer}
+use Rattle.files.specs.declared.Cursor.{Cursor}
+
+-- A file is a row of its words.
+pub file-is-row : {Whole : List ℕ → Type 0} {s ws : List ℕ} → IsFile Whole s ws → Row s 0 ws (length s)
+file-is-row {s = s} {ws = ws} f = rw (f .bytes) (file-row ws (f .words))
+
+-- Two numbers that are cut short are one, with one refusal.
+cut-once : {Due : List ℕ → Type 0} {s : List ℕ} {k p l q : ℕ} → Cut Due s k p → Cut Due s l q → (k ≡ l) × (p ≡ q)
+cut-once {s = s} {k = k} {p = p} {l = l} {q = q} c d =
+    let a = row-stops (c .ws) (d .ws) k (c .row) (c .no-number) (d .row) in
+    let b = row-stops (d .ws) (c .ws) l (d .row) (d .no-number) (c .row) in
+    let e = row-same (c .ws) (d .ws) (c .row) (d .row) (omega arith) .1 in
+    (refused-once s p k l (c .no-number) (rw e (d .no-number)), e)
+
+-- What stands in front of a number that is cut short begins with any other row.
+cut-behind : {Due : List ℕ → Type 0} {s : List ℕ} {k p next : ℕ} (c : Cut Due s k p) (ws : List ℕ) → Row s 0 ws next → (us : List ℕ) × (c .ws ≡ ws ++ us)
+cut-behind {k = k} c ws r =
+    let i = row-compare ws (c .ws) r (c .row) (row-stops (c .ws) ws k (c .row) (c .no-number) r) in
+    (i .0, i .1)
+
+-- No number of a whole table is due.
+sized-not-due : (t us : List ℕ) → Sized t → PlanDue (t ++ us) → ⊥
+sized-not-due t us z (inl h) = omega (arith, length-append t us, z .head)
+sized-not-due t us z (inr (h, l, d)) = omega (arith, length-append t us, words-same (header-in-front t us (z .head)), z .exact)
+
+-- A header that passes a limit is the end of the file.
+above-not-due : (h us : List ℕ) → length h ≡ headWords → (InLimits h → ⊥) → PlanDue (h ++ us) → ⊥
+above-not-due h us f a (inl e) = omega (arith, length-append h us)
+above-not-due h us f a (inr (e, l, d)) = a (limits-same (same-header-back (header-in-front h us (omega arith))) l)
+
+cut-table : {s : List ℕ} {k p next : ℕ} (t : List ℕ) → Sized t → Row s 0 t next → Cut PlanDue s k p → ⊥
+cut-table t z r c = let i = cut-behind c t r in sized-not-due t (i .0) z (rw (i .1) at (c .due))
+
+cut-above : {s : List ℕ} {k p : ℕ} → HeaderAbove s → Cut PlanDue s k p → ⊥
+cut-above a c = let i = cut-behind c (a .head) (a .row) in above-not-due (a .head) (i .0) (a .five) (a .above) (rw (i .1) at (c .due))
+
+above-table : {s : List ℕ} {next : ℕ} (t : List ℕ) → Sized t → Row s 0 t next → HeaderAbove s → ⊥
+above-table t z r a =
+    let i = row-compare (a .head) t (a .row) r (omega (arith, a .five, z .head)) in
+    let l = rw (i .1) at (z .limits) in
+    a .above (limits-same (same-header-back (header-in-front (a .head) (i .0) (omega (arith, a .five)))) l)
+
+-- Of two whole tables in one file neither is longer.
+not-longer : {s : List ℕ} {a b : ℕ} (t u : List ℕ) → Sized t → Sized u → Row s 0 t a → Row s 0 u b → length t ≤ length u → length t ≡ length u
+not-longer t u z y r q h =
+    let i = row-compare t u r q h in
+    let e : u ≡ t ++ i .0 = i .1 in
+    let w : tableWords t ≡ tableWords u = words-same (header-in-front t (i .0) (z .head)) ∙ ap tableWords (sym e) in
+    omega (arith, z .exact, y .exact)
+
+same-table : {s : List ℕ} {a b : ℕ} (t u : List ℕ) → Sized t → Sized u → Row s 0 t a → Row s 0 u b → (t ≡ u) × (a ≡ b)
+same-table t u z y r q =
+    ⊎-elim
+    (λ (h : length t < length u). row-same t u r q (not-longer t u z y r q (omega arith)))
+    (λ (h : length u ≤ length t). row-same t u r q (sym (not-longer u t y z q r h)))
+    (lt-or-ge (length t) (length u))
+
+-- Behind the file of a table nothing is left over.
+over-file : {s : List ℕ} {p : ℕ} {t : List ℕ} → Over Sized s p → IsFile Sized s t → ⊥
+over-file {t = t} o f =
+    let e = same-table (o .ws) t (o .whole) (f .whole) (o .row) (file-is-row f) .1 in
+    omega (arith, o .left-over)
+
+-- What reading told of a plan file, with one answer for each table, header or cut.
+unread-once : (s : List ℕ) (room k p l q : ℕ) → PlanUnread s room k p → PlanUnread s room l q → (k ≡ l) × (p ≡ q)
+unread-once s room k p l q (inl c) (inl d) = cut-once c d
+unread-once s room k p l q (inl c) (inr (inl (e, f, h))) = absurd (cut-above h c)
+unread-once s room k p l q (inl c) (inr (inr (inl (e, o)))) = absurd (cut-table (o .ws) (o .whole) (o .row) c)
+unread-once s room k p l q (inl c) (inr (inr (inr (e, f, t)))) = absurd (cut-table (t .table) (t .file .whole) (file-is-row (t .file)) c)
+unread-once s room k p l q (inr (inl (e, f, h))) (inl c) = absurd (cut-above h c)
+unread-once s room k p l q (inr (inl (e, f, h))) (inr (inl (e′, f′, h′))) = (e ∙ sym e′, f ∙ sym f′)
+unread-once s room k p l q (inr (inl (e, f, h))) (inr (inr (inl (e′, o)))) = absurd (above-table (o .ws) (o .whole) (o .row) h)
+unread-once s room k p l q (inr (inl (e, f, h))) (inr (inr (inr (e′, f′, t)))) = absurd (above-table (t .table) (t .file .whole) (file-is-row (t .file)) h)
+unread-once s room k p l q (inr (inr (inl (e, o)))) (inl c) = absurd (cut-table (o .ws) (o .whole) (o .row) c)
+unread-once s room k p l q (inr (inr (inl (e, o)))) (inr (inl (e′, f′, h))) = absurd (above-table (o .ws) (o .whole) (o .row) h)
+unread-once s room k p l q (inr (inr (inl (e, o)))) (inr (inr (inl (e′, o′)))) = (e ∙ sym e′, same-table (o .ws) (o′ .ws) (o .whole) (o′ .whole) (o .row) (o′ .row) .1)
+unread-once s room k p l q (inr (inr (inl (e, o)))) (inr (inr (inr (e′, f′, t)))) = absurd (over-file o (t .file))
+unread-once s room k p l q (inr (inr (inr (e, f, t)))) (inl c) = absurd (cut-table (t .table) (t .file .whole) (file-is-row (t .file)) c)
+unread-once s room k p l q (inr (inr (inr (e, f, t)))) (inr (inl (e′, f′, h))) = absurd (above-table (t .table) (t .file .whole) (file-is-row (t .file)) h)
+unread-once s room k p l q (inr (inr (inr (e, f, t)))) (inr (inr (inl (e′, o)))) = absurd (over-file o (t .file))
+unread-once s room k p l q (inr (inr (inr (e, f, t)))) (inr (inr (inr (e′, f′, t′)))) = (e ∙ sym e′, f ∙ sym f′)
+
+-- A file of a table that has room is not refused.
+file-read : (s t : List ℕ) (room k p : ℕ) → IsFile Sized s t → length t ≤ room → PlanUnread s room k p → ⊥
+file-read s t room k p f h (inl c) = cut-table t (f .whole) (file-is-row f) c
+file-read s t room k p f h (inr (inl (e, g, a))) = above-table t (f .whole) (file-is-row f) a
+file-read s t room k p f h (inr (inr (inl (e, o)))) = over-file o f
+file-read s t room k p f h (inr (inr (inr (e, g, u)))) =
+    let q = same-table t (u .table) (f .whole) (u .file .whole) (file-is-row f) (file-is-row (u .file)) .0 in
+    omega (arith, ap length q, u .long)
+
+pub plan-read-one-answer : PlanReadOneAnswer
+plan-read-one-answer s b b′ b″ (given n) (given m) (t, f, l) (u, g, k) =
+    let q = same-table t u (f .whole) (g .whole) (file-is-row f) (file-is-row g) .0 in
+    laid-once l (rw (← q) at k)
+plan-read-one-answer s b b′ b″ (given n) (refused k p) (t, f, l) (u, g) = absurd (file-read s t _ k p f (omega (arith, l .count, l .room)) u)
+plan-read-one-answer s b b′ b″ (refused k p) (given n) (u, g) (t, f, l) = absurd (file-read s t _ k p f (omega (arith, l .count, l .room)) u)
+plan-read-one-answer s b b′ b″ (refused k p) (refused l q) (u, g) (v, h) =
+    let e = unread-once s _ k p l q u v in
+    let e0 = e .0 in
+    let e1 = e .1 in
+    (cc, g ∙ sym h)
+
+unwritten-once : (t : List ℕ) (room k l : ℕ) → PlanUnwritten t room k → PlanUnwritten t room l → k ≡ l
+unwritten-once t room k l (inl f) (inl g) = fault-once t k l f g
+unwritten-once t room k l (inl f) (inr (e, z, h)) = absurd (sized-no-fault t k z f)
+unwritten-once t room k l (inr (e, z, h)) (inl f) = absurd (sized-no-fault t l z f)
+unwritten-once t room k l (inr (e, z, h)) (inr (e′, z′, h′)) = e ∙ sym e′
+
+table-written : (t b b′ : List ℕ) (n k : ℕ) → Sized t → Laid b 0 (fileOf t) n b′ → PlanUnwritten t (length b) k → ⊥
+table-written t b b′ n k z l (inl f) = sized-no-fault t k z f
+table-written t b b′ n k z l (inr (e, y, h)) = omega (arith, l .count, l .room)
+
+pub plan-written-one-answer : PlanWrittenOneAnswer
+plan-written-one-answer t b b′ b″ (given n) (given m) (z, l) (y, k) = laid-once l k
+plan-written-one-answer t b b′ b″ (given n) (refused k p) (z, l) (u, e, g) = absurd (table-written t b b′ n k z l u)
+plan-written-one-answer t b b′ b″ (refused k p) (given n) (u, e, g) (z, l) = absurd (table-written t b b″ n k z l u)
+plan-written-one-answer t b b′ b″ (refused k p) (refused l q) (u, e, g) (v, f, h) =
+    let i = unwritten-once t _ k l u v in
+    (cc, g ∙ sym h)
+
+-- No number of a whole cursor is due, and behind its file nothing is left over.
+cut-cursor : {s : List ℕ} {k p next : ℕ} (ws : List ℕ) → CursorWhole ws → Row s 0 ws next → Cut CursorDue s k p → ⊥
+cut-cursor ws w r c = let i = cut-behind c ws r in omega (arith, ap length (i .1), length-append ws (i .0), c .due)
+
+over-cursor : {s : List ℕ} {p : ℕ} {ws : List ℕ} → Over CursorWhole s p → IsFile CursorWhole s ws → ⊥
+over-cursor {ws = ws} o f =
+    let e = row-same (o .ws) ws (o .row) (file-is-row f) (o .whole ∙ sym (f .whole)) .1 in
+    omega (arith, o .left-over)
+
+cursor-read : {s : List ℕ} {k p : ℕ} (c : Cursor) → IsFile CursorWhole s (cursorWords c) → CursorTaken s (refused k p) → ⊥
+cursor-read c f (inl d) = cut-cursor (cursorWords c) (f .whole) (file-is-row f) d
+cursor-read c f (inr (e, o)) = over-cursor o f
+
+-- A cursor is its three words.
+same-cursor : (c d : Cursor) → cursorWords c ≡ cursorWords d → c ≡ d
+same-cursor c d e =
+    let r : c .revision ≡ d .revision = cc in
+    let l : c .leg ≡ d .leg = cc in
+    let p : c .place ≡ d .place = cc in
+    λ i. record { revision = r i; leg = l i; place = p i }
+
+pub cursor-read-one-answer : CursorReadOneAnswer
+cursor-read-one-answer s (given c) (given d) f g =
+    ap given (same-cursor c d (row-same (cursorWords c) (cursorWords d) (file-is-row f) (file-is-row g) refl .0))
+cursor-read-one-answer s (given c) (refused k p) f r = absurd (cursor-read c f r)
+cursor-read-one-answer s (refused k p) (given c) r f = absurd (cursor-read c f r)
+cursor-read-one-answer s (refused k p) (refused l q) (inl c) (inl d) = let e = cut-once c d in let e0 = e .0 in let e1 = e .1 in cc
+cursor-read-one-answer s (refused k p) (refused l q) (inl c) (inr (e, o)) = absurd (cut-cursor (o .ws) (o .whole) (o .row) c)
+cursor-read-one-answer s (refused k p) (refused l q) (inr (e, o)) (inl c) = absurd (cut-cursor (o .ws) (o .whole) (o .row) c)
+cursor-read-one-answer s (refused k p) (refused l q) (inr (e, o)) (inr (f, u)) =
+    let i = row-same (o .ws) (u .ws) (o .row) (u .row) (o .whole ∙ sym (u .whole)) .1 in
+    cc
+
+pub cursor-written-one-answer : CursorWrittenOneAnswer
+cursor-written-one-answer c b b′ b″ (given n) (given m) l k = laid-once l k
+cursor-written-one-answer c b b′ b″ (given n) (refused k p) l t = absurd (laid-fits l t)
+cursor-written-one-answer c b b′ b″ (refused k p) (given n) t l = absurd (laid-fits l t)
+cursor-written-one-answer c b b′ b″ (refused k p) (refused l q) t u = too-small-once t u

@@ -1,0 +1,101 @@
+// Plan files and saved cursors, as bytes: the calls that read and write them. The layers above see what these promise and nothing else.
+ghost use mathlib.Core.Path.{_≡_};
+ghost use Rattle.files.specs.Plan.{readPlan, PlanTaken, PlanGiven};
+ghost use Rattle.files.specs.Cursors.{readCursor, CursorTaken, CursorGiven};
+ghost use Rattle.numbers.specs.Calls.{wrote};
+use numbers::Written;
+
+mod look;
+
+pub const LEFT_OVER: u32 = 14;
+
+pub const CURSOR_NUMBERS: usize = 3;
+
+// A plan file read: how many words its table has, or a refusal's number and position.
+pub enum PlanRead {
+    Words(usize),
+    Refused(u32, usize),
+}
+
+// Where a check stands: the table's revision, and the place of a leg.
+pub struct Cursor {
+    pub revision: u32,
+    pub leg: u32,
+    pub place: u32,
+}
+
+// A saved cursor read: the cursor, or a refusal's number and position.
+pub enum CursorRead {
+    Saved(Cursor),
+    Refused(u32, usize),
+}
+
+// Reads a plan file into lent words: the table lies in the first of them, and the answer says how many. Refused 12, 13, 2, 14 or 15.
+pub fn read_plan(bytes: &[u8], words: &mut [u32]) -> PlanRead
+    ensures { λ r. ⌜ PlanTaken (now (bytes .entry)) (now (words .entry)) (readPlan r) (now (words .exit)) ⌝ }
+{
+    let told = look::plan_size(bytes);
+    match told {
+        PlanRead::Refused(number, at) => PlanRead::Refused(number, at),
+        PlanRead::Words(size) => {
+            if words.len() < size {
+                return PlanRead::Refused(numbers::NO_ROOM, 0);
+            }
+            numbers::series::fill(bytes, 0, size, words);
+            PlanRead::Words(size)
+        }
+    }
+}
+
+// Writes a table as a plan file to lent bytes: the file lies in the first of them, and the answer says how many. Refused 1, 2, 3 or 15.
+pub fn write_plan(table: &[u32], bytes: &mut [u8]) -> Written
+    ensures { λ r. ⌜ PlanGiven (now (table .entry)) (now (bytes .entry)) (wrote r) (now (bytes .exit)) ⌝ }
+{
+    let judged = table::judged_size(table);
+    match judged {
+        table::Size::Wrong(number) => Written::Refused(number, 0),
+        table::Size::Right => {
+            let size = numbers::series::file_size(table);
+            if bytes.len() < size {
+                return Written::Refused(numbers::NO_ROOM, 0);
+            }
+            numbers::series::put_file(table, bytes);
+            Written::Bytes(size)
+        }
+    }
+}
+
+// Reads a saved cursor. Refused 12, 13 or 14.
+pub fn read_cursor(bytes: &[u8]) -> CursorRead
+    ensures { λ r. ⌜ CursorTaken (now (bytes .entry)) (readCursor r) ⌝ }
+{
+    let seen = numbers::series::look_through(bytes, 0, CURSOR_NUMBERS);
+    match seen {
+        numbers::series::Scan::Stop(number, at) => CursorRead::Refused(number, at),
+        numbers::series::Scan::End(next) => {
+            if next < bytes.len() {
+                return CursorRead::Refused(LEFT_OVER, next);
+            }
+            let mut words = [0u32; 3];
+            numbers::series::fill(bytes, 0, CURSOR_NUMBERS, &mut words);
+            CursorRead::Saved(Cursor {
+                revision: words[0],
+                leg: words[1],
+                place: words[2],
+            })
+        }
+    }
+}
+
+// Writes a cursor to lent bytes: it lies in the first of them, and the answer says how many. Refused 15.
+pub fn write_cursor(cursor: Cursor, bytes: &mut [u8]) -> Written
+    ensures { λ r. ⌜ CursorGiven cursor (now (bytes .entry)) (wrote r) (now (bytes .exit)) ⌝ }
+{
+    let words = [cursor.revision, cursor.leg, cursor.place];
+    let size = numbers::series::file_size(&words);
+    if bytes.len() < size {
+        return Written::Refused(numbers::NO_ROOM, 0);
+    }
+    numbers::series::put_file(&words, bytes);
+    Written::Bytes(size)
+}

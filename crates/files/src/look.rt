@@ -1,0 +1,44 @@
+// A plan file looked through before anything is written: the header, its limits, the records, and that nothing is left over.
+ghost use Rattle.numbers.specs.Steps.{Numbers};
+ghost use Rattle.table.specs.Layout.{headWords};
+ghost use Rattle.files.specs.Steps.{PlanTold};
+use crate::PlanRead;
+use numbers::series::Scan;
+use table::Limits;
+
+// How many words the table of a plan file has, or the refusal of the file: 12, 13, 2 or 14.
+pub fn plan_size(bytes: &[u8]) -> PlanRead
+    ensures { λ r. ⌜ PlanTold (now (bytes .entry)) r ⌝ }
+{
+    let seen = numbers::series::look_through(bytes, 0, table::HEAD_WORDS);
+    match seen {
+        Scan::Stop(number, at) => PlanRead::Refused(number, at),
+        Scan::End(next) => behind_header(bytes, next),
+    }
+}
+
+// The same behind a header that stands from the start up to next.
+fn behind_header(bytes: &[u8], next: usize) -> PlanRead
+    requires { ⌜ Numbers (now bytes) 0 headWords next ⌝ }
+    ensures { λ r. ⌜ PlanTold (now (bytes .entry)) r ⌝ }
+{
+    let mut head = [0u32; 5];
+    numbers::series::fill(bytes, 0, table::HEAD_WORDS, &mut head);
+    let told = table::header_words(&head);
+    match told {
+        Limits::Above => PlanRead::Refused(table::ABOVE_LIMIT, 0),
+        Limits::Within(size) => {
+            let seen = numbers::series::look_through(bytes, next, size - table::HEAD_WORDS);
+            match seen {
+                Scan::Stop(number, at) => PlanRead::Refused(number, at),
+                Scan::End(end) => {
+                    if end < bytes.len() {
+                        PlanRead::Refused(crate::LEFT_OVER, end)
+                    } else {
+                        PlanRead::Words(size)
+                    }
+                }
+            }
+        }
+    }
+}

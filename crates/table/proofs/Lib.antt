@@ -1,0 +1,3 @@
+pub mod PartLaws
+pub mod Sizes
+pub mod Headers
