@@ -1,0 +1,24 @@
+// Reads a plan file from standard input and prints its words, a record to a line, or the refusal's number and position.
+use files::PlanRead;
+
+// The bytes of the largest file and one more, so that a byte left over is seen.
+const MAX_INPUT: usize = 48666;
+
+fn answer(bytes: &[u8]) {
+    let mut words = [0u32; 9733];
+    let read = files::read_plan(bytes, &mut words);
+    match read {
+        PlanRead::Refused(number, at) => {
+            show::refused(number, at);
+        }
+        PlanRead::Words(n) => {
+            show::first_words(&words, n);
+        }
+    }
+}
+
+fn main() {
+    let mut bytes = [0u8; MAX_INPUT];
+    let n = io::read_full(libc::STDIN_FILENO, &mut bytes);
+    answer(&bytes[..n]);
+}
