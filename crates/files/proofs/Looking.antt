@@ -15,10 +15,8 @@ use Rattle.numbers.proofs.Overlay.{overlaid-all}
 use Rattle.table.specs.Layout.{headWords, tableWords, InLimits, Sized}
 use Rattle.table.proofs.Headers.{SameHeader, header-in-front, limits-same, words-same}
 use Rattle.files.specs.Reading.{IsFile, Cut, Over}
-use Rattle.files.specs.Plan.{PlanDue, PlanUnread}
-use Rattle.files.specs.Cursors.{cursorNumbers, CursorWhole}
-use Rattle.files.specs.Steps.{PlanTold}
-use Rattle.files.specs.declared.PlanRead.the-variants as plan
+use Rattle.files.specs.Plan.{PlanDue}
+use Rattle.files.specs.Cursors.{cursorNumbers, CursorComplete}
 
 module _ {s : List ℕ} {next : ℕ} (h : List ℕ) (head : Row s 0 h next) (five : length h ≡ headWords) (limits : InLimits h) where
   front : (r : List ℕ) → SameHeader h (h ++ r)
@@ -38,10 +36,10 @@ module _ {s : List ℕ} {next : ℕ} (h : List ℕ) (head : Row s 0 h next) (fiv
     pub table-file : length r ≡ tableWords h - headWords → length s ≤ p → IsFile Sized s (h ++ r)
     table-file e z =
         let t = row-append h r head row in
-        record { whole = table-whole e; words = t .words; bytes = row-whole (h ++ r) t z }
+        record { complete = table-whole e; words = t .words; bytes = row-whole (h ++ r) t z }
 
     pub table-over : length r ≡ tableWords h - headWords → p < length s → Over Sized s p
-    table-over e z = record { ws = h ++ r; row = row-append h r head row; whole = table-whole e; left-over = z }
+    table-over e z = record { ws = h ++ r; row = row-append h r head row; complete = table-whole e; left-over = z }
 
     -- A record is cut short: another number is due.
     pub table-cut : (k : ℕ) → length r < tableWords h - headWords → NoNumber s p k → Cut PlanDue s k p
@@ -51,16 +49,16 @@ module _ {s : List ℕ} {next : ℕ} (h : List ℕ) (head : Row s 0 h next) (fiv
         record {
           ws = h ++ r;
           row = row-append h r head row;
-          due = inr (omega arith, limits-same (front r) limits, omega arith);
+          due = inr (limits-same (front r) limits, omega arith);
           no-number = n;
         }
 
 -- The words of a file stand in it.
-pub all-numbers : {Whole : List ℕ → Type 0} {s : List ℕ} {n : ℕ} (t : List ℕ) → IsFile Whole s t → n ≡ length t → AllNumbers s 0 n
+pub all-numbers : {Complete : List ℕ → Type 0} {s : List ℕ} {n : ℕ} (t : List ℕ) → IsFile Complete s t → n ≡ length t → AllNumbers s 0 n
 all-numbers t f e = (length (fileOf t), record { ws = t; count = sym e; row = rw (f .bytes) (file-row t (f .words)) })
 
 -- What was filled from the file of a table is that table.
-pub filled-table : {Whole : List ℕ → Type 0} {s b b′ : List ℕ} {n : ℕ} (t : List ℕ) → IsFile Whole s t → n ≡ length t → n ≤ length b → Filled s 0 n b b′ → Laid b 0 t n b′
+pub filled-table : {Complete : List ℕ → Type 0} {s b b′ : List ℕ} {n : ℕ} (t : List ℕ) → IsFile Complete s t → n ≡ length t → n ≤ length b → Filled s 0 n b b′ → Laid b 0 t n b′
 filled-table {s = s} {b = b} t f e h l =
     let r : Row s 0 t (length (fileOf t)) = rw (f .bytes) (file-row t (f .words)) in
     record { count = e; room = omega arith; after = l .after ∙ ap (overlaid b 0) (row-same (l .ws) t (l .row) r (l .count ∙ e) .0) }
@@ -82,11 +80,5 @@ three-words (a ∷ b ∷ c ∷ []) h = refl
 three-words (a ∷ b ∷ c ∷ d ∷ ws) h = absurd (omega arith)
 
 pub three-file : (s ws : List ℕ) → (length ws ≡ cursorNumbers) × Words ws × (s ≡ fileOf ws)
-    → IsFile CursorWhole s (getD ws 0 0 ∷ getD ws 1 0 ∷ getD ws 2 0 ∷ [])
-three-file s ws (n, w, b) = subst (IsFile CursorWhole s) (sym (three-words ws n)) (record { whole = n; words = w; bytes = b })
-
--- A file that is refused when it is looked through is refused when it is read.
-pub unread : {s : List ℕ} {k p : ℕ} (room : ℕ) → PlanTold s (plan.Refused k p) → PlanUnread s room k p
-unread room (inl c) = inl c
-unread room (inr (inl h)) = inr (inl h)
-unread room (inr (inr o)) = inr (inr (inl o))
+    → IsFile CursorComplete s (getD ws 0 0 ∷ getD ws 1 0 ∷ getD ws 2 0 ∷ [])
+three-file s ws (n, w, b) = subst (IsFile CursorComplete s) (sym (three-words ws n)) (record { complete = n; words = w; bytes = b })

@@ -7,7 +7,6 @@ use mathlib.Core.List.{List, [], _∷_, _++_, append-nil}
 use mathlib.Core.Logic.{_⊎_, inl, inr, ⊎-elim}
 use lib.ListN.{length, length-append}
 use native.Mathlib.Omega.{arith}
-use Rattle.numbers.specs.Outcome.{Outcome, given, refused}
 use Rattle.numbers.specs.Number.{NoNumber}
 use Rattle.numbers.specs.Series.{fileOf, Row, Laid}
 use Rattle.numbers.proofs.Groups.{lt-or-ge}
@@ -18,13 +17,17 @@ use Rattle.table.specs.Layout.{headWords, tableWords, InLimits, Sized}
 use Rattle.table.proofs.Headers.{SameHeader, header-in-front, limits-same, words-same, same-header-back}
 use Rattle.table.proofs.Sizes.{sized-no-fault, fault-once}
 use Rattle.files.specs.Reading.{leftOver, IsFile, Cut, Over}
-use Rattle.files.specs.Plan.{PlanDue, HeaderAbove, TableTooLong, PlanUnread, PlanTaken, PlanUnwritten, PlanGiven}
-use Rattle.files.specs.Cursors.{cursorWords, CursorDue, CursorWhole, CursorTaken, CursorGiven}
-use Rattle.files.specs.Theorems.{PlanReadOneAnswer, PlanWrittenOneAnswer, CursorReadOneAnswer, CursorWrittenOneAnswer}
+use Rattle.files.specs.Plan.{PlanDue, HeaderAbove, TableTooLong, PlanFault, PlanUnread, ReadsPlan, PlanUnwritten, WritesPlan}
+use Rattle.files.specs.Cursors.{cursorWords, CursorDue, CursorComplete, ReadsCursor, WritesCursor}
+use Rattle.files.specs.Theorems.{ReadPlanOneAnswer, WritePlanOneAnswer, ReadCursorOneAnswer, WriteCursorOneAnswer}
+use Rattle.numbers.specs.declared.Written.the-variants as written
+use Rattle.files.specs.declared.PlanRead.the-variants as plan
 use Rattle.files.specs.declared.Cursor.{Cursor}
+use Rattle.files.specs.declared.CursorRead.the-variants as read
+use Rattle.files.specs.declared.CursorWritten.the-variants as saved
 
 -- A file is a row of its words.
-pub file-is-row : {Whole : List ℕ → Type 0} {s ws : List ℕ} → IsFile Whole s ws → Row s 0 ws (length s)
+pub file-is-row : {Complete : List ℕ → Type 0} {s ws : List ℕ} → IsFile Complete s ws → Row s 0 ws (length s)
 file-is-row {s = s} {ws = ws} f = rw (f .bytes) (file-row ws (f .words))
 
 -- Two numbers that are cut short are one, with one refusal.
@@ -44,12 +47,12 @@ cut-behind {k = k} c ws r =
 -- No number of a whole table is due.
 sized-not-due : (t us : List ℕ) → Sized t → PlanDue (t ++ us) → ⊥
 sized-not-due t us z (inl h) = omega (arith, length-append t us, z .head)
-sized-not-due t us z (inr (h, l, d)) = omega (arith, length-append t us, words-same (header-in-front t us (z .head)), z .exact)
+sized-not-due t us z (inr (l, d)) = omega (arith, length-append t us, words-same (header-in-front t us (z .head)), z .exact)
 
 -- A header that passes a limit is the end of the file.
 above-not-due : (h us : List ℕ) → length h ≡ headWords → (InLimits h → ⊥) → PlanDue (h ++ us) → ⊥
 above-not-due h us f a (inl e) = omega (arith, length-append h us)
-above-not-due h us f a (inr (e, l, d)) = a (limits-same (same-header-back (header-in-front h us (omega arith))) l)
+above-not-due h us f a (inr (l, d)) = a (limits-same (same-header-back (header-in-front h us (omega arith))) l)
 
 cut-table : {s : List ℕ} {k p next : ℕ} (t : List ℕ) → Sized t → Row s 0 t next → Cut PlanDue s k p → ⊥
 cut-table t z r c = let i = cut-behind c t r in sized-not-due t (i .0) z (rw (i .1) at (c .due))
@@ -81,78 +84,82 @@ same-table t u z y r q =
 -- Behind the file of a table nothing is left over.
 over-file : {s : List ℕ} {p : ℕ} {t : List ℕ} → Over Sized s p → IsFile Sized s t → ⊥
 over-file {t = t} o f =
-    let e = same-table (o .ws) t (o .whole) (f .whole) (o .row) (file-is-row f) .1 in
+    let e = same-table (o .ws) t (o .complete) (f .complete) (o .row) (file-is-row f) .1 in
     omega (arith, o .left-over)
 
--- What reading told of a plan file, with one answer for each table, header or cut.
-unread-once : (s : List ℕ) (room k p l q : ℕ) → PlanUnread s room k p → PlanUnread s room l q → (k ≡ l) × (p ≡ q)
-unread-once s room k p l q (inl c) (inl d) = cut-once c d
-unread-once s room k p l q (inl c) (inr (inl (e, f, h))) = absurd (cut-above h c)
-unread-once s room k p l q (inl c) (inr (inr (inl (e, o)))) = absurd (cut-table (o .ws) (o .whole) (o .row) c)
-unread-once s room k p l q (inl c) (inr (inr (inr (e, f, t)))) = absurd (cut-table (t .table) (t .file .whole) (file-is-row (t .file)) c)
-unread-once s room k p l q (inr (inl (e, f, h))) (inl c) = absurd (cut-above h c)
-unread-once s room k p l q (inr (inl (e, f, h))) (inr (inl (e′, f′, h′))) = (e ∙ sym e′, f ∙ sym f′)
-unread-once s room k p l q (inr (inl (e, f, h))) (inr (inr (inl (e′, o)))) = absurd (above-table (o .ws) (o .whole) (o .row) h)
-unread-once s room k p l q (inr (inl (e, f, h))) (inr (inr (inr (e′, f′, t)))) = absurd (above-table (t .table) (t .file .whole) (file-is-row (t .file)) h)
-unread-once s room k p l q (inr (inr (inl (e, o)))) (inl c) = absurd (cut-table (o .ws) (o .whole) (o .row) c)
-unread-once s room k p l q (inr (inr (inl (e, o)))) (inr (inl (e′, f′, h))) = absurd (above-table (o .ws) (o .whole) (o .row) h)
-unread-once s room k p l q (inr (inr (inl (e, o)))) (inr (inr (inl (e′, o′)))) = (e ∙ sym e′, same-table (o .ws) (o′ .ws) (o .whole) (o′ .whole) (o .row) (o′ .row) .1)
-unread-once s room k p l q (inr (inr (inl (e, o)))) (inr (inr (inr (e′, f′, t)))) = absurd (over-file o (t .file))
-unread-once s room k p l q (inr (inr (inr (e, f, t)))) (inl c) = absurd (cut-table (t .table) (t .file .whole) (file-is-row (t .file)) c)
-unread-once s room k p l q (inr (inr (inr (e, f, t)))) (inr (inl (e′, f′, h))) = absurd (above-table (t .table) (t .file .whole) (file-is-row (t .file)) h)
-unread-once s room k p l q (inr (inr (inr (e, f, t)))) (inr (inr (inl (e′, o)))) = absurd (over-file o (t .file))
-unread-once s room k p l q (inr (inr (inr (e, f, t)))) (inr (inr (inr (e′, f′, t′)))) = (e ∙ sym e′, f ∙ sym f′)
+-- What is wrong with a plan file is one thing, and nothing where it is the file of a table.
+fault-one : (s : List ℕ) (k p l q : ℕ) → PlanFault s k p → PlanFault s l q → (k ≡ l) × (p ≡ q)
+fault-one s k p l q (inl c) (inl d) = cut-once c d
+fault-one s k p l q (inl c) (inr (inl (e, f, h))) = absurd (cut-above h c)
+fault-one s k p l q (inl c) (inr (inr (e, o))) = absurd (cut-table (o .ws) (o .complete) (o .row) c)
+fault-one s k p l q (inr (inl (e, f, h))) (inl c) = absurd (cut-above h c)
+fault-one s k p l q (inr (inl (e, f, h))) (inr (inl (e′, f′, h′))) = (e ∙ sym e′, f ∙ sym f′)
+fault-one s k p l q (inr (inl (e, f, h))) (inr (inr (e′, o))) = absurd (above-table (o .ws) (o .complete) (o .row) h)
+fault-one s k p l q (inr (inr (e, o))) (inl c) = absurd (cut-table (o .ws) (o .complete) (o .row) c)
+fault-one s k p l q (inr (inr (e, o))) (inr (inl (e′, f′, h))) = absurd (above-table (o .ws) (o .complete) (o .row) h)
+fault-one s k p l q (inr (inr (e, o))) (inr (inr (e′, o′))) = (e ∙ sym e′, same-table (o .ws) (o′ .ws) (o .complete) (o′ .complete) (o .row) (o′ .row) .1)
+
+file-no-fault : {s t : List ℕ} {k p : ℕ} → IsFile Sized s t → PlanFault s k p → ⊥
+file-no-fault {t = t} f (inl c) = cut-table t (f .complete) (file-is-row f) c
+file-no-fault {t = t} f (inr (inl (e, g, h))) = above-table t (f .complete) (file-is-row f) h
+file-no-fault f (inr (inr (e, o))) = over-file o f
+
+same-file : {s t u : List ℕ} → IsFile Sized s t → IsFile Sized s u → t ≡ u
+same-file {t = t} {u = u} f g = same-table t u (f .complete) (g .complete) (file-is-row f) (file-is-row g) .0
+
+unread-one : (s : List ℕ) (room k p l q : ℕ) → PlanUnread s room k p → PlanUnread s room l q → (k ≡ l) × (p ≡ q)
+unread-one s room k p l q (inl f) (inl g) = fault-one s k p l q f g
+unread-one s room k p l q (inl f) (inr (e, g, t)) = absurd (file-no-fault (t .file) f)
+unread-one s room k p l q (inr (e, g, t)) (inl f) = absurd (file-no-fault (t .file) f)
+unread-one s room k p l q (inr (e, g, t)) (inr (e′, g′, t′)) = (e ∙ sym e′, g ∙ sym g′)
 
 -- A file of a table that has room is not refused.
-file-read : (s t : List ℕ) (room k p : ℕ) → IsFile Sized s t → length t ≤ room → PlanUnread s room k p → ⊥
-file-read s t room k p f h (inl c) = cut-table t (f .whole) (file-is-row f) c
-file-read s t room k p f h (inr (inl (e, g, a))) = above-table t (f .whole) (file-is-row f) a
-file-read s t room k p f h (inr (inr (inl (e, o)))) = over-file o f
-file-read s t room k p f h (inr (inr (inr (e, g, u)))) =
-    let q = same-table t (u .table) (f .whole) (u .file .whole) (file-is-row f) (file-is-row (u .file)) .0 in
-    omega (arith, ap length q, u .long)
+file-read : {s t b b′ : List ℕ} {n k p : ℕ} → IsFile Sized s t → Laid b 0 t n b′ → PlanUnread s (length b) k p → ⊥
+file-read f l (inl g) = file-no-fault f g
+file-read f l (inr (e, g, u)) = omega (arith, ap length (same-file f (u .file)), u .long, l .count, l .room)
 
-pub plan-read-one-answer : PlanReadOneAnswer
-plan-read-one-answer s b b′ b″ (given n) (given m) (t, f, l) (u, g, k) =
-    let q = same-table t u (f .whole) (g .whole) (file-is-row f) (file-is-row g) .0 in
-    laid-once l (rw (← q) at k)
-plan-read-one-answer s b b′ b″ (given n) (refused k p) (t, f, l) (u, g) = absurd (file-read s t _ k p f (omega (arith, l .count, l .room)) u)
-plan-read-one-answer s b b′ b″ (refused k p) (given n) (u, g) (t, f, l) = absurd (file-read s t _ k p f (omega (arith, l .count, l .room)) u)
-plan-read-one-answer s b b′ b″ (refused k p) (refused l q) (u, g) (v, h) =
-    let e = unread-once s _ k p l q u v in
+pub read-plan-one-answer : ReadPlanOneAnswer
+read-plan-one-answer s b b′ b″ (plan.Words n) (plan.Words m) (t, f, l) (u, g, k) =
+    let e = laid-once l (rw (same-file g f) at k) in
+    let e0 = e .0 in
+    (cc, e .1)
+read-plan-one-answer s b b′ b″ (plan.Words n) (plan.Refused k p) (t, f, l) (u, g) = absurd (file-read f l u)
+read-plan-one-answer s b b′ b″ (plan.Refused k p) (plan.Words n) (u, g) (t, f, l) = absurd (file-read f l u)
+read-plan-one-answer s b b′ b″ (plan.Refused k p) (plan.Refused l q) (u, g) (v, h) =
+    let e = unread-one s _ k p l q u v in
     let e0 = e .0 in
     let e1 = e .1 in
     (cc, g ∙ sym h)
 
-unwritten-once : (t : List ℕ) (room k l : ℕ) → PlanUnwritten t room k → PlanUnwritten t room l → k ≡ l
-unwritten-once t room k l (inl f) (inl g) = fault-once t k l f g
-unwritten-once t room k l (inl f) (inr (e, z, h)) = absurd (sized-no-fault t k z f)
-unwritten-once t room k l (inr (e, z, h)) (inl f) = absurd (sized-no-fault t l z f)
-unwritten-once t room k l (inr (e, z, h)) (inr (e′, z′, h′)) = e ∙ sym e′
+unwritten-one : (t : List ℕ) (room k l : ℕ) → PlanUnwritten t room k → PlanUnwritten t room l → k ≡ l
+unwritten-one t room k l (inl f) (inl g) = fault-once t k l f g
+unwritten-one t room k l (inl f) (inr (e, z, h)) = absurd (sized-no-fault t k z f)
+unwritten-one t room k l (inr (e, z, h)) (inl f) = absurd (sized-no-fault t l z f)
+unwritten-one t room k l (inr (e, z, h)) (inr (e′, z′, h′)) = e ∙ sym e′
 
 table-written : (t b b′ : List ℕ) (n k : ℕ) → Sized t → Laid b 0 (fileOf t) n b′ → PlanUnwritten t (length b) k → ⊥
 table-written t b b′ n k z l (inl f) = sized-no-fault t k z f
 table-written t b b′ n k z l (inr (e, y, h)) = omega (arith, l .count, l .room)
 
-pub plan-written-one-answer : PlanWrittenOneAnswer
-plan-written-one-answer t b b′ b″ (given n) (given m) (z, l) (y, k) = laid-once l k
-plan-written-one-answer t b b′ b″ (given n) (refused k p) (z, l) (u, e, g) = absurd (table-written t b b′ n k z l u)
-plan-written-one-answer t b b′ b″ (refused k p) (given n) (u, e, g) (z, l) = absurd (table-written t b b″ n k z l u)
-plan-written-one-answer t b b′ b″ (refused k p) (refused l q) (u, e, g) (v, f, h) =
-    let i = unwritten-once t _ k l u v in
+pub write-plan-one-answer : WritePlanOneAnswer
+write-plan-one-answer t b b′ b″ (written.Bytes n) (written.Bytes m) (z, l) (y, k) = let e = laid-once l k in let e0 = e .0 in (cc, e .1)
+write-plan-one-answer t b b′ b″ (written.Bytes n) (written.Refused k p) (z, l) (u, e, g) = absurd (table-written t b b′ n k z l u)
+write-plan-one-answer t b b′ b″ (written.Refused k p) (written.Bytes n) (u, e, g) (z, l) = absurd (table-written t b b″ n k z l u)
+write-plan-one-answer t b b′ b″ (written.Refused k p) (written.Refused l q) (u, e, g) (v, f, h) =
+    let i = unwritten-one t _ k l u v in
     (cc, g ∙ sym h)
 
 -- No number of a whole cursor is due, and behind its file nothing is left over.
-cut-cursor : {s : List ℕ} {k p next : ℕ} (ws : List ℕ) → CursorWhole ws → Row s 0 ws next → Cut CursorDue s k p → ⊥
+cut-cursor : {s : List ℕ} {k p next : ℕ} (ws : List ℕ) → CursorComplete ws → Row s 0 ws next → Cut CursorDue s k p → ⊥
 cut-cursor ws w r c = let i = cut-behind c ws r in omega (arith, ap length (i .1), length-append ws (i .0), c .due)
 
-over-cursor : {s : List ℕ} {p : ℕ} {ws : List ℕ} → Over CursorWhole s p → IsFile CursorWhole s ws → ⊥
+over-cursor : {s : List ℕ} {p : ℕ} {ws : List ℕ} → Over CursorComplete s p → IsFile CursorComplete s ws → ⊥
 over-cursor {ws = ws} o f =
-    let e = row-same (o .ws) ws (o .row) (file-is-row f) (o .whole ∙ sym (f .whole)) .1 in
+    let e = row-same (o .ws) ws (o .row) (file-is-row f) (o .complete ∙ sym (f .complete)) .1 in
     omega (arith, o .left-over)
 
-cursor-read : {s : List ℕ} {k p : ℕ} (c : Cursor) → IsFile CursorWhole s (cursorWords c) → CursorTaken s (refused k p) → ⊥
-cursor-read c f (inl d) = cut-cursor (cursorWords c) (f .whole) (file-is-row f) d
+cursor-read : {s : List ℕ} {k p : ℕ} (c : Cursor) → IsFile CursorComplete s (cursorWords c) → ReadsCursor s (read.Refused k p) → ⊥
+cursor-read c f (inl d) = cut-cursor (cursorWords c) (f .complete) (file-is-row f) d
 cursor-read c f (inr (e, o)) = over-cursor o f
 
 -- A cursor is its three words.
@@ -163,20 +170,28 @@ same-cursor c d e =
     let p : c .place ≡ d .place = cc in
     λ i. record { revision = r i; leg = l i; place = p i }
 
-pub cursor-read-one-answer : CursorReadOneAnswer
-cursor-read-one-answer s (given c) (given d) f g =
-    ap given (same-cursor c d (row-same (cursorWords c) (cursorWords d) (file-is-row f) (file-is-row g) refl .0))
-cursor-read-one-answer s (given c) (refused k p) f r = absurd (cursor-read c f r)
-cursor-read-one-answer s (refused k p) (given c) r f = absurd (cursor-read c f r)
-cursor-read-one-answer s (refused k p) (refused l q) (inl c) (inl d) = let e = cut-once c d in let e0 = e .0 in let e1 = e .1 in cc
-cursor-read-one-answer s (refused k p) (refused l q) (inl c) (inr (e, o)) = absurd (cut-cursor (o .ws) (o .whole) (o .row) c)
-cursor-read-one-answer s (refused k p) (refused l q) (inr (e, o)) (inl c) = absurd (cut-cursor (o .ws) (o .whole) (o .row) c)
-cursor-read-one-answer s (refused k p) (refused l q) (inr (e, o)) (inr (f, u)) =
-    let i = row-same (o .ws) (u .ws) (o .row) (u .row) (o .whole ∙ sym (u .whole)) .1 in
+pub read-cursor-one-answer : ReadCursorOneAnswer
+read-cursor-one-answer s (read.Saved c) (read.Saved d) f g =
+    ap read.Saved (same-cursor c d (row-same (cursorWords c) (cursorWords d) (file-is-row f) (file-is-row g) refl .0))
+read-cursor-one-answer s (read.Saved c) (read.Refused k p) f r = absurd (cursor-read c f r)
+read-cursor-one-answer s (read.Refused k p) (read.Saved c) r f = absurd (cursor-read c f r)
+read-cursor-one-answer s (read.Refused k p) (read.Refused l q) (inl c) (inl d) =
+    let e = cut-once c d in
+    let e0 = e .0 in
+    let e1 = e .1 in
+    cc
+read-cursor-one-answer s (read.Refused k p) (read.Refused l q) (inl c) (inr (e, o)) = absurd (cut-cursor (o .ws) (o .complete) (o .row) c)
+read-cursor-one-answer s (read.Refused k p) (read.Refused l q) (inr (e, o)) (inl c) = absurd (cut-cursor (o .ws) (o .complete) (o .row) c)
+read-cursor-one-answer s (read.Refused k p) (read.Refused l q) (inr (e, o)) (inr (f, u)) =
+    let i = row-same (o .ws) (u .ws) (o .row) (u .row) (o .complete ∙ sym (u .complete)) .1 in
     cc
 
-pub cursor-written-one-answer : CursorWrittenOneAnswer
-cursor-written-one-answer c b b′ b″ (given n) (given m) l k = laid-once l k
-cursor-written-one-answer c b b′ b″ (given n) (refused k p) l t = absurd (laid-fits l t)
-cursor-written-one-answer c b b′ b″ (refused k p) (given n) t l = absurd (laid-fits l t)
-cursor-written-one-answer c b b′ b″ (refused k p) (refused l q) t u = too-small-once t u
+pub write-cursor-one-answer : WriteCursorOneAnswer
+write-cursor-one-answer c b b′ b″ (saved.Bytes n) (saved.Bytes m) l k = let e = laid-once l k in let e0 = e .0 in (cc, e .1)
+write-cursor-one-answer c b b′ b″ (saved.Bytes n) (saved.Refused k p d) l (t, h) = absurd (laid-fits l t)
+write-cursor-one-answer c b b′ b″ (saved.Refused k p d) (saved.Bytes n) (t, h) l = absurd (laid-fits l t)
+write-cursor-one-answer c b b′ b″ (saved.Refused k p d) (saved.Refused l q d′) (t, h) (u, h′) =
+    let e = too-small-once t u in
+    let e0 = e .0 in
+    let e1 = e .1 in
+    (cc, e .2)

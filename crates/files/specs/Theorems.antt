@@ -1,61 +1,75 @@
 -- What is proved of plan files and saved cursors.
-use Prim.Native.Nat.{ℕ, _+_, _*_, _≤_}
+use Prim.Native.Nat.{ℕ, _*_, _≤_}
 use mathlib.Core.Path.{_≡_}
 use mathlib.Core.List.{List}
 use lib.ListN.{length, take}
-use Rattle.numbers.specs.Outcome.{Outcome, given}
-use Rattle.numbers.specs.Number.{maxOpen}
+use Rattle.numbers.specs.Number.{maxNumberBytes}
 use Rattle.numbers.specs.Series.{Words, fileOf, overlaid}
+use Rattle.numbers.specs.declared.Written.{Written}
+use Rattle.numbers.specs.declared.Written.the-variants as written
 use Rattle.table.specs.Layout.{maxTableWords, Sized}
-use Rattle.files.specs.Plan.{PlanTaken, PlanGiven}
-use Rattle.files.specs.Cursors.{cursorNumbers, cursorWords, CursorTaken, CursorGiven}
+use Rattle.files.specs.Plan.{ReadsPlan, WritesPlan}
+use Rattle.files.specs.Cursors.{cursorNumbers, cursorWords, cursorFile, ReadsCursor, WritesCursor}
+use Rattle.files.specs.declared.PlanRead.{PlanRead}
+use Rattle.files.specs.declared.PlanRead.the-variants as plan
 use Rattle.files.specs.declared.Cursor.{Cursor}
+use Rattle.files.specs.declared.CursorRead.{CursorRead}
+use Rattle.files.specs.declared.CursorRead.the-variants as cursor
+use Rattle.files.specs.declared.CursorWritten.{CursorWritten}
+use Rattle.files.specs.declared.CursorWritten.the-variants as saved
 
 -- Each call has one answer, and those that are lent memory to write leave one memory.
-abbrev pub PlanReadOneAnswer : Type 0
-PlanReadOneAnswer =
-    (s b b′ b″ : List ℕ) (o p : Outcome ℕ) → PlanTaken s b o b′ → PlanTaken s b p b″ → (o ≡ p) × (b′ ≡ b″)
+abbrev pub ReadPlanOneAnswer : Type 0
+ReadPlanOneAnswer =
+    (s b b′ b″ : List ℕ) (r r′ : PlanRead) → ReadsPlan s b r b′ → ReadsPlan s b r′ b″ → (r ≡ r′) × (b′ ≡ b″)
 
-abbrev pub PlanWrittenOneAnswer : Type 0
-PlanWrittenOneAnswer =
-    (t b b′ b″ : List ℕ) (o p : Outcome ℕ) → PlanGiven t b o b′ → PlanGiven t b p b″ → (o ≡ p) × (b′ ≡ b″)
+abbrev pub WritePlanOneAnswer : Type 0
+WritePlanOneAnswer =
+    (t b b′ b″ : List ℕ) (r r′ : Written) → WritesPlan t b r b′ → WritesPlan t b r′ b″ → (r ≡ r′) × (b′ ≡ b″)
 
-abbrev pub CursorReadOneAnswer : Type 0
-CursorReadOneAnswer = (s : List ℕ) (o p : Outcome Cursor) → CursorTaken s o → CursorTaken s p → o ≡ p
+abbrev pub ReadCursorOneAnswer : Type 0
+ReadCursorOneAnswer = (s : List ℕ) (r r′ : CursorRead) → ReadsCursor s r → ReadsCursor s r′ → r ≡ r′
 
-abbrev pub CursorWrittenOneAnswer : Type 0
-CursorWrittenOneAnswer =
-    (c : Cursor) (b b′ b″ : List ℕ) (o p : Outcome ℕ) → CursorGiven c b o b′ → CursorGiven c b p b″ → (o ≡ p) × (b′ ≡ b″)
+abbrev pub WriteCursorOneAnswer : Type 0
+WriteCursorOneAnswer =
+    (c : Cursor) (b b′ b″ : List ℕ) (r r′ : CursorWritten)
+    → WritesCursor c b r b′ → WritesCursor c b r′ b″ → (r ≡ r′) × (b′ ≡ b″)
 
 -- For every file that the reader takes, writing what it gave is that file: whoever lends room for it gets its bytes.
 abbrev pub FilesComeBack : Type 0
 FilesComeBack =
-    (s words words′ bytes bytes′ : List ℕ) (n : ℕ) (o : Outcome ℕ)
-    → PlanTaken s words (given n) words′ → PlanGiven (take n words′) bytes o bytes′
-    → length s ≤ length bytes → (o ≡ given (length s)) × (bytes′ ≡ overlaid bytes 0 s)
+    (s words words′ bytes bytes′ : List ℕ) (n : ℕ) (r : Written)
+    → ReadsPlan s words (plan.Words n) words′ → WritesPlan (take n words′) bytes r bytes′
+    → length s ≤ length bytes → (r ≡ written.Bytes (length s)) × (bytes′ ≡ overlaid bytes 0 s)
 
--- For every table of words that the writer takes, reading what it wrote is that table.
+-- For every table of words that the writer takes, reading what it wrote is that table: whoever lends room for it gets its words.
 abbrev pub TablesComeBack : Type 0
 TablesComeBack =
-    (t bytes bytes′ words words′ : List ℕ) (n : ℕ) (o : Outcome ℕ)
-    → Words t → PlanGiven t bytes (given n) bytes′ → PlanTaken (take n bytes′) words o words′
-    → length t ≤ length words → (o ≡ given (length t)) × (words′ ≡ overlaid words 0 t)
+    (t bytes bytes′ words words′ : List ℕ) (n : ℕ) (r : PlanRead)
+    → Words t → WritesPlan t bytes (written.Bytes n) bytes′ → ReadsPlan (take n bytes′) words r words′
+    → length t ≤ length words → (r ≡ plan.Words (length t)) × (words′ ≡ overlaid words 0 t)
 
--- A saved cursor is read back, and what is read is what was saved.
+-- A cursor that was written is read back, and a saved cursor that was read is written back.
 abbrev pub CursorsComeBack : Type 0
 CursorsComeBack =
-    (c : Cursor) (bytes bytes′ : List ℕ) (n : ℕ) (o : Outcome Cursor)
-    → Words (cursorWords c) → CursorGiven c bytes (given n) bytes′ → CursorTaken (take n bytes′) o → o ≡ given c
+    (c : Cursor) (bytes bytes′ : List ℕ) (n : ℕ) (r : CursorRead)
+    → Words (cursorWords c) → WritesCursor c bytes (saved.Bytes n) bytes′ → ReadsCursor (take n bytes′) r → r ≡ cursor.Saved c
+
+abbrev pub SavedCursorsComeBack : Type 0
+SavedCursorsComeBack =
+    (s bytes bytes′ : List ℕ) (c : Cursor) (r : CursorWritten)
+    → ReadsCursor s (cursor.Saved c) → WritesCursor c bytes r bytes′
+    → length s ≤ length bytes → (r ≡ saved.Bytes (length s)) × (bytes′ ≡ overlaid bytes 0 s)
 
 -- No file has more than 48,665 bytes, and no saved cursor more than 15.
 abbrev pub maxFileBytes : ℕ
-maxFileBytes = (maxOpen + 1) * maxTableWords
+maxFileBytes = maxNumberBytes * maxTableWords
 
 abbrev pub maxCursorBytes : ℕ
-maxCursorBytes = (maxOpen + 1) * cursorNumbers
+maxCursorBytes = maxNumberBytes * cursorNumbers
 
-abbrev pub FilesEnd : Type 0
-FilesEnd = (maxFileBytes ≡ 48665) × ((t : List ℕ) → Sized t → Words t → length (fileOf t) ≤ maxFileBytes)
+abbrev pub FileBytesAtMost : Type 0
+FileBytesAtMost = (maxFileBytes ≡ 48665) × ((t : List ℕ) → Sized t → Words t → length (fileOf t) ≤ maxFileBytes)
 
-abbrev pub CursorsEnd : Type 0
-CursorsEnd = (maxCursorBytes ≡ 15) × ((c : Cursor) → Words (cursorWords c) → length (fileOf (cursorWords c)) ≤ maxCursorBytes)
+abbrev pub CursorBytesAtMost : Type 0
+CursorBytesAtMost = (maxCursorBytes ≡ 15) × ((c : Cursor) → Words (cursorWords c) → length (cursorFile c) ≤ maxCursorBytes)

@@ -1,8 +1,7 @@
 // Plan files and saved cursors, as bytes: the calls that read and write them. The layers above see what these promise and nothing else.
 ghost use mathlib.Core.Path.{_≡_};
-ghost use Rattle.files.specs.Plan.{readPlan, PlanTaken, PlanGiven};
-ghost use Rattle.files.specs.Cursors.{readCursor, CursorTaken, CursorGiven};
-ghost use Rattle.numbers.specs.Calls.{wrote};
+ghost use Rattle.files.specs.Plan.{ReadsPlan, WritesPlan};
+ghost use Rattle.files.specs.Cursors.{ReadsCursor, WritesCursor};
 use numbers::Written;
 
 mod look;
@@ -10,6 +9,9 @@ mod look;
 pub const LEFT_OVER: u32 = 14;
 
 pub const CURSOR_NUMBERS: usize = 3;
+
+// The most bytes that a plan file has: five for each word.
+pub const MAX_FILE_BYTES: usize = 5 * table::MAX_TABLE_WORDS;
 
 // A plan file read: how many words its table has, or a refusal's number and position.
 pub enum PlanRead {
@@ -30,9 +32,15 @@ pub enum CursorRead {
     Refused(u32, usize),
 }
 
+// A cursor written: how many bytes, or a refusal's number and position, and the cursor as it was given.
+pub enum CursorWritten {
+    Bytes(usize),
+    Refused(u32, usize, Cursor),
+}
+
 // Reads a plan file into lent words: the table lies in the first of them, and the answer says how many. Refused 12, 13, 2, 14 or 15.
 pub fn read_plan(bytes: &[u8], words: &mut [u32]) -> PlanRead
-    ensures { λ r. ⌜ PlanTaken (now (bytes .entry)) (now (words .entry)) (readPlan r) (now (words .exit)) ⌝ }
+    ensures { λ r. ⌜ ReadsPlan (now (bytes .entry)) (now (words .entry)) r (now (words .exit)) ⌝ }
 {
     let told = look::plan_size(bytes);
     match told {
@@ -49,7 +57,7 @@ pub fn read_plan(bytes: &[u8], words: &mut [u32]) -> PlanRead
 
 // Writes a table as a plan file to lent bytes: the file lies in the first of them, and the answer says how many. Refused 1, 2, 3 or 15.
 pub fn write_plan(table: &[u32], bytes: &mut [u8]) -> Written
-    ensures { λ r. ⌜ PlanGiven (now (table .entry)) (now (bytes .entry)) (wrote r) (now (bytes .exit)) ⌝ }
+    ensures { λ r. ⌜ WritesPlan (now (table .entry)) (now (bytes .entry)) r (now (bytes .exit)) ⌝ }
 {
     let judged = table::judged_size(table);
     match judged {
@@ -67,7 +75,7 @@ pub fn write_plan(table: &[u32], bytes: &mut [u8]) -> Written
 
 // Reads a saved cursor. Refused 12, 13 or 14.
 pub fn read_cursor(bytes: &[u8]) -> CursorRead
-    ensures { λ r. ⌜ CursorTaken (now (bytes .entry)) (readCursor r) ⌝ }
+    ensures { λ r. ⌜ ReadsCursor (now (bytes .entry)) r ⌝ }
 {
     let seen = numbers::series::look_through(bytes, 0, CURSOR_NUMBERS);
     match seen {
@@ -76,7 +84,7 @@ pub fn read_cursor(bytes: &[u8]) -> CursorRead
             if next < bytes.len() {
                 return CursorRead::Refused(LEFT_OVER, next);
             }
-            let mut words = [0u32; 3];
+            let mut words = [0u32; CURSOR_NUMBERS];
             numbers::series::fill(bytes, 0, CURSOR_NUMBERS, &mut words);
             CursorRead::Saved(Cursor {
                 revision: words[0],
@@ -87,15 +95,15 @@ pub fn read_cursor(bytes: &[u8]) -> CursorRead
     }
 }
 
-// Writes a cursor to lent bytes: it lies in the first of them, and the answer says how many. Refused 15.
-pub fn write_cursor(cursor: Cursor, bytes: &mut [u8]) -> Written
-    ensures { λ r. ⌜ CursorGiven cursor (now (bytes .entry)) (wrote r) (now (bytes .exit)) ⌝ }
+// Writes a cursor to lent bytes: it lies in the first of them, and the answer says how many. Refused 15, with the cursor as it was given.
+pub fn write_cursor(cursor: Cursor, bytes: &mut [u8]) -> CursorWritten
+    ensures { λ r. ⌜ WritesCursor cursor (now (bytes .entry)) r (now (bytes .exit)) ⌝ }
 {
     let words = [cursor.revision, cursor.leg, cursor.place];
     let size = numbers::series::file_size(&words);
     if bytes.len() < size {
-        return Written::Refused(numbers::NO_ROOM, 0);
+        return CursorWritten::Refused(numbers::NO_ROOM, 0, cursor);
     }
     numbers::series::put_file(&words, bytes);
-    Written::Bytes(size)
+    CursorWritten::Bytes(size)
 }

@@ -6,7 +6,7 @@ use crate::PlanRead;
 use numbers::series::Scan;
 use table::Limits;
 
-// How many words the table of a plan file has, or the refusal of the file: 12, 13, 2 or 14.
+// Internal: how many words the table of a plan file has, or the refusal of the file: 12, 13, 2 or 14.
 pub fn plan_size(bytes: &[u8]) -> PlanRead
     ensures { λ r. ⌜ PlanTold (now (bytes .entry)) r ⌝ }
 {
@@ -22,7 +22,7 @@ fn behind_header(bytes: &[u8], next: usize) -> PlanRead
     requires { ⌜ Numbers (now bytes) 0 headWords next ⌝ }
     ensures { λ r. ⌜ PlanTold (now (bytes .entry)) r ⌝ }
 {
-    let mut head = [0u32; 5];
+    let mut head = [0u32; table::HEAD_WORDS];
     numbers::series::fill(bytes, 0, table::HEAD_WORDS, &mut head);
     let told = table::header_words(&head);
     match told {

@@ -10,8 +10,8 @@ use lib.Dec.{ltb}
 use native.Mathlib.Nat.{pow-suc}
 use native.Mathlib.Omega.{arith}
 use borrow.Author.Tests.{lt-ltb, le-ltb, ltb-true, ltb-false}
-use Rattle.numbers.specs.Number.{groupValues, groupsOf}
-use Rattle.numbers.specs.Groups.{GoOn, Shortest, worth, WrittenIsReadBack, ReadIsTheWriting}
+use Rattle.numbers.specs.Number.{groupValues, groupsOf, GoOn}
+use Rattle.numbers.specs.Groups.{Shortest, worth, WritingIsShortest, ShortestIsWriting}
 
 -- A number that fits one group is that group.
 pub one-group : (n x : ℕ) → x < groupValues → groupsOf n x ≡ x ∷ []
@@ -68,13 +68,13 @@ lt-or-ge x y = go (ltb x y) refl
     go true e = inl (ltb-true x y e)
     go false e = inr (ltb-false x y e)
 
-pub written-is-read-back : WrittenIsReadBack
-written-is-read-back zero x h = let g : x < groupValues = h in rw (one-group zero x g) (one-shortest zero x g)
-written-is-read-back (suc n) x h =
+pub writing-is-shortest : WritingIsShortest
+writing-is-shortest zero x h = let g : x < groupValues = h in rw (one-group zero x g) (one-shortest zero x g)
+writing-is-shortest (suc n) x h =
     let p = pow-suc groupValues (suc n) in
     ⊎-elim
     (λ (g : x < groupValues). rw (one-group (suc n) x g) (one-shortest (suc n) x g))
-    (λ (g : groupValues ≤ x). rw (more-groups n x g) (more-shortest n x g (written-is-read-back n (x / groupValues) (omega arith))))
+    (λ (g : groupValues ≤ x). rw (more-groups n x g) (more-shortest n x g (writing-is-shortest n (x / groupValues) (omega arith))))
     (lt-or-ge x groupValues)
 
 read-from : (n : ℕ) (before : List ℕ) (l : ℕ) → length before ≤ n → GoOn before → l < groupValues → (0 < length before → 0 < l)
@@ -93,5 +93,5 @@ read-from (suc n) (b ∷ before) l f g h p =
     let r : groupValues + x % groupValues ≡ b = omega arith in
     more-groups n x (omega arith) ∙ rw (r, q, i)
 
-pub read-is-the-writing : ReadIsTheWriting
-read-is-the-writing n bs s = rw (s .whole) (read-from n (s .before) (s .last) (s .few) (s .go-on) (s .closed) (s .needed))
+pub shortest-is-writing : ShortestIsWriting
+shortest-is-writing n bs s = rw (s .whole) (read-from n (s .before) (s .last) (s .few) (s .go-on) (s .closed) (s .needed))

@@ -4,11 +4,10 @@ use Prim.Native.Nat.{ℕ, suc, _+_, _≤_, _<_}
 use mathlib.Core.Path.{_≡_, refl, _∙_, sym, ap}
 use mathlib.Core.List.{List, [], _∷_, _++_, append-assoc, append-nil}
 use lib.ListN.{length, take, drop, set, getD, length-append, take-append-drop, length-drop}
-use lib.Seq.{take-append-seam, drop-length, set-at, drop-cons, length-take-le, take-at, drop-append-add, drop-drop}
+use lib.Seq.{take-append-seam, drop-length, set-at, drop-cons, length-take-le, take-at, drop-at, drop-append-add, drop-drop}
 use native.Mathlib.Nat.{add-zero, zero-add}
 use native.Mathlib.Numerals.{add-one}
 use native.Mathlib.Omega.{arith}
-use Rattle.numbers.specs.Outcome.{Outcome, given, refused}
 use Rattle.numbers.specs.Series.{overlaid, Laid, TooSmall}
 
 pub overlaid-none : (b : List ℕ) (at : ℕ) → overlaid b at [] ≡ b
@@ -66,22 +65,18 @@ overlaid-all b xs h = overlaid-front b xs ∙ rw (h, drop-length b) (append-nil 
 pub overlaid-taken : (b xs : List ℕ) → take (length xs) (overlaid b 0 xs) ≡ xs
 overlaid-taken b xs = rw (overlaid-front b xs) (take-append-seam xs (drop (length xs) b))
 
+-- What was written stands where it was written.
+pub overlaid-stands : (b : List ℕ) (at : ℕ) (xs : List ℕ) → at ≤ length b → drop at (overlaid b at xs) ≡ xs ++ drop (at + length xs) b
+unfolding overlaid
+overlaid-stands b at xs h = drop-at (take at b) _ at (length-take-le at b h)
+
 -- What is written to a buffer, or that it has no room, has one answer and leaves one memory.
-pub laid-once : {b b′ b″ : List ℕ} {at : ℕ} {xs : List ℕ} {n m : ℕ} → Laid b at xs n b′ → Laid b at xs m b″
-    → (_≡_ {A = Outcome ℕ} (given n) (given m)) × (b′ ≡ b″)
-laid-once p q =
-    let e = p .count in
-    let f = q .count in
-    (cc, p .after ∙ sym (q .after))
+pub laid-once : {b b′ b″ : List ℕ} {at : ℕ} {xs : List ℕ} {n m : ℕ} → Laid b at xs n b′ → Laid b at xs m b″ → (n ≡ m) × (b′ ≡ b″)
+laid-once p q = (p .count ∙ sym (q .count), p .after ∙ sym (q .after))
 
 pub laid-fits : {b b′ b″ : List ℕ} {at : ℕ} {xs : List ℕ} {n k p : ℕ} → Laid b at xs n b′ → TooSmall b at xs k p b″ → ⊥
 laid-fits l t = omega (arith, l .count, l .room, t .small)
 
 pub too-small-once : {b b′ b″ : List ℕ} {at : ℕ} {xs : List ℕ} {k p l q : ℕ} → TooSmall b at xs k p b′ → TooSmall b at xs l q b″
-    → (_≡_ {A = Outcome ℕ} (refused k p) (refused l q)) × (b′ ≡ b″)
-too-small-once t u =
-    let n = t .number in
-    let m = u .number in
-    let e = t .position in
-    let f = u .position in
-    (cc, t .kept ∙ sym (u .kept))
+    → (k ≡ l) × (p ≡ q) × (b′ ≡ b″)
+too-small-once t u = (t .number ∙ sym (u .number), t .position ∙ sym (u .position), t .kept ∙ sym (u .kept))

@@ -9,19 +9,15 @@ use lib.Seq.{drop-cons, append-snoc}
 use native.Mathlib.Nat.{pow-suc, mul-assoc, mul-comm, mul-add, mul-le-mul, mul-le-mul-right, pow-le-pow-right, zero-lt-suc, eq-or-lt-of-le, le-of-eq}
 use native.Mathlib.Numerals.{add-one}
 use native.Mathlib.Omega.{arith}
-use Rattle.numbers.specs.Number.{maxWord, groupValues, maxOpen, maxFifth, bytesEnd, notShortest, groupsOf, bytesOf, Stands, Open, RunsOut, Unfit, NoNumber}
-use Rattle.numbers.specs.Groups.{GoOn, Shortest, worth}
+use Rattle.numbers.specs.Number.{maxWord, groupValues, byteValues, maxGoOn, maxFifth, bytesEnd, unfitNumber, groupsOf, bytesOf, Stands, GoOn, RunsOut, Unfit, NoNumber}
+use Rattle.numbers.specs.Groups.{Shortest, worth}
 use Rattle.numbers.specs.Steps.{GroupTold}
-use Rattle.numbers.specs.Outcome.{given, refused}
-use Rattle.numbers.specs.Calls.{NumberRead}
+use Rattle.numbers.specs.declared.Number.the-variants as number
+use Rattle.numbers.specs.Calls.{ReadsNumber}
 use Rattle.numbers.specs.declared.Group.the-variants as group
-use Rattle.numbers.proofs.Groups.{read-is-the-writing}
+use Rattle.numbers.proofs.Groups.{shortest-is-writing}
 
-pub open-of : (bs : List ℕ) → GoOn bs → Open bs
-open-of [] g = tt
-open-of (b ∷ bs) g = (g .0, open-of bs (g .2))
-
-go-on-more : (bs : List ℕ) (b : ℕ) → GoOn bs → groupValues ≤ b → b < groupValues + groupValues → GoOn (bs ++ (b ∷ []))
+go-on-more : (bs : List ℕ) (b : ℕ) → GoOn bs → groupValues ≤ b → b < byteValues → GoOn (bs ++ (b ∷ []))
 go-on-more [] b g h l = (h, l, tt)
 go-on-more (c ∷ bs) b g h l = (g .0, g .1, go-on-more bs b (g .2) h l)
 
@@ -47,7 +43,7 @@ pub record Passed (s : List ℕ) (at next before weight value : ℕ) : Type 0 wh
   pub there : drop at s ≡ os ++ drop next s
   pub count : length os ≡ before
   pub place : next ≡ at + before
-  pub few : before ≤ maxOpen
+  pub few : before ≤ maxGoOn
   pub goes : GoOn os
   pub weighs : weight ≡ groupValues ^ before
   pub value-is : value ≡ worth os
@@ -60,21 +56,21 @@ module _ {s : List ℕ} {at next before weight value : ℕ} (f : Passed s at nex
   below : value < weight
   below = rw (f .weighs, f .value-is, ← (f .count)) (worth-below (f .os))
 
-  weight-below : before < maxOpen → weight ≤ groupValues ^ 3
+  weight-below : before < maxGoOn → weight ≤ groupValues ^ 3
   weight-below h = let n : before ≤ 3 = omega arith in rw (f .weighs) (pow-le-pow-right (zero-lt-suc 127) n)
 
   -- The bytes end here: 12.
-  pub passed-end : length s ≤ next → NumberRead s at (refused bytesEnd at)
+  pub passed-end : length s ≤ next → ReadsNumber s at (number.Refused bytesEnd at)
   passed-end h =
       let e : drop at s ≡ f .os = f .there ∙ ap (λ (l : List ℕ). f .os ++ l) (drop-of-length-le s h) ∙ append-nil (f .os) in
-      (refl, inl (refl, record { open-to-the-end = rw e (open-of (f .os) (f .goes)); no-fifth = rw (e, f .count) (f .few) }))
+      (refl, inl (refl, record { go-on = rw e (f .goes); no-fifth = rw (e, f .count) (f .few) }))
 
 -- The byte b stands behind the bytes that were passed.
 pub record AtByte (s : List ℕ) (at next before weight value b : ℕ) : Type 0 where
   pub passed : Passed s at next before weight value
   pub inside : next < length s
   pub is : b ≡ getD s next 0
-  pub byte : b < groupValues + groupValues
+  pub byte : b < byteValues
 
 module _ {s : List ℕ} {at next before weight value b : ℕ} (a : AtByte s at next before weight value b) where
   -- The bytes so far and the byte b stand from the start on.
@@ -82,7 +78,7 @@ module _ {s : List ℕ} {at next before weight value b : ℕ} (a : AtByte s at n
   and-byte = let h = a .inside in a .passed .there ∙ rw (drop-cons s next 0 h, ← (a .is), append-assoc, add-one)
 
   -- A byte that makes the number unfit: 13.
-  pub byte-unfit : GroupTold before b group.Unfit → NumberRead s at (refused notShortest at)
+  pub byte-unfit : GroupTold before b group.Unfit → ReadsNumber s at (number.Refused unfitNumber at)
   byte-unfit w = (
     refl,
     inr (
@@ -91,7 +87,7 @@ module _ {s : List ℕ} {at next before weight value b : ℕ} (a : AtByte s at n
         before = a .passed .os;
         byte = b;
         stands = record { rest = drop (next + 1) s; there = and-byte };
-        goes-on = open-of (a .passed .os) (a .passed .goes);
+        go-on = a .passed .goes;
         why = rw (a .passed .count) w;
       },
     ),
@@ -103,12 +99,12 @@ module _ {s : List ℕ} {at next before weight value b : ℕ} (a : AtByte s at n
     last-fits =
         let v = below (a .passed) in
         ⊎-elim
-        (λ (e : before ≡ maxOpen).
-        let x : weight ≡ groupValues ^ maxOpen = a .passed .weighs ∙ ap (λ (n : ℕ). groupValues ^ n) e in
-        let y : weight ≤ groupValues ^ maxOpen = le-of-eq x in
-        let m : b * weight ≤ maxFifth * groupValues ^ maxOpen = mul-le-mul (w .2 e) y in
+        (λ (e : before ≡ maxGoOn).
+        let x : weight ≡ groupValues ^ maxGoOn = a .passed .weighs ∙ ap (λ (n : ℕ). groupValues ^ n) e in
+        let y : weight ≤ groupValues ^ maxGoOn = le-of-eq x in
+        let m : b * weight ≤ maxFifth * groupValues ^ maxGoOn = mul-le-mul (w .2 e) y in
         (omega arith, omega arith))
-        (λ (e : before < maxOpen).
+        (λ (e : before < maxGoOn).
         let x = weight-below (a .passed) e in
         let c : b ≤ 127 = omega arith in
         let m : b * weight ≤ 127 * groupValues ^ 3 = mul-le-mul c x in
@@ -116,14 +112,14 @@ module _ {s : List ℕ} {at next before weight value b : ℕ} (a : AtByte s at n
         (eq-or-lt-of-le (a .passed .few))
 
     -- A last byte: the bytes are the writing of what they are worth.
-    pub byte-last : NumberRead s at (given (value + b * weight, next + 1))
+    pub byte-last : ReadsNumber s at (number.Value (value + b * weight) (next + 1))
     unfolding bytesOf
     byte-last =
         let f = a .passed in
         let bs = f .os ++ (b ∷ []) in
         let small : b % groupValues ≡ b = omega arith in
         let worth-is : value + b * weight ≡ worth bs = rw (f .value-is, f .weighs, worth-more (f .os) b, f .count, small) refl in
-        let short : Shortest maxOpen bs = record {
+        let short : Shortest maxGoOn bs = record {
           before = f .os;
           last = b;
           whole = refl;
@@ -132,8 +128,8 @@ module _ {s : List ℕ} {at next before weight value b : ℕ} (a : AtByte s at n
           closed = w .0;
           needed = rw (f .count) (w .1);
         } in
-        let is-bytes : groupsOf maxOpen (value + b * weight) ≡ bs = ap (groupsOf maxOpen) worth-is ∙ read-is-the-writing maxOpen bs short in
-        let long : length (groupsOf maxOpen (value + b * weight)) ≡ before + 1 = ap length is-bytes ∙ length-append (f .os) (b ∷ []) ∙ rw (f .count) in
+        let is-bytes : groupsOf maxGoOn (value + b * weight) ≡ bs = ap (groupsOf maxGoOn) worth-is ∙ shortest-is-writing maxGoOn bs short in
+        let long : length (groupsOf maxGoOn (value + b * weight)) ≡ before + 1 = ap length is-bytes ∙ length-append (f .os) (b ∷ []) ∙ rw (f .count) in
         record {
           word = last-fits .1;
           stands = record { rest = drop (next + 1) s; there = rw is-bytes and-byte };

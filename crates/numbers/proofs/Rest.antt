@@ -7,7 +7,7 @@ use mathlib.Core.Logic.{⊎-elim}
 use lib.ListN.{length, length-append}
 use native.Mathlib.Nat.{pow-suc}
 use native.Mathlib.Omega.{arith}
-use Rattle.numbers.specs.Number.{maxWord, maxOpen, groupValues, groupsOf, bytesOf}
+use Rattle.numbers.specs.Number.{maxWord, maxGoOn, groupValues, groupsOf, bytesOf}
 use Rattle.numbers.proofs.Groups.{one-group, more-groups, lt-or-ge}
 
 pub record Rest (x : ℕ) (done : List ℕ) (rest : ℕ) : Type 0 where
@@ -17,7 +17,7 @@ pub record Rest (x : ℕ) (done : List ℕ) (rest : ℕ) : Type 0 where
 
 pub rest-none : (x : ℕ) → x ≤ maxWord → Rest x [] x
 unfolding bytesOf
-rest-none x h = record { more = maxOpen; fits = omega arith; whole = refl }
+rest-none x h = record { more = maxGoOn; fits = omega arith; whole = refl }
 
 pub rest-more : (x : ℕ) (done : List ℕ) (rest : ℕ) → groupValues ≤ rest → Rest x done rest → Rest x (done ++ ((groupValues + rest % groupValues) ∷ [])) (rest / groupValues)
 rest-more x done rest h r = go (r .more) (r .fits) (r .whole)

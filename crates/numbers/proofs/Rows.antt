@@ -8,12 +8,12 @@ use lib.ListN.{length, set, take, drop, getD, length-append, take-append-drop}
 use lib.Seq.{take-all, take-suc, drop-drop, drop-append-seam}
 use native.Mathlib.Numerals.{add-one}
 use native.Mathlib.Omega.{arith}
-use Rattle.numbers.specs.Outcome.{Outcome, given, refused}
-use Rattle.numbers.specs.Number.{maxWord, maxOpen, bytesOf, Stands, NoNumber}
+use Rattle.numbers.specs.declared.Number.the-variants as number
+use Rattle.numbers.specs.Number.{maxWord, maxNumberBytes, bytesOf, Stands, NoNumber}
 use Rattle.numbers.specs.Series.{Words, fileOf, Row, overlaid}
 use Rattle.numbers.specs.Steps.{AllNumbers, Filled}
-use Rattle.numbers.specs.Calls.{NumberRead}
-use Rattle.numbers.proofs.OneNumber.{same-word, word-not-refused, numbers-end, number-read-one-answer}
+use Rattle.numbers.specs.Calls.{ReadsNumber}
+use Rattle.numbers.proofs.OneNumber.{same-word, word-not-refused, number-bytes-at-most, read-number-one-answer}
 use Rattle.numbers.proofs.Groups.{lt-or-ge}
 use Rattle.numbers.proofs.Overlay.{overlaid-none, overlaid-more, overlaid-append, overlaid-length}
 
@@ -71,10 +71,10 @@ row-append {s} {at} {mid} {next} vs ws p q =
       ends = rw e (omega (arith, p .ends, q .ends, length-append (fileOf vs) (fileOf ws)));
     }
 
-pub row-one : {s : List ℕ} {at v next : ℕ} → NumberRead s at (given (v, next)) → Row s at (v ∷ []) next
+pub row-one : {s : List ℕ} {at v next : ℕ} → ReadsNumber s at (number.Value v next) → Row s at (v ∷ []) next
 row-one {v = v} r = record { words = (r .word, tt); stands = rw (file-one v) (r .stands); ends = rw (file-one v) (r .ends) }
 
-pub row-head : {s : List ℕ} {at next : ℕ} (v : ℕ) (vs : List ℕ) → Row s at (v ∷ vs) next → NumberRead s at (given (v, at + length (bytesOf v)))
+pub row-head : {s : List ℕ} {at next : ℕ} (v : ℕ) (vs : List ℕ) → Row s at (v ∷ vs) next → ReadsNumber s at (number.Value v (at + length (bytesOf v)))
 row-head v vs r = record {
   word = r .words .0;
   stands = stands-front (bytesOf v) (fileOf vs) (rw (file-cons v vs) at (r .stands));
@@ -96,12 +96,12 @@ pub file-split : (ws : List ℕ) (i : ℕ) → length (fileOf ws) ≡ length (fi
 file-split ws i = ap (λ (l : List ℕ). length (fileOf l)) (sym (take-append-drop i ws)) ∙ rw (file-append, length-append)
 
 -- A file has at most five bytes for each word.
-pub file-length : (ws : List ℕ) → Words ws → length (fileOf ws) ≤ (maxOpen + 1) * length ws
+pub file-length : (ws : List ℕ) → Words ws → length (fileOf ws) ≤ maxNumberBytes * length ws
 unfolding fileOf
 file-length [] w = omega arith
 file-length (v ∷ vs) w =
     let i = file-length vs (w .1) in
-    let n = numbers-end v (w .0) in
+    let n = number-bytes-at-most v (w .0) in
     let l = length-append (bytesOf v) (fileOf vs) in
     omega arith
 
@@ -141,20 +141,19 @@ module _ {s : List ℕ} {from count : ℕ} {b out : List ℕ} {at i : ℕ} (f : 
         go [] l = absurd (omega arith)
         go (v ∷ vs) l = (v, vs, refl)
 
-    next-is : NumberRead s at (given (next-read .0, at + length (bytesOf (next-read .0))))
+    next-is : ReadsNumber s at (number.Value (next-read .0) (at + length (bytesOf (next-read .0))))
     next-is = row-head (next-read .0) (next-read .1) (rw (next-read .2) at (f .to-come))
 
-    pub filling-refused : (k p : ℕ) → NumberRead s at (refused k p) → ⊥
+    pub filling-refused : (k p : ℕ) → ReadsNumber s at (number.Refused k p) → ⊥
     filling-refused k p r =
-        let e : _≡_ {A = Outcome (ℕ × ℕ)} (given (next-read .0, at + length (bytesOf (next-read .0)))) (refused k p) = number-read-one-answer s at _ _ next-is r in
+        let e : number.Value (next-read .0) (at + length (bytesOf (next-read .0))) ≡ number.Refused k p = read-number-one-answer s at _ _ next-is r in
         let z : _≡_ {A = ℕ} 0 1 = cc in
         omega arith
 
-    pub filling-next : (v next : ℕ) → NumberRead s at (given (v, next)) → Filling s from count b (set out i v) next (i + 1)
+    pub filling-next : (v next : ℕ) → ReadsNumber s at (number.Value v next) → Filling s from count b (set out i v) next (i + 1)
     filling-next v next r =
-        let e : _≡_ {A = Outcome (ℕ × ℕ)} (given (next-read .0, at + length (bytesOf (next-read .0)))) (given (v, next)) = number-read-one-answer s at _ _ next-is r in
-        let q : _≡_ {A = ℕ × ℕ} (next-read .0, at + length (bytesOf (next-read .0))) (v, next) = cc in
-        let en : at + length (bytesOf (next-read .0)) ≡ next = ap (λ (p : ℕ × ℕ). p .1) q in
+        let e : number.Value (next-read .0) (at + length (bytesOf (next-read .0))) ≡ number.Value v next = read-number-one-answer s at _ _ next-is r in
+        let en : at + length (bytesOf (next-read .0)) ≡ next = cc in
         let o = f .out-is in
         let p = f .passed in
         let n : i ≡ 0 + length (f .done) = omega arith in

@@ -3,12 +3,7 @@ use Prim.Native.Nat.{ℕ, zero, suc, _+_, _*_, _^_, _%_, _≤_, _<_}
 use mathlib.Core.Path.{_≡_}
 use mathlib.Core.List.{List, [], _∷_, _++_}
 use lib.ListN.{length}
-use Rattle.numbers.specs.Number.{groupValues, groupsOf}
-
--- Each of these bytes goes on: its top bit is set, and it is a byte.
-abbrev pub GoOn : List ℕ → Type 0
-GoOn [] = Unit {0}
-GoOn (b ∷ bs) = (groupValues ≤ b) × (b < groupValues + groupValues) × GoOn bs
+use Rattle.numbers.specs.Number.{groupValues, groupsOf, GoOn}
 
 -- bs is a shortest form: at most n bytes that go on and a last one, which is not 0 unless it stands alone.
 pub record Shortest (n : ℕ) (bs : List ℕ) : Type 0 where
@@ -25,10 +20,10 @@ unfoldable pub worth : List ℕ → ℕ
 worth [] = 0
 worth (b ∷ bs) = b % groupValues + groupValues * worth bs
 
--- What is written is a shortest form and worth the number, so it is read back.
-abbrev pub WrittenIsReadBack : Type 0
-WrittenIsReadBack = (n x : ℕ) → x < groupValues ^ suc n → Shortest n (groupsOf n x) × (worth (groupsOf n x) ≡ x)
+-- What is written is a shortest form, and its groups are worth the number.
+abbrev pub WritingIsShortest : Type 0
+WritingIsShortest = (n x : ℕ) → x < groupValues ^ suc n → Shortest n (groupsOf n x) × (worth (groupsOf n x) ≡ x)
 
 -- Every shortest form is the writing of what it is worth, so no two stand for one number.
-abbrev pub ReadIsTheWriting : Type 0
-ReadIsTheWriting = (n : ℕ) (bs : List ℕ) → Shortest n bs → groupsOf n (worth bs) ≡ bs
+abbrev pub ShortestIsWriting : Type 0
+ShortestIsWriting = (n : ℕ) (bs : List ℕ) → Shortest n bs → groupsOf n (worth bs) ≡ bs

@@ -53,7 +53,7 @@ pub fn bytes(bs: &[u8]) {
     end_line();
 }
 
-// Internal: prints words, as many to a line as width says.
+// Internal: prints words, as many to a line as width says. A last line that is not full is not ended.
 pub fn rows(words: &[u32], width: usize) {
     let mut i: usize = 0;
     let mut column: usize = 0;
@@ -99,9 +99,20 @@ pub fn first_words(words: &[u32], n: usize) {
     }
 }
 
-// Internal: prints the first n bytes of a buffer.
-pub fn first_bytes(bs: &[u8], n: usize) {
+// Internal: prints the words of a buffer from the n-th on, on one line.
+pub fn rest_words(words: &[u32], n: usize) {
+    if n < words.len() {
+        rows(&words[n..], words.len() - n);
+    } else {
+        text(b"none\n");
+    }
+}
+
+// Internal: prints the first n bytes of a buffer on one line, and those behind them on another.
+pub fn parted_bytes(bs: &[u8], n: usize) {
     if n <= bs.len() {
         bytes(&bs[0..n]);
+        text(b"rest: ");
+        bytes(&bs[n..]);
     }
 }

@@ -9,12 +9,12 @@ use native.Mathlib.Nat.{eq-or-lt-of-le}
 use native.Mathlib.Omega.{arith}
 use Rattle.table.specs.Layout.{headWords, tableWords, linkCount, streamCount, legCount, InLimits, Sized}
 use Rattle.table.specs.Size.{noHeader, aboveLimit, wrongLength, SizeFault, SizeTold}
-use Rattle.table.specs.Theorems.{TablesEnd, StartsInside, PartsStartInside, SizeOneAnswer}
+use Rattle.table.specs.Theorems.{TableWordsAtMost, StartsInside, PartsStartInside, SizeOneAnswer}
 use Rattle.table.specs.declared.Size.{Size}
 use Rattle.table.specs.declared.Size.the-variants.{Right, Wrong}
 
-pub tables-end : TablesEnd
-tables-end = (refl, λ t s. omega arith)
+pub table-words-at-most : TableWordsAtMost
+table-words-at-most = (refl, λ t s. omega arith)
 
 -- A start at which no more words stand than records of at least one word.
 inside : (t : List ℕ) (start following : ℕ) → start + following ≤ length t → (start ≡ length t → following ≡ 0) → StartsInside t start following

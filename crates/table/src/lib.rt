@@ -24,7 +24,18 @@ pub const MAX_LEGS: usize = 2048;
 
 pub const MAX_PRECISION: usize = 1000000;
 
-pub const MAX_TABLE_WORDS: usize = 9733;
+pub const MAX_TABLE_WORDS: usize = HEAD_WORDS
+    + LINK_WORDS * MAX_LINKS
+    + STREAM_WORDS * MAX_STREAMS
+    + LEG_WORDS * MAX_LEGS;
+// Where the header holds its counts and the precision.
+pub const LINKS_AT: usize = 1;
+
+pub const STREAMS_AT: usize = 2;
+
+pub const LEGS_AT: usize = 3;
+
+pub const PRECISION_AT: usize = 4;
 
 pub const NO_HEADER: u32 = 1;
 
@@ -77,10 +88,10 @@ pub fn header_words(head: &[u32]) -> Limits
     requires { ⌜ headWords ≤ length (now head) ⌝ }
     ensures { λ r. ⌜ LimitsTold (now (head .entry)) r ⌝ }
 {
-    let links = wide(head[1]);
-    let streams = wide(head[2]);
-    let legs = wide(head[3]);
-    let precision = wide(head[4]);
+    let links = wide(head[LINKS_AT]);
+    let streams = wide(head[STREAMS_AT]);
+    let legs = wide(head[LEGS_AT]);
+    let precision = wide(head[PRECISION_AT]);
     if MAX_LINKS < links {
         return Limits::Above;
     }

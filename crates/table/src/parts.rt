@@ -13,7 +13,7 @@ pub fn stream_start(t: &[u32]) -> usize
     requires { ⌜ Sized (now t) ⌝ }
     ensures { λ r. ⌜ r ≡ streamStart (now (t .entry)) ⌝ }
 {
-    crate::HEAD_WORDS + crate::LINK_WORDS * crate::wide(t[1])
+    crate::HEAD_WORDS + crate::LINK_WORDS * crate::wide(t[crate::LINKS_AT])
 }
 
 // Internal: where the leg part starts.
@@ -21,7 +21,7 @@ pub fn leg_start(t: &[u32]) -> usize
     requires { ⌜ Sized (now t) ⌝ }
     ensures { λ r. ⌜ r ≡ legStart (now (t .entry)) ⌝ }
 {
-    stream_start(t) + crate::STREAM_WORDS * crate::wide(t[2])
+    stream_start(t) + crate::STREAM_WORDS * crate::wide(t[crate::STREAMS_AT])
 }
 
 // Internal: the words of the links.

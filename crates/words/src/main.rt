@@ -2,10 +2,10 @@
 use files::PlanRead;
 
 // The bytes of the largest file and one more, so that a byte left over is seen.
-const MAX_INPUT: usize = 48666;
+const MAX_INPUT: usize = files::MAX_FILE_BYTES + 1;
 
 fn answer(bytes: &[u8]) {
-    let mut words = [0u32; 9733];
+    let mut words = [0u32; table::MAX_TABLE_WORDS];
     let read = files::read_plan(bytes, &mut words);
     match read {
         PlanRead::Refused(number, at) => {

@@ -6,7 +6,7 @@ use lib.ListN.{length, length-append}
 use native.Mathlib.Omega.{arith}
 use Rattle.numbers.specs.Number.{groupValues}
 use Rattle.numbers.proofs.Rest.{Rest, rest-none, rest-more, rest-last, rest-within}
-use Rattle.numbers.proofs.OneNumber.{numbers-end}
+use Rattle.numbers.proofs.OneNumber.{number-bytes-at-most}
 use Rattle.numbers.proofs.number_size.Statement.{statement}
 use Rattle.numbers.proofs.number_size.Tie as tie
 
@@ -22,7 +22,7 @@ loop-holds c = ([], refl, rest-none _ (omega arith))
 add-size : tie.Need-add-size Inv-loop μ-loop
 add-size c =
     let i = c .before .loop .inv in
-    omega (arith, rest-within _ (i .0) _ (i .2), numbers-end (c .before .before .args .x) (omega arith))
+    omega (arith, rest-within _ (i .0) _ (i .2), number-bytes-at-most (c .before .before .args .x) (omega arith))
 
 loop-less : tie.Need-loop-less Inv-loop μ-loop
 loop-less c = omega arith

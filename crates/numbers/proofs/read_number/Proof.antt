@@ -5,7 +5,7 @@ use mathlib.Core.Path.{_≡_}
 use native.Mathlib.Omega.{arith}
 use borrow.Author.Needs.{needs}
 use lib.ListN.{length, getD}
-use Rattle.numbers.specs.Number.{groupValues, maxOpen}
+use Rattle.numbers.specs.Number.{groupValues, maxGoOn}
 use Rattle.numbers.specs.Steps.{GroupTold}
 use Rattle.numbers.specs.declared.Group.the-variants as group
 use Rattle.numbers.proofs.Passing.{Passed, passed-none, passed-end, AtByte, byte-unfit, byte-last, byte-more, last-fits, more-fits}
@@ -16,7 +16,7 @@ abbrev Inv-loop : tie.InvT-loop
 Inv-loop bytes at next₀ before₀ weight₀ value₀ next before weight value = Passed bytes at next before weight value
 
 abbrev μ-loop : tie.MeasureT-loop
-μ-loop bytes at next₀ before₀ weight₀ value₀ next before weight value = maxOpen - before
+μ-loop bytes at next₀ before₀ weight₀ value₀ next before weight value = maxGoOn - before
 
 -- What is known where the byte's kind is told: the byte stands behind the bytes that were passed.
 at-byte : (c : tie.After-group-kind Inv-loop μ-loop)

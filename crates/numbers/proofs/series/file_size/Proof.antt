@@ -5,24 +5,24 @@ use lib.ListN.{length, take, getD, length-append}
 use lib.Seq.{take-all}
 use native.Mathlib.Omega.{arith}
 use borrow.Author.Needs.{needs}
-use Rattle.numbers.specs.Number.{maxOpen, bytesOf}
+use Rattle.numbers.specs.Number.{maxNumberBytes, bytesOf}
 use Rattle.numbers.specs.Series.{fileOf}
 use Rattle.numbers.proofs.Rows.{file-none, file-take-more}
-use Rattle.numbers.proofs.OneNumber.{numbers-end}
+use Rattle.numbers.proofs.OneNumber.{number-bytes-at-most}
 use Rattle.numbers.proofs.series.file_size.Statement.{statement}
 use Rattle.numbers.proofs.series.file_size.Tie as tie
 
 abbrev Inv-loop : tie.InvT-loop
-Inv-loop words size₀ i₀ size i = (i ≤ length words) × (size ≡ length (fileOf (take i words))) × (size ≤ (maxOpen + 1) * i)
+Inv-loop words size₀ i₀ size i = (i ≤ length words) × (size ≡ length (fileOf (take i words))) × (size ≤ maxNumberBytes * i)
 
 abbrev μ-loop : tie.MeasureT-loop
 μ-loop words size₀ i₀ size i = length words - i
 
 -- A number has at most five bytes.
-five : (c : tie.After-number-size Inv-loop μ-loop) → c .number-size .result ≤ maxOpen + 1
+five : (c : tie.After-number-size Inv-loop μ-loop) → c .number-size .result ≤ maxNumberBytes
 five c =
     let x = getD (c .before .before .before .before .before .args .words .now) (c .before .before .before .loop .i) 0 in
-    omega (arith, numbers-end x (omega (arith, c .before .shared-slice-known2 .given (c .before .before .before .loop .i))), c .number-size .ensures)
+    omega (arith, number-bytes-at-most x (omega (arith, c .before .shared-slice-known2 .given (c .before .before .before .loop .i))), c .number-size .ensures)
 
 loop-holds : tie.Need-loop-holds Inv-loop μ-loop
 loop-holds c = (omega arith, ap length (sym file-none), omega arith)
