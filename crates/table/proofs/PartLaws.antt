@@ -8,6 +8,7 @@ use lib.Seq.{length-take-le}
 use native.Mathlib.Nat.{mul-le-mul-left, mul-suc}
 use native.Mathlib.Omega.{arith}
 use Rattle.table.specs.Layout.{linkWords, streamWords, legWords, linkCount, streamCount, legCount, linkStart, streamStart, legStart, Sized}
+use Rattle.table.specs.PlanA.{PlanAReadsSo}
 use Rattle.table.specs.Records.{linkPart, streamPart, legPart, linkIn, streamIn, legIn, linkAt, streamAt, legAt}
 
 -- The words between two starts are the part.
@@ -49,3 +50,16 @@ module _ (t : List ℕ) (i : ℕ) where
   pub leg-of-part : legIn (legPart t) i ≡ legAt t i
   unfolding legAt
   leg-of-part = refl
+
+pub plan-a-reads-so : PlanAReadsSo
+unfolding linkAt streamAt legAt
+plan-a-reads-so = record {
+  sized = record {
+    head = omega arith;
+    limits = record { links = omega arith; streams = omega arith; legs = omega arith; precision = omega arith };
+    exact = refl;
+  };
+  link = refl;
+  stream = refl;
+  leg = refl;
+}
