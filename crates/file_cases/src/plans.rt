@@ -186,16 +186,27 @@ fn empty_parts() {
     read_small(b"\x00\x00\x00\x01\x00\x07\x08\x09");
 }
 
-fn tables() {
+// Writes a table that is a header alone.
+fn write_header(links: u32, streams: u32, legs: u32, precision: u32) {
+    write_small(&[0, links, streams, legs, precision]);
+}
+
+fn short_tables() {
     show::text(
         b"Tables of 0 and 4 words; a limit passed and a wrong length; a word too few and one too many:\n",
     );
     write_small(&[]);
     write_small(&[0, 0, 0, 0]);
-    write_small(&[0, 257, 0, 0, 0]);
-    write_small(&[0, 0, 513, 0, 0]);
-    write_small(&[0, 0, 0, 2049, 0]);
-    write_small(&[0, 0, 0, 0, 1000001]);
+}
+
+fn headers_above() {
+    write_header(257, 0, 0, 0);
+    write_header(0, 513, 0, 0);
+    write_header(0, 0, 2049, 0);
+    write_header(0, 0, 0, 1000001);
+}
+
+fn lengths() {
     write_small(&[0, 0, 0, 1, 0, 7, 8]);
     write_small(&[0, 0, 0, 0, 0, 0]);
     write_small(&[4294967295, 0, 0, 1, 1000000, 7, 8, 300]);
@@ -288,6 +299,8 @@ pub fn all() {
     limits_passed();
     limits_in_order();
     empty_parts();
-    tables();
+    short_tables();
+    headers_above();
+    lengths();
     largest();
 }
