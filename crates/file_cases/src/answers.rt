@@ -2,7 +2,7 @@
 use files::PlanRead;
 use numbers::Written;
 
-pub fn written(answer: Written, bytes: &[u8]) {
+pub(crate) fn written(answer: Written, bytes: &[u8]) {
     match answer {
         Written::Bytes(n) => {
             show::text(b"bytes ");
@@ -18,7 +18,7 @@ pub fn written(answer: Written, bytes: &[u8]) {
     }
 }
 
-pub fn read(answer: PlanRead, words: &[u32]) {
+pub(crate) fn read(answer: PlanRead, words: &[u32]) {
     match answer {
         PlanRead::Words(n) => {
             show::text(b"words ");

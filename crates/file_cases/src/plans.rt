@@ -290,7 +290,7 @@ fn largest() {
     }
 }
 
-pub fn all() {
+pub(crate) fn all() {
     plan_a();
     plan_a_at_another_rate();
     room_for_plan_a();

@@ -9,7 +9,7 @@ use lib.ListN.{length, length-append}
 use native.Mathlib.Omega.{arith}
 use Rattle.numbers.specs.Number.{NoNumber}
 use Rattle.numbers.specs.Series.{fileOf, Row, Laid}
-use Rattle.numbers.proofs.Groups.{lt-or-ge}
+use Rattle.basics.proofs.Splits.{lt-or-ge}
 use Rattle.numbers.proofs.OneNumber.{refused-once}
 use Rattle.numbers.proofs.Overlay.{laid-once, laid-fits, too-small-once}
 use Rattle.numbers.proofs.Rows.{row-compare, row-same, row-stops, file-row, row-inside}

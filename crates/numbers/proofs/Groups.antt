@@ -2,14 +2,13 @@
 -- Assumes nothing.
 use Prim.Native.Nat.{ℕ, zero, suc, _+_, _*_, _^_, _/_, _%_, _≤_, _<_}
 use mathlib.Core.Path.{_≡_, refl, _∙_, sym, ap}
-use mathlib.Core.Bool.{Bool, true, false}
 use mathlib.Core.List.{List, [], _∷_, _++_}
-use mathlib.Core.Logic.{_⊎_, inl, inr, ⊎-elim}
+use mathlib.Core.Logic.{⊎-elim}
 use lib.ListN.{length}
-use lib.Dec.{ltb}
 use native.Mathlib.Nat.{pow-suc}
 use native.Mathlib.Omega.{arith}
-use borrow.Author.Tests.{lt-ltb, le-ltb, ltb-true, ltb-false}
+use borrow.Author.Tests.{lt-ltb, le-ltb}
+use Rattle.basics.proofs.Splits.{lt-or-ge}
 use Rattle.numbers.specs.Number.{groupValues, groupsOf, GoOn}
 use Rattle.numbers.specs.Groups.{Shortest, worth, WritingIsShortest, ShortestIsWriting}
 
@@ -60,13 +59,6 @@ more-shortest n x h i =
       },
       omega arith,
     )
-
-pub lt-or-ge : (x y : ℕ) → (x < y) ⊎ (y ≤ x)
-lt-or-ge x y = go (ltb x y) refl
-  where
-    go : (b : Bool) → ltb x y ≡ b → (x < y) ⊎ (y ≤ x)
-    go true e = inl (ltb-true x y e)
-    go false e = inr (ltb-false x y e)
 
 pub writing-is-shortest : WritingIsShortest
 writing-is-shortest zero x h = let g : x < groupValues = h in rw (one-group zero x g) (one-shortest zero x g)

@@ -7,8 +7,9 @@ use mathlib.Core.Logic.{⊎-elim}
 use lib.ListN.{length, length-append}
 use native.Mathlib.Nat.{pow-suc}
 use native.Mathlib.Omega.{arith}
+use Rattle.basics.proofs.Splits.{lt-or-ge}
 use Rattle.numbers.specs.Number.{maxWord, maxGoOn, groupValues, groupsOf, bytesOf}
-use Rattle.numbers.proofs.Groups.{one-group, more-groups, lt-or-ge}
+use Rattle.numbers.proofs.Groups.{one-group, more-groups}
 
 pub record Rest (x : ℕ) (done : List ℕ) (rest : ℕ) : Type 0 where
   pub more : ℕ

@@ -9,12 +9,12 @@ use lib.Seq.{take-all, take-suc, drop-drop, drop-append-seam}
 use native.Mathlib.Numerals.{add-one}
 use native.Mathlib.Omega.{arith}
 use Rattle.numbers.specs.declared.Number.the-variants as number
+use Rattle.basics.proofs.Splits.{lt-or-ge}
 use Rattle.numbers.specs.Number.{maxWord, maxNumberBytes, bytesOf, Stands, NoNumber}
 use Rattle.numbers.specs.Series.{Words, fileOf, Row, overlaid}
 use Rattle.numbers.specs.Steps.{AllNumbers, Filled}
 use Rattle.numbers.specs.Calls.{ReadsNumber}
 use Rattle.numbers.proofs.OneNumber.{same-word, word-not-refused, number-bytes-at-most, read-number-one-answer}
-use Rattle.numbers.proofs.Groups.{lt-or-ge}
 use Rattle.numbers.proofs.Overlay.{overlaid-none, overlaid-more, overlaid-append, overlaid-length}
 
 pub file-append : (vs ws : List ℕ) → fileOf (vs ++ ws) ≡ fileOf vs ++ fileOf ws

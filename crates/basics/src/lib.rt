@@ -1,0 +1,1 @@
+// What every crate's definitions and proofs may use, and no code.

@@ -1,0 +1,14 @@
+-- A link is in range where all else is and its rate is one.
+-- Assumes nothing.
+use Prim.Native.Nat.{ℕ, _≤_}
+use mathlib.Core.Path.{_≡_}
+use Rattle.table.specs.declared.Link.{Link}
+use Rattle.shape.specs.Links.{maxNode, maxPropagation, IsRate, LinkInRange}
+use Rattle.shape.specs.Steps.{Tells}
+use Rattle.shape.specs.declared.Verdict.{Verdict}
+use Rattle.shape.specs.declared.Verdict.the-variants.{Good, Bad}
+
+pub by-rate : (l : Link) (r : Verdict) → l .from ≤ maxNode → l .to ≤ maxNode → (l .from ≡ l .to → ⊥) → l .propagation ≤ maxPropagation
+    → Tells (IsRate (l .rate)) r → Tells (LinkInRange l) r
+by-rate l Good f t d p h = record { from-node = f; to-node = t; different = d; rate = h; propagation = p }
+by-rate l Bad f t d p h = λ g. h (g .rate)

@@ -1,0 +1,7 @@
+pub mod Links
+pub mod Streams
+pub mod Legs
+pub mod Shape
+pub mod Guarantees
+pub mod Steps
+pub mod Theorems

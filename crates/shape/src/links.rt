@@ -1,0 +1,68 @@
+// Links: each in range, and none twice.
+ghost use Prim.Native.Nat.{_≤_};
+ghost use Rattle.table.specs.Layout.{linkCount, Sized};
+ghost use Rattle.shape.specs.Links.{IsRate, LinkInRange};
+ghost use Rattle.shape.specs.Shape.{LinkRight};
+ghost use Rattle.shape.specs.Steps.{Tells, Finds};
+use crate::Found;
+use crate::Verdict;
+use table::Link;
+
+pub const MAX_NODE: u32 = 65535;
+
+pub const MAX_PROPAGATION: u32 = 100000;
+
+fn rate_told(rate: u32) -> Verdict
+    ensures { λ r. ⌜ Tells (IsRate rate) r ⌝ }
+{
+    if rate == 8 {
+        return Verdict::Good;
+    }
+    if rate == 80 {
+        return Verdict::Good;
+    }
+    if rate == 800 {
+        return Verdict::Good;
+    }
+    Verdict::Bad
+}
+
+fn link_told(l: Link) -> Verdict
+    ensures { λ r. ⌜ Tells (LinkInRange l) r ⌝ }
+{
+    if MAX_NODE < l.from {
+        return Verdict::Bad;
+    }
+    if MAX_NODE < l.to {
+        return Verdict::Bad;
+    }
+    if l.from == l.to {
+        return Verdict::Bad;
+    }
+    if MAX_PROPAGATION < l.propagation {
+        return Verdict::Bad;
+    }
+    rate_told(l.rate)
+}
+
+// Internal: the lowest link out of range.
+pub fn lowest_bad_link(t: &[u32]) -> Found
+    requires { ⌜ Sized (now t) ⌝ }
+    ensures { λ r. ⌜ Finds (LinkRight (now (t .entry))) (linkCount (now (t .entry))) r ⌝ }
+{
+    let links = table::parts::link_part(t);
+    let count = table::wide(t[table::LINKS_AT]);
+    let mut i: usize = 0;
+    while i < count {
+        let l = table::parts::link_in(links, i);
+        let told = link_told(l);
+        match told {
+            Verdict::Bad => {
+                return Found::At(i);
+            }
+            Verdict::Good => {}
+        }
+        i = i + 1;
+    }
+    Found::Nowhere
+}
