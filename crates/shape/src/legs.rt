@@ -110,8 +110,8 @@ pub fn lowest_bad_leg(t: &[u32]) -> Found
         let end = next + table::wide(stream.count);
         let found = lowest_in_stream(t, s, next, end);
         match found {
-            Found::At(a) => {
-                return Found::At(a);
+            Found::At(p) => {
+                return Found::At(p);
             }
             Found::Nowhere => {}
         }
