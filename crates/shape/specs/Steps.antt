@@ -30,10 +30,13 @@ Finds P n Nowhere = All P n
 
 -- Looking for doubles: links with the same ends fall into one bucket, and each bucket remembers its links from the latest to the earliest.
 abbrev pub buckets : ℕ
-buckets = 512
+buckets = 509
+
+abbrev pub bucketStep : ℕ
+bucketStep = 325
 
 abbrev pub bucketOf : Link → ℕ
-bucketOf l = (l .from * 31 + l .to) % buckets
+bucketOf l = (l .from * bucketStep + l .to) % buckets
 
 -- One more than the latest link below i that falls into bucket h, or 0.
 unfoldable pub latest : List ℕ → ℕ → ℕ → ℕ

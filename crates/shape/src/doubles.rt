@@ -9,13 +9,16 @@ use crate::Found;
 use crate::Verdict;
 use table::Link;
 
-const BUCKETS: usize = 512;
+// A prime, and a step by which the links of lines, rings, stars and grids fall apart.
+const BUCKETS: usize = 509;
+
+const BUCKET_STEP: usize = 325;
 
 fn bucket(l: Link) -> usize
     requires { ⌜ LinkInRange l ⌝ }
     ensures { λ r. ⌜ (r ≡ bucketOf l) × (r < buckets) ⌝ }
 {
-    (table::wide(l.from) * 31 + table::wide(l.to)) % BUCKETS
+    (table::wide(l.from) * BUCKET_STEP + table::wide(l.to)) % BUCKETS
 }
 
 fn ends_told(l: Link, m: Link) -> Verdict
