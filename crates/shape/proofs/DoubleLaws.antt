@@ -16,7 +16,7 @@ use Rattle.table.specs.Records.{linkPart, linkAt}
 use Rattle.shape.specs.Shape.{All}
 use Rattle.table.specs.declared.Link.{Link}
 use Rattle.shape.specs.Links.{SameEnds, LinkNew}
-use Rattle.shape.specs.Steps.{bucketOf, buckets, latest, Chained, Latest, ChainAt, EmptyBuckets}
+use Rattle.shape.specs.Buckets.{bucketOf, buckets, latest, Chained, Latest, ChainAt, EmptyBuckets}
 
 same-bucket : (l m : Link) → SameEnds l m → bucketOf l ≡ bucketOf m
 same-bucket l m s = let f = s .from-node in let t = s .to-node in cc

@@ -15,7 +15,8 @@ use Rattle.table.specs.declared.Stream.{Stream}
 use Rattle.shape.specs.Streams.{legsBefore, StreamRight}
 use Rattle.shape.specs.Legs.{linkOf, firstOf, LegRight}
 use Rattle.shape.specs.Shape.{All}
-use Rattle.shape.specs.Steps.{Tells, BeforeLegs, AtLeg, AllFrom, NoEndAt, GoesOn}
+use Rattle.shape.specs.Steps.{Tells}
+use Rattle.shape.specs.Routes.{BeforeLegs, AtLeg, AllFrom, NoEndAt, GoesOn}
 use Rattle.shape.specs.declared.Verdict.{Verdict}
 use Rattle.shape.specs.declared.Verdict.the-variants.{Good, Bad}
 use Rattle.shape.proofs.StreamLaws.{legs-more}

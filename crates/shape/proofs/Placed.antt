@@ -12,7 +12,7 @@ use Rattle.shape.specs.Legs.{firstOf}
 use Rattle.shape.specs.Streams.{legsBefore}
 use Rattle.shape.specs.Shape.{WellFormedTable}
 use Rattle.shape.specs.Guarantees.{maxRate, LinkSmall, LegPlaced, Guarantees}
-use Rattle.shape.specs.Steps.{BeforeLegs}
+use Rattle.shape.specs.Routes.{BeforeLegs}
 use Rattle.shape.specs.Theorems.{WellFormedGuarantees}
 use Rattle.shape.proofs.LegLaws.{first-of, within-legs, one-stream}
 

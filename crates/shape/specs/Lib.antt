@@ -3,5 +3,7 @@ pub mod Streams
 pub mod Legs
 pub mod Shape
 pub mod Guarantees
-pub mod Steps
 pub mod Theorems
+pub mod Steps
+pub mod Buckets
+pub mod Routes

@@ -4,7 +4,7 @@ use mathlib.Core.Path.{_≡_, _∙_, sym, ap}
 use native.Mathlib.Omega.{arith}
 use borrow.Author.Needs.{needs}
 use Rattle.table.specs.declared.Link.{Link}
-use Rattle.shape.specs.Steps.{NoEndAt}
+use Rattle.shape.specs.Routes.{NoEndAt}
 use Rattle.shape.proofs.LegLaws.{at-inside, earlier-inside, earlier-link, no-end-more}
 use Rattle.shape.proofs.legs.ends_told.Statement.{statement}
 use Rattle.shape.proofs.legs.ends_told.Tie as tie

@@ -7,7 +7,7 @@ use Rattle.table.specs.Records.{legAt}
 use Rattle.table.specs.declared.Leg.{Leg}
 use Rattle.table.proofs.PartLaws.{link-inside, leg-inside, link-of-part, leg-of-part}
 use Rattle.shape.specs.Legs.{linkOf}
-use Rattle.shape.specs.Steps.{AtLeg}
+use Rattle.shape.specs.Routes.{AtLeg}
 use Rattle.shape.proofs.LegLaws.{at-inside, wrong-stream, right-where, first-goes-on, told-by-route}
 use borrow.Author.Needs.{needs}
 use Rattle.shape.proofs.legs.leg_told.Statement.{statement}

@@ -9,7 +9,7 @@ use Rattle.table.specs.Records.{streamAt}
 use Rattle.table.specs.declared.Stream.{Stream}
 use Rattle.table.proofs.PartLaws.{stream-inside, stream-of-part}
 use Rattle.shape.specs.Streams.{legsBefore}
-use Rattle.shape.specs.Steps.{FindsFrom}
+use Rattle.shape.specs.Routes.{FindsFrom}
 use Rattle.shape.proofs.StreamLaws.{legs-none, legs-more}
 use Rattle.shape.proofs.LegLaws.{LegTurn, within-legs, all-join}
 use Rattle.shape.proofs.legs.lowest_bad_leg.Statement.{statement}
