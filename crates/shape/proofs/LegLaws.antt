@@ -17,8 +17,8 @@ use Rattle.shape.specs.Legs.{linkOf, firstOf, LegRight}
 use Rattle.shape.specs.Shape.{All}
 use Rattle.shape.specs.Steps.{Tells}
 use Rattle.shape.specs.Routes.{BeforeLegs, AtLeg, AllFrom, NoEndAt, GoesOn}
-use Rattle.shape.specs.declared.Verdict.{Verdict}
-use Rattle.shape.specs.declared.Verdict.the-variants.{Good, Bad}
+use Rattle.shape.specs.declared.Holds.{Holds}
+use Rattle.shape.specs.declared.Holds.the-variants.{Yes, No}
 use Rattle.shape.proofs.StreamLaws.{legs-more}
 
 -- The legs before a later stream are as many or more.
@@ -104,9 +104,9 @@ module _ {t : List ℕ} {s first a : ℕ} (l : AtLeg t s first a) where
       new-node = λ b h p _. omega arith;
     }
 
-    pub told-by-route : legAt t a .link < linkCount t → (r : Verdict) → Tells (GoesOn t first a (linkOf t a)) r → Tells (LegRight t a) r
-    told-by-route k Good g = right-where k g
-    told-by-route k Bad n = λ r. n (goes-where r)
+    pub told-by-route : legAt t a .link < linkCount t → (r : Holds) → Tells (GoesOn t first a (linkOf t a)) r → Tells (LegRight t a) r
+    told-by-route k Yes g = right-where k g
+    told-by-route k No n = λ r. n (goes-where r)
 
   -- The route so far: an earlier leg lies in the table, and its link too.
   pub earlier-inside : (b : ℕ) → b < a → b < legCount t
@@ -116,10 +116,10 @@ module _ {t : List ℕ} {s first a : ℕ} (l : AtLeg t s first a) where
   earlier-link b f h = l .earlier b f h .link
 
 -- What was told of the nodes so far tells the rest.
-pub told-by-ends : (t : List ℕ) (first a : ℕ) (l : Link) (r : Verdict) → ((b : ℕ) → first ≤ b → a ≡ b + 1 → l .from ≡ linkOf t b .to) → (l .to ≡ linkOf t first .from → ⊥)
+pub told-by-ends : (t : List ℕ) (first a : ℕ) (l : Link) (r : Holds) → ((b : ℕ) → first ≤ b → a ≡ b + 1 → l .from ≡ linkOf t b .to) → (l .to ≡ linkOf t first .from → ⊥)
     → Tells (NoEndAt t first a (l .to)) r → Tells (GoesOn t first a l) r
-told-by-ends t first a l Good j n h = record { joined = j; not-start = n; new-node = h }
-told-by-ends t first a l Bad j n h = λ g. h (g .new-node)
+told-by-ends t first a l Yes j n h = record { joined = j; not-start = n; new-node = h }
+told-by-ends t first a l No j n h = λ g. h (g .new-node)
 
 -- One leg more that does not end at the node.
 pub no-end-more : (t : List ℕ) (first b node : ℕ) → NoEndAt t first b node → (node ≡ linkOf t b .to → ⊥) → NoEndAt t first (b + 1) node

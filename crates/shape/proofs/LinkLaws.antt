@@ -5,10 +5,10 @@ use mathlib.Core.Path.{_≡_}
 use Rattle.table.specs.declared.Link.{Link}
 use Rattle.shape.specs.Links.{maxNode, maxPropagation, IsRate, LinkInRange}
 use Rattle.shape.specs.Steps.{Tells}
-use Rattle.shape.specs.declared.Verdict.{Verdict}
-use Rattle.shape.specs.declared.Verdict.the-variants.{Good, Bad}
+use Rattle.shape.specs.declared.Holds.{Holds}
+use Rattle.shape.specs.declared.Holds.the-variants.{Yes, No}
 
-pub by-rate : (l : Link) (r : Verdict) → l .from ≤ maxNode → l .to ≤ maxNode → (l .from ≡ l .to → ⊥) → l .propagation ≤ maxPropagation
+pub by-rate : (l : Link) (r : Holds) → l .from ≤ maxNode → l .to ≤ maxNode → (l .from ≡ l .to → ⊥) → l .propagation ≤ maxPropagation
     → Tells (IsRate (l .rate)) r → Tells (LinkInRange l) r
-by-rate l Good f t d p h = record { from-node = f; to-node = t; different = d; rate = h; propagation = p }
-by-rate l Bad f t d p h = λ g. h (g .rate)
+by-rate l Yes f t d p h = record { from-node = f; to-node = t; different = d; rate = h; propagation = p }
+by-rate l No f t d p h = λ g. h (g .rate)

@@ -36,7 +36,7 @@ streams-wrong-one (inr (e, a, n)) (inr (f, b, m)) = e ∙ sym f
 
 streams-not-right : {t : List ℕ} {p : ℕ} → StreamsWrong t p → All (StreamRight t) (streamCount t) → CountsAddUp t → ⊥
 streams-not-right (inl l) a c = not-all l a
-streams-not-right (inr (e, b, n)) a c = n c
+streams-not-right (inr (e, b, n)) a c = omega arith
 
 -- How far a refusal has passed: what it asks of the table, by its number.
 module _ {t : List ℕ} where

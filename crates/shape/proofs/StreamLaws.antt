@@ -12,12 +12,12 @@ use Rattle.table.specs.declared.Stream.{Stream}
 use Rattle.shape.specs.Streams.{StreamInRange, legsBefore, StreamRight}
 use Rattle.shape.specs.Shape.{All}
 use Rattle.shape.specs.Steps.{Tells, StreamFits}
-use Rattle.shape.specs.declared.Verdict.{Verdict}
-use Rattle.shape.specs.declared.Verdict.the-variants.{Good, Bad}
+use Rattle.shape.specs.declared.Holds.{Holds}
+use Rattle.shape.specs.declared.Holds.the-variants.{Yes, No}
 
-pub by-range : (s : Stream) (next g : ℕ) (r : Verdict) → s .first ≡ next → next + s .count ≤ g → Tells (StreamInRange s) r → Tells (StreamFits s next g) r
-by-range s next g Good f w h = record { in-range = h; first = f; within = w }
-by-range s next g Bad f w h = λ x. h (x .in-range)
+pub by-range : (s : Stream) (next g : ℕ) (r : Holds) → s .first ≡ next → next + s .count ≤ g → Tells (StreamInRange s) r → Tells (StreamFits s next g) r
+by-range s next g Yes f w h = record { in-range = h; first = f; within = w }
+by-range s next g No f w h = λ x. h (x .in-range)
 
 pub legs-none : (t : List ℕ) → legsBefore t 0 ≡ 0
 unfolding legsBefore

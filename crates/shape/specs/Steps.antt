@@ -7,15 +7,15 @@ use Rattle.table.specs.declared.Stream.{Stream}
 use Rattle.shape.specs.Links.{LinkNew}
 use Rattle.shape.specs.Streams.{StreamInRange, StreamRight}
 use Rattle.shape.specs.Shape.{All, Lowest, LinkRight, CountsAddUp, StreamsWrong}
-use Rattle.shape.specs.declared.Verdict.{Verdict}
-use Rattle.shape.specs.declared.Verdict.the-variants.{Good, Bad}
+use Rattle.shape.specs.declared.Holds.{Holds}
+use Rattle.shape.specs.declared.Holds.the-variants.{Yes, No}
 use Rattle.shape.specs.declared.Found.{Found}
 use Rattle.shape.specs.declared.Found.the-variants.{At, Nowhere}
 
 -- Whether P holds.
-abbrev pub Tells : Type 0 → Verdict → Type 0
-Tells P Good = P
-Tells P Bad = P → ⊥
+abbrev pub Tells : Type 0 → Holds → Type 0
+Tells P Yes = P
+Tells P No = P → ⊥
 
 -- The lowest of n records that P does not hold of, or that it holds of all.
 abbrev pub Finds : (ℕ → Type 0) → ℕ → Found → Type 0

@@ -7,7 +7,7 @@ ghost use Rattle.shape.specs.Steps.{Tells, Finds};
 ghost use Rattle.shape.specs.Buckets.{bucketOf, buckets, ChainAt, EmptyBuckets};
 ghost use Rattle.shape.specs.Shape.{LinkRight, All};
 use crate::Found;
-use crate::Verdict;
+use crate::Holds;
 use table::Link;
 
 // A prime, and a step by which the links of lines, rings, stars and grids fall apart.
@@ -22,20 +22,20 @@ fn bucket(l: Link) -> usize
     (table::wide(l.from) * BUCKET_STEP + table::wide(l.to)) % BUCKETS
 }
 
-fn ends_told(l: Link, m: Link) -> Verdict
+fn same_ends_told(l: Link, m: Link) -> Holds
     ensures { λ r. ⌜ Tells (SameEnds l m) r ⌝ }
 {
     if l.from != m.from {
-        return Verdict::Bad;
+        return Holds::No;
     }
     if l.to != m.to {
-        return Verdict::Bad;
+        return Holds::No;
     }
-    Verdict::Good
+    Holds::Yes
 }
 
 // Whether link i equals none of the earlier ones in its bucket, of which the latest is at start - 1.
-fn new_told(t: &[u32], earlier: &[usize], i: usize, start: usize) -> Verdict
+fn new_told(t: &[u32], earlier: &[usize], i: usize, start: usize) -> Holds
     requires { ⌜ ChainAt (now t) (now earlier) i start ⌝ }
     ensures { λ r. ⌜ Tells (LinkNew (now (t .entry)) i) r ⌝ }
 {
@@ -45,16 +45,16 @@ fn new_told(t: &[u32], earlier: &[usize], i: usize, start: usize) -> Verdict
     while 0 < c {
         let j = c - 1;
         let m = table::parts::link_in(links, j);
-        let told = ends_told(m, l);
+        let told = same_ends_told(m, l);
         match told {
-            Verdict::Good => {
-                return Verdict::Bad;
+            Holds::Yes => {
+                return Holds::No;
             }
-            Verdict::Bad => {}
+            Holds::No => {}
         }
         c = earlier[j];
     }
-    Verdict::Good
+    Holds::Yes
 }
 
 // The same over all links, with lent memory for the buckets and the chains: last holds one more than the latest link of each bucket.
@@ -73,10 +73,10 @@ fn lowest_double_in(t: &[u32], last: &mut [usize], earlier: &mut [usize]) -> Fou
         let start = last[h];
         let told = new_told(t, earlier, i, start);
         match told {
-            Verdict::Bad => {
+            Holds::No => {
                 return Found::At(i);
             }
-            Verdict::Good => {}
+            Holds::Yes => {}
         }
         earlier[i] = start;
         last[h] = i + 1;

@@ -8,7 +8,7 @@ ghost use Rattle.shape.specs.Legs.{linkOf, LegRight};
 ghost use Rattle.shape.specs.Steps.{Tells, Finds};
 ghost use Rattle.shape.specs.Routes.{FindsFrom, BeforeLegs, AtLeg, NoEndAt, GoesOn};
 use crate::Found;
-use crate::Verdict;
+use crate::Holds;
 use table::Link;
 
 // The link of a leg.
@@ -23,7 +23,7 @@ fn link_of(t: &[u32], b: usize) -> Link
 }
 
 // Whether no earlier leg of the route ends at the node.
-fn ends_told(t: &[u32], s: usize, first: usize, a: usize, node: u32) -> Verdict
+fn new_node_told(t: &[u32], s: usize, first: usize, a: usize, node: u32) -> Holds
     requires { ⌜ AtLeg (now t) s first a ⌝ }
     ensures { λ r. ⌜ Tells (NoEndAt (now (t .entry)) first a node) r ⌝ }
 {
@@ -31,45 +31,45 @@ fn ends_told(t: &[u32], s: usize, first: usize, a: usize, node: u32) -> Verdict
     while b < a {
         let l = link_of(t, b);
         if l.to == node {
-            return Verdict::Bad;
+            return Holds::No;
         }
         b = b + 1;
     }
-    Verdict::Good
+    Holds::Yes
 }
 
 // Whether the link of a later leg goes on from the leg before it and meets no node of the route so far.
-fn route_told(t: &[u32], s: usize, first: usize, a: usize, l: Link) -> Verdict
+fn route_told(t: &[u32], s: usize, first: usize, a: usize, l: Link) -> Holds
     requires { ⌜ AtLeg (now t) s first a ⌝ }
     requires { ⌜ first < a ⌝ }
     ensures { λ r. ⌜ Tells (GoesOn (now (t .entry)) first a l) r ⌝ }
 {
     let before = link_of(t, a - 1);
     if l.from != before.to {
-        return Verdict::Bad;
+        return Holds::No;
     }
     let start = link_of(t, first);
     if l.to == start.from {
-        return Verdict::Bad;
+        return Holds::No;
     }
-    ends_told(t, s, first, a, l.to)
+    new_node_told(t, s, first, a, l.to)
 }
 
 // Whether leg a, among the legs of stream s, which begin at first, is right.
-fn leg_told(t: &[u32], s: usize, first: usize, a: usize) -> Verdict
+fn leg_told(t: &[u32], s: usize, first: usize, a: usize) -> Holds
     requires { ⌜ AtLeg (now t) s first a ⌝ }
     ensures { λ r. ⌜ Tells (LegRight (now (t .entry)) a) r ⌝ }
 {
     let leg = table::parts::leg_in(table::parts::leg_part(t), a);
     if table::wide(leg.stream) != s {
-        return Verdict::Bad;
+        return Holds::No;
     }
     let link = table::wide(leg.link);
     if table::wide(t[table::LINKS_AT]) <= link {
-        return Verdict::Bad;
+        return Holds::No;
     }
     if a == first {
-        return Verdict::Good;
+        return Holds::Yes;
     }
     let l = table::parts::link_in(table::parts::link_part(t), link);
     route_told(t, s, first, a, l)
@@ -87,10 +87,10 @@ fn lowest_in_stream(t: &[u32], s: usize, first: usize, end: usize) -> Found
     while a < end {
         let told = leg_told(t, s, first, a);
         match told {
-            Verdict::Bad => {
+            Holds::No => {
                 return Found::At(a);
             }
-            Verdict::Good => {}
+            Holds::Yes => {}
         }
         a = a + 1;
     }

@@ -23,10 +23,10 @@ pub enum Shape {
     Wrong(u32, usize),
 }
 
-// Whether a record is good.
-pub enum Verdict {
-    Good,
-    Bad,
+// Whether what is asked of a record holds.
+pub enum Holds {
+    Yes,
+    No,
 }
 
 // The lowest record that is bad.

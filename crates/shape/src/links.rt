@@ -5,42 +5,42 @@ ghost use Rattle.shape.specs.Links.{IsRate, LinkInRange};
 ghost use Rattle.shape.specs.Shape.{LinkRight};
 ghost use Rattle.shape.specs.Steps.{Tells, Finds};
 use crate::Found;
-use crate::Verdict;
+use crate::Holds;
 use table::Link;
 
 pub const MAX_NODE: u32 = 65535;
 
 pub const MAX_PROPAGATION: u32 = 100000;
 
-fn rate_told(rate: u32) -> Verdict
+fn rate_told(rate: u32) -> Holds
     ensures { λ r. ⌜ Tells (IsRate rate) r ⌝ }
 {
     if rate == 8 {
-        return Verdict::Good;
+        return Holds::Yes;
     }
     if rate == 80 {
-        return Verdict::Good;
+        return Holds::Yes;
     }
     if rate == 800 {
-        return Verdict::Good;
+        return Holds::Yes;
     }
-    Verdict::Bad
+    Holds::No
 }
 
-fn link_told(l: Link) -> Verdict
+fn link_told(l: Link) -> Holds
     ensures { λ r. ⌜ Tells (LinkInRange l) r ⌝ }
 {
     if MAX_NODE < l.from {
-        return Verdict::Bad;
+        return Holds::No;
     }
     if MAX_NODE < l.to {
-        return Verdict::Bad;
+        return Holds::No;
     }
     if l.from == l.to {
-        return Verdict::Bad;
+        return Holds::No;
     }
     if MAX_PROPAGATION < l.propagation {
-        return Verdict::Bad;
+        return Holds::No;
     }
     rate_told(l.rate)
 }
@@ -57,10 +57,10 @@ pub fn lowest_bad_link(t: &[u32]) -> Found
         let l = table::parts::link_in(links, i);
         let told = link_told(l);
         match told {
-            Verdict::Bad => {
+            Holds::No => {
                 return Found::At(i);
             }
-            Verdict::Good => {}
+            Holds::Yes => {}
         }
         i = i + 1;
     }

@@ -5,7 +5,7 @@ ghost use Rattle.table.specs.Layout.{maxLegs, Sized};
 ghost use Rattle.shape.specs.Streams.{StreamInRange};
 ghost use Rattle.shape.specs.Steps.{Tells, StreamFits, FindsStreams};
 use crate::Found;
-use crate::Verdict;
+use crate::Holds;
 use table::Stream;
 
 pub const MAX_PERIOD: u32 = 1000000000;
@@ -16,47 +16,47 @@ pub const MAX_OCTETS: u32 = 1522;
 
 pub const MAX_ROUTE: u32 = 8;
 
-fn range_told(s: Stream) -> Verdict
+fn range_told(s: Stream) -> Holds
     ensures { λ r. ⌜ Tells (StreamInRange s) r ⌝ }
 {
     if s.period < 1 {
-        return Verdict::Bad;
+        return Holds::No;
     }
     if MAX_PERIOD < s.period {
-        return Verdict::Bad;
+        return Holds::No;
     }
     if s.deadline < 1 {
-        return Verdict::Bad;
+        return Holds::No;
     }
     if s.period < s.deadline {
-        return Verdict::Bad;
+        return Holds::No;
     }
     if s.octets < MIN_OCTETS {
-        return Verdict::Bad;
+        return Holds::No;
     }
     if MAX_OCTETS < s.octets {
-        return Verdict::Bad;
+        return Holds::No;
     }
     if s.count < 1 {
-        return Verdict::Bad;
+        return Holds::No;
     }
     if MAX_ROUTE < s.count {
-        return Verdict::Bad;
+        return Holds::No;
     }
-    Verdict::Good
+    Holds::Yes
 }
 
 // Whether a stream is in range, begins at the leg that is next, and does not pass the last of them.
-fn stream_told(s: Stream, next: usize, legs: usize) -> Verdict
+fn stream_told(s: Stream, next: usize, legs: usize) -> Holds
     requires { ⌜ legs ≤ maxLegs ⌝ }
     requires { ⌜ next ≤ legs ⌝ }
     ensures { λ r. ⌜ Tells (StreamFits s next legs) r ⌝ }
 {
     if table::wide(s.first) != next {
-        return Verdict::Bad;
+        return Holds::No;
     }
     if legs - next < table::wide(s.count) {
-        return Verdict::Bad;
+        return Holds::No;
     }
     range_told(s)
 }
@@ -75,10 +75,10 @@ pub fn lowest_bad_stream(t: &[u32]) -> Found
         let s = table::parts::stream_in(streams, i);
         let told = stream_told(s, next, legs);
         match told {
-            Verdict::Bad => {
+            Holds::No => {
                 return Found::At(i);
             }
-            Verdict::Good => {}
+            Holds::Yes => {}
         }
         next = next + table::wide(s.count);
         i = i + 1;

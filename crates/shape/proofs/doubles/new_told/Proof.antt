@@ -8,7 +8,7 @@ use Rattle.table.proofs.PartLaws.{link-inside, link-of-part}
 use Rattle.shape.specs.Links.{SameEnds}
 use Rattle.shape.specs.Steps.{Tells}
 use Rattle.shape.specs.Buckets.{ChainAt}
-use Rattle.shape.specs.declared.Verdict.{Verdict}
+use Rattle.shape.specs.declared.Holds.{Holds}
 use Rattle.shape.proofs.DoubleLaws.{Along, along-start, along-inside, along-less, along-next, along-end}
 use Rattle.shape.proofs.doubles.new_told.Statement.{statement}
 use Rattle.shape.proofs.doubles.new_told.Tie as tie
@@ -20,7 +20,7 @@ abbrev μ-loop : tie.MeasureT-loop
 μ-loop t earlier i start links l c₀ c = c
 
 -- Where the ends are told: the start's premise, the chain so far, that it goes on, and what was told.
-module _ (c : tie.After-ends-told Inv-loop μ-loop) where
+module _ (c : tie.After-same-ends-told Inv-loop μ-loop) where
   pre-of : ChainAt (c .before .before .before .before .before .before .before .before .args .t .now)
       (c .before .before .before .before .before .before .before .before .args .earlier .now)
       (c .before .before .before .before .before .before .before .before .args .i)
@@ -34,14 +34,14 @@ module _ (c : tie.After-ends-told Inv-loop μ-loop) where
   pos-of : 0 < c .before .before .before .loop .c
   pos-of = c .before .before .loop-test .taken
 
-  ends : (r : Verdict) → c .ends-told .result ≡ r
+  ends : (r : Holds) → c .same-ends-told .result ≡ r
       → Tells (SameEnds (linkAt (c .before .before .before .before .before .before .before .before .args .t .now) (c .before .before .before .loop .c - 1))
       (linkAt (c .before .before .before .before .before .before .before .before .args .t .now) (c .before .before .before .before .before .before .before .before .args .i))) r
   ends r e =
       let i = c .before .before .before .loop .inv in
       let m : c .before .link-in2 .result ≡ linkAt (c .before .before .before .before .before .before .before .before .args .t .now) (c .before .before .before .loop .c - 1)
       = c .before .link-in2 .ensures ∙ rw (i .0) (link-of-part _ _) in
-      subst (Tells _) e (rw (m, i .1) at (c .ends-told .ensures))
+      subst (Tells _) e (rw (m, i .1) at (c .same-ends-told .ensures))
 
 link-part-requires : tie.Need-link-part-requires Inv-loop μ-loop
 link-part-requires c κs = c .before .before .pre .sized
@@ -61,8 +61,8 @@ link-in-requires-2 c κs =
     let p = l .before .before .before .before .before .pre in
     rw (l .loop .inv .0) (link-inside _ (p .sized) _ (omega (arith, along-inside p (l .loop .inv .2) (c .loop-test .taken), p .link)))
 
-ends-told-requires : tie.Need-ends-told-requires Inv-loop μ-loop
-ends-told-requires c κs = search needs
+same-ends-told-requires : tie.Need-same-ends-told-requires Inv-loop μ-loop
+same-ends-told-requires c κs = search needs
 
 enum-told : tie.Need-enum-told Inv-loop μ-loop
 enum-told c = search needs
@@ -102,7 +102,7 @@ new-told-spec =
     loop-holds
     sub-j
     link-in-requires-2
-    ends-told-requires
+    same-ends-told-requires
     enum-told
     returns
     enum-told-2

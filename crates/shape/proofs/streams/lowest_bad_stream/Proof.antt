@@ -1,7 +1,8 @@
 -- `shape::streams::lowest_bad_stream` meets its contract: the streams passed are right, and their legs are counted. Assumes nothing.
 use Prim.Native.Nat.{ℕ, _-_}
 use mathlib.Core.Path.{_≡_, refl, _∙_, sym, ap, subst}
-use mathlib.Core.Logic.{inl, inr}
+use mathlib.Core.Logic.{inl, inr, ⊎-elim}
+use native.Mathlib.Nat.{eq-or-lt-of-le}
 use native.Mathlib.Omega.{arith}
 use borrow.Author.Needs.{needs}
 use borrow.Author.Count.{below-none}
@@ -106,7 +107,7 @@ returns-3 : tie.Need-returns-3 Inv-loop μ-loop
 returns-3 c =
     let i = c .before .before .loop .inv in
     let e = turn-end i (c .before .loop-test .left) in
-    inr (i .count-is, e .0, λ s. c .if1 .left (sym (e .1) ∙ s ∙ sym (i .legs-are)))
+    inr (i .count-is, e .0, ⊎-elim (λ q. absurd (c .if1 .left q)) (λ l. omega (arith, e .1, i .legs-are)) (eq-or-lt-of-le (i .within)))
 
 pub lowest-bad-stream-spec : {M : Type 1} → statement M
 lowest-bad-stream-spec =

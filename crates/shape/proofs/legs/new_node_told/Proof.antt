@@ -1,4 +1,4 @@
--- `shape::legs::ends_told` meets its contract: no leg passed ends at the node. Assumes nothing.
+-- `shape::legs::new_node_told` meets its contract: no leg passed ends at the node. Assumes nothing.
 use Prim.Native.Nat.{ℕ, _-_, _≤_}
 use mathlib.Core.Path.{_≡_, _∙_, sym, ap}
 use native.Mathlib.Omega.{arith}
@@ -6,8 +6,8 @@ use borrow.Author.Needs.{needs}
 use Rattle.table.specs.declared.Link.{Link}
 use Rattle.shape.specs.Routes.{NoEndAt}
 use Rattle.shape.proofs.LegLaws.{at-inside, earlier-inside, earlier-link, no-end-more}
-use Rattle.shape.proofs.legs.ends_told.Statement.{statement}
-use Rattle.shape.proofs.legs.ends_told.Tie as tie
+use Rattle.shape.proofs.legs.new_node_told.Statement.{statement}
+use Rattle.shape.proofs.legs.new_node_told.Tie as tie
 
 abbrev Inv-loop : tie.InvT-loop
 Inv-loop t s first a node b₀ b = (first ≤ b) × (b ≤ a) × NoEndAt t first b node
@@ -45,8 +45,8 @@ loop-again c =
 returns-2 : tie.Need-returns-2 Inv-loop μ-loop
 returns-2 c = λ j f l e. c .before .loop .inv .2 j f (omega (arith, c .loop-test .left)) e
 
-pub ends-told-spec : {M : Type 1} → statement M
-ends-told-spec =
+pub new-node-told-spec : {M : Type 1} → statement M
+new-node-told-spec =
     tie.close
     (tie.spec
     Inv-loop
