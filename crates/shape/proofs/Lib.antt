@@ -4,3 +4,4 @@ pub mod StreamLaws
 pub mod LegLaws
 pub mod OneShape
 pub mod Placed
+pub mod Moved

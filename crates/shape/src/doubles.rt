@@ -10,7 +10,7 @@ use crate::Found;
 use crate::Holds;
 use table::Link;
 
-// A prime, and a step by which the links of lines, rings, stars and grids fall apart.
+// A prime, and a step by which the links of lines, rings and stars fall apart.
 const BUCKETS: usize = 509;
 
 const BUCKET_STEP: usize = 325;
