@@ -15,10 +15,10 @@ use Rattle.table.specs.declared.Stream.{Stream}
 use Rattle.shape.specs.Streams.{legsBefore, StreamRight}
 use Rattle.shape.specs.Legs.{linkOf, firstOf, LegRight}
 use Rattle.shape.specs.Shape.{All}
-use Rattle.shape.specs.Steps.{Tells}
+use Rattle.basics.specs.Tells.{Tells}
 use Rattle.shape.specs.Routes.{BeforeLegs, AtLeg, AllFrom, NoEndAt, GoesOn}
-use Rattle.shape.specs.declared.Holds.{Holds}
-use Rattle.shape.specs.declared.Holds.the-variants.{Yes, No}
+use Rattle.basics.specs.declared.Holds.{Holds}
+use Rattle.basics.specs.declared.Holds.the-variants.{Yes, No}
 use Rattle.shape.proofs.StreamLaws.{legs-more}
 
 -- The legs before a later stream are as many or more.

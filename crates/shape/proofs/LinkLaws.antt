@@ -4,9 +4,9 @@ use Prim.Native.Nat.{ℕ, _≤_}
 use mathlib.Core.Path.{_≡_}
 use Rattle.table.specs.declared.Link.{Link}
 use Rattle.shape.specs.Links.{maxNode, maxPropagation, IsRate, LinkInRange}
-use Rattle.shape.specs.Steps.{Tells}
-use Rattle.shape.specs.declared.Holds.{Holds}
-use Rattle.shape.specs.declared.Holds.the-variants.{Yes, No}
+use Rattle.basics.specs.Tells.{Tells}
+use Rattle.basics.specs.declared.Holds.{Holds}
+use Rattle.basics.specs.declared.Holds.the-variants.{Yes, No}
 
 pub by-rate : (l : Link) (r : Holds) → l .from ≤ maxNode → l .to ≤ maxNode → (l .from ≡ l .to → ⊥) → l .propagation ≤ maxPropagation
     → Tells (IsRate (l .rate)) r → Tells (LinkInRange l) r

@@ -11,9 +11,10 @@ use Rattle.table.specs.Records.{streamPart, streamAt}
 use Rattle.table.specs.declared.Stream.{Stream}
 use Rattle.shape.specs.Streams.{StreamInRange, legsBefore, StreamRight}
 use Rattle.shape.specs.Shape.{All}
-use Rattle.shape.specs.Steps.{Tells, StreamFits}
-use Rattle.shape.specs.declared.Holds.{Holds}
-use Rattle.shape.specs.declared.Holds.the-variants.{Yes, No}
+use Rattle.basics.specs.Tells.{Tells}
+use Rattle.shape.specs.Steps.{StreamFits}
+use Rattle.basics.specs.declared.Holds.{Holds}
+use Rattle.basics.specs.declared.Holds.the-variants.{Yes, No}
 
 pub by-range : (s : Stream) (next g : ℕ) (r : Holds) → s .first ≡ next → next + s .count ≤ g → Tells (StreamInRange s) r → Tells (StreamFits s next g) r
 by-range s next g Yes f w h = record { in-range = h; first = f; within = w }

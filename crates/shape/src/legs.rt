@@ -5,10 +5,11 @@ ghost use Rattle.table.specs.Layout.{linkCount, streamCount, legCount, Sized};
 ghost use Rattle.table.specs.Records.{streamAt, legAt};
 ghost use Rattle.shape.specs.Streams.{legsBefore};
 ghost use Rattle.shape.specs.Legs.{linkOf, LegRight};
-ghost use Rattle.shape.specs.Steps.{Tells, Finds};
+ghost use Rattle.basics.specs.Tells.{Tells};
+ghost use Rattle.shape.specs.Steps.{Finds};
 ghost use Rattle.shape.specs.Routes.{FindsFrom, BeforeLegs, AtLeg, NoEndAt, GoesOn};
 use crate::Found;
-use crate::Holds;
+use basics::Holds;
 use table::Link;
 
 // The link of a leg.

@@ -3,9 +3,10 @@ ghost use Prim.Native.Nat.{_≤_};
 ghost use Rattle.table.specs.Layout.{linkCount, Sized};
 ghost use Rattle.shape.specs.Links.{IsRate, LinkInRange};
 ghost use Rattle.shape.specs.Shape.{LinkRight};
-ghost use Rattle.shape.specs.Steps.{Tells, Finds};
+ghost use Rattle.basics.specs.Tells.{Tells};
+ghost use Rattle.shape.specs.Steps.{Finds};
 use crate::Found;
-use crate::Holds;
+use basics::Holds;
 use table::Link;
 
 pub const MAX_NODE: u32 = 65535;

@@ -3,9 +3,10 @@ ghost use mathlib.Core.Path.{_≡_};
 ghost use Prim.Native.Nat.{_≤_};
 ghost use Rattle.table.specs.Layout.{maxLegs, Sized};
 ghost use Rattle.shape.specs.Streams.{StreamInRange};
-ghost use Rattle.shape.specs.Steps.{Tells, StreamFits, FindsStreams};
+ghost use Rattle.basics.specs.Tells.{Tells};
+ghost use Rattle.shape.specs.Steps.{StreamFits, FindsStreams};
 use crate::Found;
-use crate::Holds;
+use basics::Holds;
 use table::Stream;
 
 pub const MAX_PERIOD: u32 = 1000000000;

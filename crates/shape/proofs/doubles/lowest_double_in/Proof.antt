@@ -8,7 +8,7 @@ use borrow.Author.Count.{below-none, below-more}
 use Rattle.table.specs.Layout.{linkCount, Sized}
 use Rattle.table.specs.Records.{linkAt}
 use Rattle.table.proofs.PartLaws.{link-inside, link-of-part}
-use Rattle.shape.specs.Steps.{Tells}
+use Rattle.basics.specs.Tells.{Tells}
 use Rattle.shape.specs.Buckets.{ChainAt, bucketOf, buckets}
 use Rattle.shape.proofs.DoubleLaws.{Turn, kept-none, kept-chain, kept-next}
 use Rattle.shape.proofs.doubles.lowest_double_in.Statement.{statement}

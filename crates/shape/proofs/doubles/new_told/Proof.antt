@@ -6,9 +6,9 @@ use borrow.Author.Needs.{needs}
 use Rattle.table.specs.Records.{linkPart, linkAt}
 use Rattle.table.proofs.PartLaws.{link-inside, link-of-part}
 use Rattle.shape.specs.Links.{SameEnds}
-use Rattle.shape.specs.Steps.{Tells}
+use Rattle.basics.specs.Tells.{Tells}
 use Rattle.shape.specs.Buckets.{ChainAt}
-use Rattle.shape.specs.declared.Holds.{Holds}
+use Rattle.basics.specs.declared.Holds.{Holds}
 use Rattle.shape.proofs.DoubleLaws.{Along, along-start, along-inside, along-less, along-next, along-end}
 use Rattle.shape.proofs.doubles.new_told.Statement.{statement}
 use Rattle.shape.proofs.doubles.new_told.Tie as tie

@@ -4,7 +4,7 @@ use mathlib.Core.Path.{_≡_, subst}
 use native.Mathlib.Omega.{arith}
 use borrow.Author.Needs.{needs}
 use Rattle.shape.specs.Legs.{LegRight}
-use Rattle.shape.specs.Steps.{Tells}
+use Rattle.basics.specs.Tells.{Tells}
 use Rattle.shape.specs.Routes.{AtLeg, AllFrom}
 use Rattle.shape.proofs.LegLaws.{at-inside, all-from-more}
 use Rattle.shape.proofs.legs.lowest_in_stream.Statement.{statement}

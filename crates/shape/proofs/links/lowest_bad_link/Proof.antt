@@ -9,7 +9,7 @@ use Rattle.table.specs.Layout.{linkCount}
 use Rattle.table.specs.Records.{linkPart, linkAt}
 use Rattle.table.proofs.PartLaws.{link-inside, link-of-part}
 use Rattle.shape.specs.Shape.{LinkRight, All}
-use Rattle.shape.specs.Steps.{Tells}
+use Rattle.basics.specs.Tells.{Tells}
 use Rattle.shape.proofs.links.lowest_bad_link.Statement.{statement}
 use Rattle.shape.proofs.links.lowest_bad_link.Tie as tie
 

@@ -9,7 +9,8 @@ use borrow.Author.Count.{below-none}
 use Rattle.table.specs.Layout.{Sized}
 use Rattle.table.specs.Records.{streamAt}
 use Rattle.table.proofs.PartLaws.{stream-inside, stream-of-part}
-use Rattle.shape.specs.Steps.{Tells, StreamFits}
+use Rattle.basics.specs.Tells.{Tells}
+use Rattle.shape.specs.Steps.{StreamFits}
 use Rattle.shape.proofs.StreamLaws.{StreamTurn, legs-none, wrong-of, turn-next, turn-end}
 use Rattle.shape.proofs.streams.lowest_bad_stream.Statement.{statement}
 use Rattle.shape.proofs.streams.lowest_bad_stream.Tie as tie
