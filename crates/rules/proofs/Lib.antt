@@ -1,0 +1,4 @@
+pub mod Covering
+pub mod Judging
+pub mod Placing
+pub mod AtNumbers
