@@ -10,7 +10,7 @@ use Rattle.overlap.proofs.Law.{meeting-is-symmetric}
 use Rattle.overlap.proofs.AtNumbers.{overlap-at-numbers}
 use Rattle.rules.specs.Times.{wireTime, holdTime, startOf, arrivalOf}
 use Rattle.rules.specs.Rules.{Window, Hop, Deadline, Overlap}
-use Rattle.rules.specs.Places.{PlaceHolds}
+use Rattle.rules.specs.Places.{placeAt, PlaceHolds}
 use Rattle.rules.specs.Theorems.{planA, StarredCases, AcceptedPlanExists}
 use Rattle.rules.proofs.Covering.{places-cover-the-rules}
 
@@ -75,7 +75,7 @@ overlap-at (suc (suc zero)) (suc (suc b)) l m e = absurd (omega arith)
 overlap-at (suc (suc (suc a))) b l m e = absurd (omega arith)
 
 all-twelve : (a p : ℕ) → a < 3 → p < 3 + a → PlaceHolds moved a p
-unfolding PlaceHolds
+unfolding placeAt
 all-twelve a zero l q = window-at a l
 all-twelve a (suc zero) l q = hop-at a l
 all-twelve a (suc (suc zero)) l q = deadline-at a l

@@ -10,7 +10,7 @@ use Rattle.basics.proofs.Splits.{lt-or-ge}
 use Rattle.table.specs.Layout.{legCount}
 use Rattle.overlap.proofs.Law.{meeting-is-symmetric}
 use Rattle.rules.specs.Rules.{Overlap, RulesHold}
-use Rattle.rules.specs.Places.{PlaceHolds, AllPlacesHold}
+use Rattle.rules.specs.Places.{placeAt, PlaceHolds, AllPlacesHold}
 use Rattle.rules.specs.Theorems.{PlacesCoverTheRules}
 
 pub overlap-symmetric : (t : List ℕ) (a b : ℕ) → Overlap t a b → Overlap t b a
@@ -18,7 +18,7 @@ unfolding Overlap
 overlap-symmetric t a b o e = meeting-is-symmetric _ _ _ _ _ _ (o (sym e))
 
 rules-of : (t : List ℕ) → AllPlacesHold t → RulesHold t
-unfolding PlaceHolds
+unfolding placeAt
 rules-of t h = record {
   window = λ a l. h a 0 l (omega arith);
   hop = λ a l. h a 1 l (omega arith);
@@ -32,7 +32,7 @@ rules-of t h = record {
 }
 
 places-of : (t : List ℕ) → RulesHold t → (a p : ℕ) → a < legCount t → p < 3 + a → PlaceHolds t a p
-unfolding PlaceHolds
+unfolding placeAt
 places-of t r a zero l b = r .window a l
 places-of t r a (suc zero) l b = r .hop a l
 places-of t r a (suc (suc zero)) l b = r .deadline a l

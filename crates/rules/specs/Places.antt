@@ -13,17 +13,19 @@ use Rattle.rules.specs.declared.Judged.the-variants.{Kept, Broken}
 abbrev pub placesOf : ℕ → ℕ
 placesOf a = 3 + a
 
-unfoldable pub ruleAt : ℕ → Rule
-ruleAt zero = rule.Window
-ruleAt (suc zero) = rule.Hop
-ruleAt (suc (suc zero)) = rule.Deadline
-ruleAt (suc (suc (suc b))) = rule.Overlap
+-- What stands at a place: its rule, and that it holds there of leg a of table t.
+pub record Place : Type 1 where
+  pub rule : Rule
+  pub holds : List ℕ → ℕ → Type 0
 
-unfoldable pub PlaceHolds : List ℕ → ℕ → ℕ → Type 0
-PlaceHolds t a zero = Window t a
-PlaceHolds t a (suc zero) = Hop t a
-PlaceHolds t a (suc (suc zero)) = Deadline t a
-PlaceHolds t a (suc (suc (suc b))) = Overlap t a b
+unfoldable pub placeAt : ℕ → Place
+placeAt zero = record { rule = rule.Window; holds = Window }
+placeAt (suc zero) = record { rule = rule.Hop; holds = Hop }
+placeAt (suc (suc zero)) = record { rule = rule.Deadline; holds = Deadline }
+placeAt (suc (suc (suc b))) = record { rule = rule.Overlap; holds = λ t a. Overlap t a b }
+
+abbrev pub PlaceHolds : List ℕ → ℕ → ℕ → Type 0
+PlaceHolds t a p = placeAt p .holds t a
 
 -- All places of all legs hold.
 abbrev pub AllPlacesHold : List ℕ → Type 0
@@ -32,4 +34,4 @@ AllPlacesHold t = (a p : ℕ) → a < legCount t → p < placesOf a → PlaceHol
 -- What is judged at a place: the rule holds there, or it is broken, and which one it is.
 abbrev pub JudgedTold : List ℕ → ℕ → ℕ → Judged → Type 0
 JudgedTold t a p Kept = PlaceHolds t a p
-JudgedTold t a p (Broken r) = (PlaceHolds t a p → ⊥) × (r ≡ ruleAt p)
+JudgedTold t a p (Broken r) = (PlaceHolds t a p → ⊥) × (r ≡ placeAt p .rule)
