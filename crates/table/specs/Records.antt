@@ -44,7 +44,7 @@ legIn p i = record {
   offset = getD p (legWords * i + 2) 0;
 }
 
--- Record i of a table. The layers above use these names and the laws of proofs/PartLaws.antt, and open nothing.
+-- Record i of a table. The layers above use these names and the laws of proofs/PartLaws.antt, and open them only to count out a table of numbers.
 unfoldable pub linkAt : List ℕ → ℕ → Link
 linkAt t i = linkIn (linkPart t) i
 
