@@ -1,10 +1,10 @@
 -- The law at the numbers of document 01. Assumes nothing.
-use Prim.Native.Nat.{ℕ, _+_, _-_, _*_, _%_, _∣_, _≤_, _<_}
+use Prim.Native.Nat.{ℕ, _+_, _%_, _∣_, _≤_, _<_}
 use mathlib.Core.Path.{_≡_, refl}
 use native.Mathlib.Nat.{dvd-sub, one-dvd, zero-add}
 use native.Mathlib.Omega.{arith}
 use Rattle.overlap.specs.Meeting.{NeverMeet}
-use Rattle.overlap.specs.Divisor.{IsGcd, IsGap, Apart}
+use Rattle.overlap.specs.Divisor.{IsGcd, IsGap}
 use Rattle.overlap.specs.Theorems.{OverlapAtNumbers}
 use Rattle.overlap.proofs.Law.{divisor-law}
 use Rattle.overlap.proofs.Euclid.{gap-is}

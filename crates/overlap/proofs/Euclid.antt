@@ -1,7 +1,7 @@
 -- One step of Euclid keeps the greatest common divisor, and a divisor of positive numbers is positive and no greater.
 -- Assumes nothing.
-use Prim.Native.Nat.{ℕ, _+_, _-_, _%_, _∣_, _≤_, _<_}
-use mathlib.Core.Path.{_≡_, refl, _∙_, sym, ap}
+use Prim.Native.Nat.{ℕ, _+_, _-_, _%_, _≤_, _<_}
+use mathlib.Core.Path.{_≡_, _∙_, sym, ap}
 use native.Mathlib.Nat.{dvd-mod-iff, dvd-refl, dvd-zero, le-of-dvd, pos-of-dvd-of-pos, mod-lt, mod-add-mod, add-mod-mod, mod-mod, add-mod-right}
 use native.Mathlib.Omega.{arith}
 use Rattle.overlap.specs.Divisor.{IsGcd, IsGap}

@@ -1,14 +1,14 @@
 -- The divisor law. Two repeats that share an instant lie as far apart, by the divisor, as the instants since their starts; and where the gap leaves
 -- room for an instant, some repeats reach it. Assumes nothing.
 use Prim.Native.Nat.{ℕ, _+_, _*_, _-_, _%_, _≤_, _<_}
-use mathlib.Core.Path.{_≡_, refl, _∙_, sym, ap}
+use mathlib.Core.Path.{_≡_, _∙_, sym, ap}
 use mathlib.Core.Logic.{⊎-elim}
 use native.Mathlib.Omega.{arith}
 use Rattle.basics.proofs.Splits.{lt-or-ge}
-use Rattle.overlap.specs.Meeting.{OnWire, NeverMeet}
+use Rattle.overlap.specs.Meeting.{NeverMeet}
 use Rattle.overlap.specs.Divisor.{IsGcd, IsGap, Apart}
 use Rattle.overlap.specs.Theorems.{DivisorLaw, MeetingIsSymmetric}
-use Rattle.overlap.proofs.Congruent.{Meets, congruent}
+use Rattle.overlap.proofs.Congruent.{congruent}
 use Rattle.overlap.proofs.Remainders.{repeats-fall-away, add-same, cancel-start, whole-turn}
 
 module _ (oa pa wa ob pb wb g r : ℕ) (d : IsGcd pa pb g) (gap : IsGap oa ob g r) where

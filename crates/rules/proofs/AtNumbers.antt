@@ -8,7 +8,7 @@ use Rattle.table.specs.Records.{linkAt, streamAt, legAt}
 use Rattle.overlap.specs.Meeting.{NeverMeet}
 use Rattle.overlap.proofs.Law.{meeting-is-symmetric}
 use Rattle.overlap.proofs.AtNumbers.{overlap-at-numbers}
-use Rattle.rules.specs.Times.{wireTime, holdTime, startOf, arrivalOf}
+use Rattle.rules.specs.Times.{wireTime, holdTime, startOf}
 use Rattle.rules.specs.Rules.{Window, Hop, Deadline, Overlap}
 use Rattle.rules.specs.Places.{placeAt, PlaceHolds}
 use Rattle.rules.specs.Theorems.{planA, StarredCases, AcceptedPlanExists}

@@ -1,14 +1,12 @@
 -- What the tests of the four rules rest on, over a leg's frame. Assumes nothing.
 use Prim.Native.Nat.{ℕ, _+_, _≤_, _<_}
-use mathlib.Core.Path.{_≡_, refl, _∙_, sym, ap}
+use mathlib.Core.Path.{_≡_, _∙_, sym, ap}
 use mathlib.Core.List.{List}
 use native.Mathlib.Omega.{arith}
 use Rattle.basics.specs.Tells.{Tells}
 use Rattle.basics.specs.declared.Holds.{Holds}
 use Rattle.basics.specs.declared.Holds.the-variants.{Yes, No}
-use Rattle.table.specs.Layout.{legCount}
 use Rattle.table.specs.Records.{legAt}
-use Rattle.shape.specs.Legs.{firstOf, endOf}
 use Rattle.overlap.specs.declared.Slot.{Slot}
 use Rattle.overlap.specs.Meeting.{NeverMeet}
 use Rattle.rules.specs.Times.{startOf, arrivalOf}

@@ -1,5 +1,5 @@
 -- Wire times and starts (document 01, "What must hold").
-use Prim.Native.Nat.{ℕ, _+_, _*_, _≤_}
+use Prim.Native.Nat.{ℕ, _+_, _*_}
 use mathlib.Core.List.{List}
 use Rattle.table.specs.Layout.{precisionOf}
 use Rattle.table.specs.Records.{legAt}

@@ -1,6 +1,5 @@
 // Each rule, judged.
 ghost use mathlib.Core.Path.{_≡_};
-ghost use Prim.Native.Nat.{_≤_};
 ghost use Rattle.basics.specs.Tells.{Tells};
 ghost use Rattle.table.specs.Records.{legAt};
 ghost use Rattle.rules.specs.Rules.{Window, Hop, Deadline, Overlap};

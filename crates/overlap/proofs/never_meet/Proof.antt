@@ -1,5 +1,5 @@
 -- `overlap::never_meet` meets its contract, by the divisor law. Assumes nothing.
-use Prim.Native.Nat.{ℕ, _≤_, _<_}
+use Prim.Native.Nat.{_≤_, _<_}
 use native.Mathlib.Omega.{arith}
 use Rattle.overlap.specs.Meeting.{NeverMeet}
 use Rattle.overlap.specs.Divisor.{Apart}

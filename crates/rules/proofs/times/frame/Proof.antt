@@ -1,8 +1,8 @@
 -- `rules::times::frame` meets its contract: the leg, its stream and its link are records of the table's parts. Assumes nothing.
-use Prim.Native.Nat.{ℕ, _+_, _≤_}
-use mathlib.Core.Path.{_≡_, refl, _∙_, sym, ap}
+use Prim.Native.Nat.{_≤_}
+use mathlib.Core.Path.{_≡_, _∙_, ap}
 use native.Mathlib.Omega.{arith}
-use Rattle.table.specs.Records.{linkAt, streamAt, legAt}
+use Rattle.table.specs.Records.{legAt}
 use Rattle.table.specs.declared.Leg.{Leg}
 use Rattle.table.specs.declared.Link.{Link}
 use Rattle.table.specs.declared.Stream.{Stream}

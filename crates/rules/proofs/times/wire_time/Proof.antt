@@ -1,6 +1,5 @@
 -- `rules::times::wire_time` meets its contract: at most 1,530 octets at 800 ns. Assumes nothing.
-use Prim.Native.Nat.{ℕ, _+_, _*_, _≤_}
-use mathlib.Core.Path.{_≡_}
+use Prim.Native.Nat.{_+_, _*_, _≤_}
 use native.Mathlib.Nat.{mul-le-mul}
 use native.Mathlib.Omega.{arith}
 use Rattle.rules.specs.Times.{preambleOctets, wireTime, maxTime}
