@@ -4,9 +4,6 @@ use borrow.Author.Needs.{needs}
 use lib.ListN.{length}
 use Rattle.file_cases.proofs.plans.same.Statement.{statement}
 use Rattle.file_cases.proofs.plans.same.Tie as tie
-use Rattle.file_cases.proofs.plans.same.Reads as reads
-use Rattle.file_cases.proofs.plans.same.Lts as lts
-use Rattle.file_cases.proofs.plans.same_word.Reads as same-word-reads
 
 abbrev Inv-loop : tie.InvT-loop
 Inv-loop a b i₀ i = i ≤ length a
@@ -14,51 +11,39 @@ Inv-loop a b i₀ i = i ≤ length a
 abbrev μ-loop : tie.MeasureT-loop
 μ-loop a b i₀ i = length a - i
 
--- src/plans.rt:195:9
 returns : tie.Need-returns Inv-loop μ-loop
 returns c = search needs
 
--- src/plans.rt:198:5
 loop-holds : tie.Need-loop-holds Inv-loop μ-loop
 loop-holds c = search needs
 
--- src/plans.rt:199:22
 mul-same-word : tie.Need-mul-same-word Inv-loop μ-loop
 mul-same-word c = search needs
 
--- src/plans.rt:199:22
 shared-slice-read-same-word : tie.Need-shared-slice-read-same-word Inv-loop μ-loop
 shared-slice-read-same-word c = search needs
 
--- src/plans.rt:199:28
 mul-same-word-2 : tie.Need-mul-same-word-2 Inv-loop μ-loop
 mul-same-word-2 c = search needs
 
--- src/plans.rt:199:28
 shared-slice-read-same-word-2 : tie.Need-shared-slice-read-same-word-2 Inv-loop μ-loop
 shared-slice-read-same-word-2 c = search needs
 
--- src/plans.rt:199:12
 same-word-requires : tie.Need-same-word-requires Inv-loop μ-loop
 same-word-requires c κs = search needs
 
--- src/plans.rt:200:17
 add-i : tie.Need-add-i Inv-loop μ-loop
 add-i c = search needs
 
--- src/plans.rt:198:5
 loop-less : tie.Need-loop-less Inv-loop μ-loop
 loop-less c = search needs
 
--- src/plans.rt:198:5
 loop-again : tie.Need-loop-again Inv-loop μ-loop
 loop-again c = search needs
 
--- src/plans.rt:202:13
 returns-2 : tie.Need-returns-2 Inv-loop μ-loop
 returns-2 c = search needs
 
--- src/plans.rt:193:1
 returns-3 : tie.Need-returns-3 Inv-loop μ-loop
 returns-3 c = search needs
 
