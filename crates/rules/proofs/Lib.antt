@@ -1,4 +1,3 @@
 pub mod Covering
 pub mod Judging
 pub mod Placing
-pub mod AtNumbers

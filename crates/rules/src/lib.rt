@@ -24,6 +24,7 @@ pub struct Frame {
     pub wire: u64,
     pub hold: u64,
     pub propagation: u64,
+    pub link: u32,
     pub period: u64,
     pub deadline: u64,
     pub first: usize,

@@ -53,13 +53,17 @@ module _ (t : List ℕ) (i : ℕ) where
 
 pub plan-a-reads-so : PlanAReadsSo
 unfolding linkAt streamAt legAt
-plan-a-reads-so = record {
+plan-a-reads-so t0 t1 d0 o0 o1 o2 = record {
   sized = record {
     head = omega arith;
     limits = record { links = omega arith; streams = omega arith; legs = omega arith; precision = omega arith };
     exact = refl;
   };
-  link = refl;
-  stream = refl;
-  leg = refl;
+  link-0 = refl;
+  link-1 = refl;
+  stream-0 = refl;
+  stream-1 = refl;
+  leg-0 = refl;
+  leg-1 = refl;
+  leg-2 = refl;
 }
