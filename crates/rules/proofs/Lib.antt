@@ -1,3 +1,4 @@
 pub mod Covering
 pub mod Judging
 pub mod Placing
+pub mod AtNumbers

@@ -1,0 +1,4 @@
+pub mod Ranks
+pub mod ChainLaws
+pub mod MeetingLaws
+pub mod LegLaws

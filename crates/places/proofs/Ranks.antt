@@ -1,0 +1,138 @@
+-- The order of places: more legs have more places, and a place lies among those of its leg. Assumes nothing.
+use Prim.Native.Nat.{ℕ, zero, suc, _+_, _*_, _-_, _/_, _≤_, _<_}
+use mathlib.Core.Path.{_≡_, refl, _∙_, sym, ap, subst}
+use mathlib.Core.List.{List}
+use mathlib.Core.Logic.{_⊎_, inl, inr, ⊎-elim}
+use native.Mathlib.Nat.{add-zero, add-mul, mul-add, mul-sub, mul-one, eq-or-lt-of-le, le-mul-of-pos-right, mul-div-cancel-left}
+use native.Mathlib.Numerals.{add-one}
+use native.Mathlib.Omega.{arith}
+use Rattle.basics.proofs.Splits.{lt-or-ge}
+use Rattle.table.specs.Layout.{legCount}
+use Rattle.rules.specs.Places.{placesOf, PlaceHolds}
+use Rattle.places.specs.Order.{placesBelow, rank, IsPlace, IsEnd, Stands, placeCount, HoldFrom}
+use Rattle.places.specs.Told.{LegHolds}
+use Rattle.places.specs.Theorems.{CountOfPlaces, Earlier, OrderIsByLeg, RankIsOne, EndIsLast}
+
+pub below-none : placesBelow 0 ≡ 0
+unfolding placesBelow
+below-none = refl
+
+pub below-more : (a : ℕ) → placesBelow (a + 1) ≡ placesBelow a + placesOf a
+unfolding placesBelow
+below-more a = rw (add-one a)
+
+below-up : (a n : ℕ) → placesBelow a ≤ placesBelow (a + n)
+below-up a zero = omega (arith, ap placesBelow (add-zero a))
+below-up a (suc n) =
+    let e : a + suc n ≡ a + n + 1 = omega arith in
+    omega (arith, below-up a n, below-more (a + n), ap placesBelow e)
+
+pub below-mono : (a b : ℕ) → a ≤ b → placesBelow a ≤ placesBelow b
+below-mono a b h = let e : a + (b - a) ≡ b = omega arith in omega (arith, below-up a (b - a), ap placesBelow e)
+
+-- A leg below another has all its places before that one's.
+pub leg-below : (a b p : ℕ) → a < b → p < placesOf a → rank a p < placesBelow b
+leg-below a b p l h = omega (arith, below-more a, below-mono (a + 1) b (omega arith))
+
+twice : (g : ℕ) → 2 * placesBelow g ≡ g * (g + 5)
+unfolding placesBelow
+twice zero = refl
+twice (suc g) =
+    let e : suc g ≡ g + 1 = omega arith in
+    let i = twice g in
+    let x : (g + 1) * (g + 1 + 5) ≡ g * (g + 1 + 5) + 1 * (g + 1 + 5) = add-mul g 1 (g + 1 + 5) in
+    let y : g * (g + 1 + 5) ≡ g * (g + 5) + g * 1 = ap (λ (z : ℕ). g * z) (omega arith) ∙ mul-add g (g + 5) 1 in
+    let z = mul-one g in
+    omega arith
+
+-- The product that is halved.
+pub half : (g : ℕ) → g * (g + 5) / 2 ≡ placesBelow g
+half g = sym (ap (λ (x : ℕ). x / 2) (twice g)) ∙ mul-div-cancel-left (placesBelow g) (omega arith)
+
+square : (g : ℕ) → g ≤ g * g
+square zero = omega arith
+square (suc g) = le-mul-of-pos-right (suc g) (omega arith)
+
+pub count-of-places : CountOfPlaces
+count-of-places t =
+    let g = legCount t in
+    let e = twice g in
+    let m : g * (g + 5) ≡ g * g + g * 5 = mul-add g g 5 in
+    let s : g * (g - 1) ≡ g * g - g * 1 = mul-sub g g 1 in
+    let o = mul-one g in
+    let q = square g in
+    let x : g * (g - 1) ≡ 2 * (placesBelow g - 3 * g) = omega arith in
+    let h : g * (g - 1) / 2 ≡ placesBelow g - 3 * g = ap (λ (z : ℕ). z / 2) x ∙ mul-div-cancel-left (placesBelow g - 3 * g) (omega arith) in
+    omega arith
+
+module _ {t : List ℕ} where
+  pub end-rank : {a p : ℕ} → IsEnd t a p → rank a p ≡ placeCount t
+  end-rank e = omega (arith, ap placesBelow (e .leg), e .place)
+
+  pub place-rank : {a p : ℕ} → IsPlace t a p → rank a p < placeCount t
+  place-rank {a} {p} i = leg-below a (legCount t) p (i .leg) (i .place)
+
+  -- What stands at a leg below another comes before it.
+  stands-before : (a p b q : ℕ) → Stands t a p → Stands t b q → a < b → rank a p < rank b q
+  stands-before a p b q s u l =
+      ⊎-elim
+      (λ (i : IsPlace t a p). omega (arith, leg-below a b p l (i .place)))
+      (λ (e : IsEnd t a p).
+      ⊎-elim (λ (j : IsPlace t b q). absurd (omega (arith, e .leg, j .leg))) (λ (j : IsEnd t b q). absurd (omega (arith, e .leg, j .leg))) u)
+      s
+
+  pub rank-is-one : (a p b q : ℕ) → Stands t a p → Stands t b q → rank a p ≡ rank b q → (a ≡ b) × (p ≡ q)
+  rank-is-one a p b q s u e =
+      ⊎-elim
+      (λ (l : a < b). absurd (omega (arith, stands-before a p b q s u l)))
+      (λ (l : b ≤ a).
+      ⊎-elim
+      (λ (m : b ≡ a). let n = ap placesBelow m in (sym m, omega arith))
+      (λ (m : b < a). absurd (omega (arith, stands-before b q a p u s m)))
+      (eq-or-lt-of-le l))
+      (lt-or-ge a b)
+
+  pub order-is-by-leg : (a p b q : ℕ) → Stands t a p → Stands t b q → (rank a p < rank b q → Earlier a p b q) × (Earlier a p b q → rank a p < rank b q)
+  order-is-by-leg a p b q s u = (
+    λ h.
+        ⊎-elim
+        (λ (l : a < b). inl l)
+        (λ (l : b ≤ a).
+        ⊎-elim
+        (λ (m : b ≡ a). let n = ap placesBelow m in inr (sym m, omega arith))
+        (λ (m : b < a). absurd (omega (arith, stands-before b q a p u s m)))
+        (eq-or-lt-of-le l))
+        (lt-or-ge a b),
+    λ h. ⊎-elim (λ (l : a < b). stands-before a p b q s u l) (λ (m : (a ≡ b) × (p < q)). omega (arith, ap placesBelow (m .0), m .1)) h,
+  )
+
+  -- Where the places up to (a,p) hold, and those of leg a from p on and below q, the places up to (a,q) hold.
+  pub held-on : (n a p q : ℕ) → HoldFrom t n (rank a p) → LegHolds t a p q → q ≤ placesOf a → HoldFrom t n (rank a q)
+  held-on n a p q h l le b s i from below =
+      ⊎-elim
+      (λ (k : rank b s < rank a p). h b s i from k)
+      (λ (k : rank a p ≤ rank b s).
+      ⊎-elim
+      (λ (m : b < a). absurd (omega (arith, leg-below b a s m (i .place))))
+      (λ (m : a ≤ b).
+      ⊎-elim
+      (λ (e : a ≡ b). let n = ap placesBelow e in subst (λ (c : ℕ). PlaceHolds t c s) e (l s (omega arith) (omega arith)))
+      (λ (g : a < b). absurd (omega (arith, below-more a, below-mono (a + 1) b (omega arith))))
+      (eq-or-lt-of-le m))
+      (lt-or-ge b a))
+      (lt-or-ge (rank b s) (rank a p))
+
+  pub held-none : (n : ℕ) → HoldFrom t n n
+  held-none n b s i from below = absurd (omega arith)
+
+pub next-leg : (a : ℕ) → rank a (placesOf a) ≡ rank (a + 1) 0
+next-leg a = omega (arith, below-more a)
+
+pub rank-one : RankIsOne
+rank-one t = rank-is-one
+
+pub order-by-leg : OrderIsByLeg
+order-by-leg t = order-is-by-leg
+
+pub end-is-last : EndIsLast
+end-is-last t a p = (end-rank, place-rank)

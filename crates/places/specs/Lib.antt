@@ -1,0 +1,4 @@
+pub mod Order
+pub mod Chains
+pub mod Told
+pub mod Theorems

@@ -1,0 +1,59 @@
+-- What is told of the places of one leg.
+use Prim.Native.Nat.{ℕ, _+_, _≤_, _<_}
+use mathlib.Core.Path.{_≡_}
+use mathlib.Core.List.{List}
+use Rattle.shape.specs.declared.Found.{Found}
+use Rattle.shape.specs.declared.Found.the-variants as found
+use Rattle.rules.specs.Places.{placesOf, placeAt, PlaceHolds}
+use Rattle.rules.specs.Rules.{Overlap}
+use Rattle.rules.specs.Steps.{LegIn, FrameOf}
+use Rattle.rules.specs.declared.Frame.{Frame}
+use Rattle.rules.specs.declared.Rule.{Rule}
+use Rattle.places.specs.Chains.{Chained}
+use Rattle.places.specs.declared.LegTold.{LegTold}
+use Rattle.places.specs.declared.LegTold.the-variants.{Broken, Kept}
+
+-- The places of leg a from p on and below q hold.
+abbrev pub LegHolds : List ℕ → ℕ → ℕ → ℕ → Type 0
+LegHolds t a p q = (s : ℕ) → p ≤ s → s < q → PlaceHolds t a s
+
+-- Place q of leg a, from p on and below the limit, is the lowest that does not hold, and r is its rule.
+pub record FirstBroken (t : List ℕ) (a p limit q : ℕ) (r : Rule) : Type 0 where
+  pub from : p ≤ q
+  pub below : q < limit
+  pub before : LegHolds t a p q
+  pub broken : PlaceHolds t a q → ⊥
+  pub rule : r ≡ placeAt q .rule
+
+-- What is told of the places of leg a from p on and below the limit.
+abbrev pub ToldOfLeg : List ℕ → ℕ → ℕ → ℕ → LegTold → Type 0
+ToldOfLeg t a p limit (Broken q r) = FirstBroken t a p limit q r
+ToldOfLeg t a p limit Kept = LegHolds t a p limit
+
+-- Leg a and each leg from n on and below m, if they share a link, never meet.
+abbrev pub Clear : List ℕ → ℕ → ℕ → ℕ → Type 0
+Clear t a n m = (b : ℕ) → n ≤ b → b < m → Overlap t a b
+
+-- Leg b, from n on and below m, is the lowest that leg a meets.
+pub record FirstMet (t : List ℕ) (a n m b : ℕ) : Type 0 where
+  pub from : n ≤ b
+  pub below : b < m
+  pub before : Clear t a n b
+  pub meets : Overlap t a b → ⊥
+
+abbrev pub ToldOfMeeting : List ℕ → ℕ → ℕ → ℕ → Found → Type 0
+ToldOfMeeting t a n m (found.At b) = FirstMet t a n m b
+ToldOfMeeting t a n m found.Nowhere = Clear t a n m
+
+-- Leg a of a table, its frame, and the chains of all legs.
+pub record LegLooked (t next : List ℕ) (a : ℕ) (f : Frame) : Type 0 where
+  pub leg : LegIn t a
+  pub frame : FrameOf t a f
+  pub chained : Chained t next 0
+
+-- The lesser of two numbers.
+pub record IsLesser (x y r : ℕ) : Type 0 where
+  pub left : r ≤ x
+  pub right : r ≤ y
+  pub is-left : x ≤ y → r ≡ x
+  pub is-right : y ≤ x → r ≡ y

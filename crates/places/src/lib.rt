@@ -1,0 +1,56 @@
+// The places of a leg, looked at in order.
+ghost use mathlib.Core.Path.{_≡_};
+ghost use Prim.Native.Nat.{_-_, _≤_};
+ghost use Rattle.table.specs.Layout.{maxLegs};
+ghost use Rattle.rules.specs.Places.{placesOf};
+ghost use Rattle.places.specs.Order.{placesBelow};
+ghost use Rattle.places.specs.Told.{IsLesser};
+use rules::Rule;
+
+pub mod chains;
+pub mod leg;
+
+// The places of a leg in front of its overlaps.
+pub const OWN_PLACES: usize = 3;
+
+// What is told of some places of a leg: the first that is broken and its rule, or that all are kept.
+pub enum LegTold {
+    Broken(usize, Rule),
+    Kept,
+}
+
+// Internal: how many places leg a has.
+pub fn places_of(a: usize) -> usize
+    requires { ⌜ a ≤ maxLegs ⌝ }
+    ensures { λ r. ⌜ r ≡ placesOf a ⌝ }
+{
+    OWN_PLACES + a
+}
+
+// Internal: how many places so many legs have.
+pub fn place_count(legs: usize) -> usize
+    requires { ⌜ legs ≤ maxLegs ⌝ }
+    ensures { λ r. ⌜ r ≡ placesBelow legs ⌝ }
+{
+    legs * (legs + 5) / 2
+}
+
+// How far x is past y, and 0 where it is not.
+fn less(x: usize, y: usize) -> usize
+    ensures { λ r. ⌜ r ≡ x - y ⌝ }
+{
+    if x < y {
+        return 0;
+    }
+    x - y
+}
+
+// Internal: the lesser of two numbers.
+pub fn lesser(x: usize, y: usize) -> usize
+    ensures { λ r. ⌜ IsLesser x y r ⌝ }
+{
+    if x < y {
+        return x;
+    }
+    y
+}
