@@ -40,14 +40,14 @@ streams-not-right (inr (e, b, n)) a c = omega arith
 
 -- How far a refusal has passed: what it asks of the table, by its number.
 module _ {t : List ℕ} where
-  well-no-fault : {k p : ℕ} → WellFormedTable t → ShapeFault t k p → ⊥
+  pub well-no-fault : {k p : ℕ} → WellFormedTable t → ShapeFault t k p → ⊥
   well-no-fault w (inl (f, e)) = sized-no-fault t _ (w .sized) f
   well-no-fault w (inr (inl (e, f))) = not-all (f .lowest) (w .links)
   well-no-fault w (inr (inr (inl (e, f)))) = not-all (f .lowest) (w .new-links)
   well-no-fault w (inr (inr (inr (inl (e, f))))) = streams-not-right (f .wrong) (w .streams) (w .counts)
   well-no-fault w (inr (inr (inr (inr (e, f))))) = not-all (f .lowest) (w .legs)
 
-  fault-one : {k p l q : ℕ} → ShapeFault t k p → ShapeFault t l q → (k ≡ l) × (p ≡ q)
+  pub fault-one : {k p l q : ℕ} → ShapeFault t k p → ShapeFault t l q → (k ≡ l) × (p ≡ q)
   fault-one (inl (f, e)) (inl (g, d)) = (fault-once t _ _ f g, e ∙ sym d)
   fault-one (inl (f, e)) (inr (inl (d, g))) = absurd (sized-no-fault t _ (g .sized) f)
   fault-one (inl (f, e)) (inr (inr (inl (d, g)))) = absurd (sized-no-fault t _ (g .sized) f)

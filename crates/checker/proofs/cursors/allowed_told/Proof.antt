@@ -1,0 +1,25 @@
+-- `checker::cursors::allowed_told` meets its contract. Assumes nothing.
+use mathlib.Core.Logic.{inl, inr}
+use mathlib.Core.Path.{refl}
+use borrow.Author.Needs.{needs}
+use Rattle.checker.proofs.cursors.allowed_told.Statement.{statement}
+use Rattle.checker.proofs.cursors.allowed_told.Tie as tie
+
+shared-slice-read-if1 : tie.Need-shared-slice-read-if1
+shared-slice-read-if1 c = search needs
+
+returns : tie.Need-returns
+returns c = inr (record { cursor = c .before .before .pre; at = refl; cause = inl (record { number = refl; not-below = c .if1 .taken }) })
+
+shared-slice-read-if2 : tie.Need-shared-slice-read-if2
+shared-slice-read-if2 c = search needs
+
+returns-2 : tie.Need-returns-2
+returns-2 c = inr (record { cursor = c .before .before .before .before .pre; at = refl; cause = inr (record { number = refl; below = c .before .before .if1 .left; last = c .if2 .taken }) })
+
+returns-3 : tie.Need-returns-3
+returns-3 c = search needs
+
+pub allowed-told-spec : {M : Type 1} → statement M
+allowed-told-spec =
+    tie.close (tie.spec shared-slice-read-if1 returns shared-slice-read-if2 returns-2 returns-3)

@@ -1,0 +1,36 @@
+-- `checker::cursors::judged_cursor` meets its contract. Assumes nothing.
+use mathlib.Core.Logic.{inl}
+use mathlib.Core.Path.{subst}
+use Rattle.shape.specs.Shape.{ShapeTold}
+use borrow.Author.Needs.{needs}
+use Rattle.checker.proofs.cursors.judged_cursor.Statement.{statement}
+use Rattle.checker.proofs.cursors.judged_cursor.Tie as tie
+
+judged-shape-requires : tie.Need-judged-shape-requires
+judged-shape-requires c κs = search needs
+
+enum-known-told : tie.Need-enum-known-told
+enum-known-told c = search needs
+
+enum-told : tie.Need-enum-told
+enum-told c = search needs
+
+placed-told-requires : tie.Need-placed-told-requires
+placed-told-requires c κs = subst (ShapeTold _) (c .enum-told .given .1) (c .before .before .judged-shape .ensures)
+
+returns : tie.Need-returns
+returns c = inl (subst (ShapeTold _) (c .before .told .given .1) (c .before .before .before .judged-shape .ensures))
+
+returns-2 : tie.Need-returns-2
+returns-2 c = search needs
+
+pub judged-cursor-spec : {M : Type 1} → statement M
+judged-cursor-spec =
+    tie.close
+    (tie.spec
+    judged-shape-requires
+    enum-known-told
+    enum-told
+    placed-told-requires
+    returns
+    returns-2)

@@ -1,0 +1,45 @@
+-- Cursors, and the refusals 8 and 9 (document 01, "Places and slices" and "Numbered refusals").
+use Prim.Native.Nat.{ℕ}
+use mathlib.Core.Path.{_≡_}
+use mathlib.Core.List.{List}
+use mathlib.Core.Logic.{_⊎_}
+use Rattle.table.specs.Layout.{revisionOf}
+use Rattle.shape.specs.Shape.{WellFormedTable, ShapeFault}
+use Rattle.files.specs.declared.Cursor.{Cursor}
+use Rattle.places.specs.Order.{rank, Stands}
+
+-- How many places come before a cursor's.
+abbrev pub cursorRank : Cursor → ℕ
+cursorRank c = rank (c .leg) (c .place)
+
+-- A cursor of the table's revision, at a place or at the end of a well-formed table.
+pub record CursorRight (t : List ℕ) (c : Cursor) : Type 0 where
+  pub shape : WellFormedTable t
+  pub revision : c .revision ≡ revisionOf t
+  pub stands : Stands t (c .leg) (c .place)
+
+-- 8: the cursor's revision is not the table's. 9: the cursor is no place and not the end.
+abbrev pub staleCursor : ℕ
+staleCursor = 8
+
+abbrev pub noPlace : ℕ
+noPlace = 9
+
+pub record Stale (t : List ℕ) (c : Cursor) (k : ℕ) : Type 0 where
+  pub number : k ≡ staleCursor
+  pub other : c .revision ≡ revisionOf t → ⊥
+
+pub record Lost (t : List ℕ) (c : Cursor) (k : ℕ) : Type 0 where
+  pub number : k ≡ noPlace
+  pub revision : c .revision ≡ revisionOf t
+  pub nowhere : Stands t (c .leg) (c .place) → ⊥
+
+-- The cursor of a well-formed table is wrong, at 0.
+pub record CursorWrong (t : List ℕ) (c : Cursor) (k p : ℕ) : Type 0 where
+  pub shape : WellFormedTable t
+  pub at : p ≡ 0
+  pub cause : Stale t c k ⊎ Lost t c k
+
+-- The first refusal that is due: 1 to 7, then 8, then 9.
+abbrev pub CursorFault : List ℕ → Cursor → ℕ → ℕ → Type 0
+CursorFault t c k p = ShapeFault t k p ⊎ CursorWrong t c k p

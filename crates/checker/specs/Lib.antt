@@ -1,0 +1,5 @@
+pub mod Cursors
+pub mod Slices
+pub mod Moves
+pub mod Theorems
+pub mod Steps

@@ -1,0 +1,59 @@
+-- What a move promises, by the cases of its answer (document 01, "Places and slices"), with the refusals 10 and 11.
+use Prim.Native.Nat.{ℕ, _+_, _≤_, _<_}
+use mathlib.Core.Path.{_≡_}
+use mathlib.Core.List.{List}
+use mathlib.Core.Logic.{_⊎_}
+use Rattle.numbers.specs.Number.{maxWord}
+use Rattle.table.specs.Layout.{revisionOf, legCount}
+use Rattle.table.specs.Records.{moved}
+use Rattle.files.specs.declared.Cursor.{Cursor}
+use Rattle.places.specs.Order.{rank}
+use Rattle.checker.specs.Cursors.{cursorRank, CursorRight, CursorFault}
+use Rattle.checker.specs.declared.Grant.{Grant}
+use Rattle.checker.specs.declared.Grant.the-variants as grant
+
+-- 10: the leg is not below G. 11: a move at revision 4,294,967,295.
+abbrev pub noLeg : ℕ
+noLeg = 10
+
+abbrev pub lastRevision : ℕ
+lastRevision = 11
+
+pub record NoLeg (t : List ℕ) (leg k : ℕ) : Type 0 where
+  pub number : k ≡ noLeg
+  pub not-below : legCount t ≤ leg
+
+pub record LastRevision (t : List ℕ) (leg k : ℕ) : Type 0 where
+  pub number : k ≡ lastRevision
+  pub below : leg < legCount t
+  pub last : revisionOf t ≡ maxWord
+
+-- The cursor is right and the move is wrong, at 0.
+pub record MoveWrong (t : List ℕ) (c : Cursor) (leg k p : ℕ) : Type 0 where
+  pub cursor : CursorRight t c
+  pub at : p ≡ 0
+  pub cause : NoLeg t leg k ⊎ LastRevision t leg k
+
+-- The first refusal that is due: 1 to 9, then 10, then 11.
+abbrev pub MoveFault : List ℕ → Cursor → ℕ → ℕ → ℕ → Type 0
+MoveFault t c leg k p = CursorFault t c k p ⊎ MoveWrong t c leg k p
+
+-- The cursor d is at the lesser of the place of c and (leg,0).
+pub record AtTheLesser (c : Cursor) (leg : ℕ) (d : Cursor) : Type 0 where
+  pub one : ((d .leg ≡ c .leg) × (d .place ≡ c .place)) ⊎ ((d .leg ≡ leg) × (d .place ≡ 0))
+  pub given : cursorRank d ≤ cursorRank c
+  pub moved : cursorRank d ≤ rank leg 0
+
+-- A granted move: the table t becomes t′, and the cursor d is of the new revision.
+pub record MoveRight (t : List ℕ) (c : Cursor) (leg offset : ℕ) (d : Cursor) (t′ : List ℕ) : Type 0 where
+  pub cursor : CursorRight t c
+  pub below : leg < legCount t
+  pub rises : revisionOf t < maxWord
+  pub table : t′ ≡ moved t leg offset
+  pub revision : d .revision ≡ revisionOf t + 1
+  pub lesser : AtTheLesser c leg d
+
+-- A move of one leg of table t, which becomes t′; a refused one leaves all.
+abbrev pub Moves : List ℕ → Cursor → ℕ → ℕ → Grant → List ℕ → Type 0
+Moves t c leg offset (grant.Granted d) t′ = MoveRight t c leg offset d t′
+Moves t c leg offset (grant.Refused k p d) t′ = MoveFault t c leg k p × (d ≡ c) × (t′ ≡ t)

@@ -1,0 +1,109 @@
+// Cursors, judged and pulled back.
+ghost use Rattle.basics.specs.Tells.{Tells};
+ghost use Rattle.table.specs.Layout.{Sized};
+ghost use Rattle.shape.specs.Shape.{WellFormedTable};
+ghost use Rattle.places.specs.Order.{Stands};
+ghost use Rattle.checker.specs.Cursors.{CursorRight};
+ghost use Rattle.checker.specs.Steps.{CursorTold, MoveTold, PulledBack};
+use basics::Holds;
+use files::Cursor;
+use shape::Shape;
+
+pub const STALE_CURSOR: u32 = 8;
+
+pub const NO_PLACE: u32 = 9;
+
+pub const NO_LEG: u32 = 10;
+
+pub const LAST_REVISION: u32 = 11;
+
+pub const MAX_REVISION: u32 = 4294967295;
+
+// Whether (a,p) is a place of the table, or the end.
+fn stands_told(t: &[u32], a: u32, p: u32) -> Holds
+    requires { ⌜ Sized (now t) ⌝ }
+    ensures { λ r. ⌜ Tells (Stands (now (t .entry)) a p) r ⌝ }
+{
+    if a < t[table::LEGS_AT] {
+        if table::wide(p) < places::places_of(table::wide(a)) {
+            return Holds::Yes;
+        }
+        return Holds::No;
+    }
+    if t[table::LEGS_AT] < a {
+        return Holds::No;
+    }
+    if 0 < p {
+        return Holds::No;
+    }
+    Holds::Yes
+}
+
+// The refusals 8 and 9, or none, of a well-formed table.
+fn placed_told(t: &[u32], c: Cursor) -> Shape
+    requires { ⌜ WellFormedTable (now t) ⌝ }
+    ensures { λ r. ⌜ CursorTold (now (t .entry)) c r ⌝ }
+{
+    if c.revision != t[table::REVISION_AT] {
+        return Shape::Wrong(STALE_CURSOR, 0);
+    }
+    let told = stands_told(t, c.leg, c.place);
+    match told {
+        Holds::Yes => Shape::Right,
+        Holds::No => Shape::Wrong(NO_PLACE, 0),
+    }
+}
+
+// Internal: the first of the refusals 1 to 9 that is due, or none.
+pub fn judged_cursor(t: &[u32], c: Cursor) -> Shape
+    ensures { λ r. ⌜ CursorTold (now (t .entry)) c r ⌝ }
+{
+    let told = shape::judged_shape(t);
+    match told {
+        Shape::Wrong(number, at) => Shape::Wrong(number, at),
+        Shape::Right => placed_told(t, c),
+    }
+}
+
+// The refusals 10 and 11, or none, of a right cursor.
+fn allowed_told(t: &[u32], c: Cursor, leg: u32) -> Shape
+    requires { ⌜ CursorRight (now t) c ⌝ }
+    ensures { λ r. ⌜ MoveTold (now (t .entry)) c leg r ⌝ }
+{
+    if t[table::LEGS_AT] <= leg {
+        return Shape::Wrong(NO_LEG, 0);
+    }
+    if t[table::REVISION_AT] == MAX_REVISION {
+        return Shape::Wrong(LAST_REVISION, 0);
+    }
+    Shape::Right
+}
+
+// Internal: the first of the refusals 1 to 11 that is due, or none.
+pub fn judged_move(t: &[u32], c: Cursor, leg: u32) -> Shape
+    ensures { λ r. ⌜ MoveTold (now (t .entry)) c leg r ⌝ }
+{
+    let told = judged_cursor(t, c);
+    match told {
+        Shape::Wrong(number, at) => Shape::Wrong(number, at),
+        Shape::Right => allowed_told(t, c, leg),
+    }
+}
+
+// Internal: the lesser of the cursor's place and (leg,0), at a revision.
+pub fn pulled_back(c: Cursor, revision: u32, leg: u32) -> Cursor
+    ensures { λ r. ⌜ PulledBack c revision leg r ⌝ }
+{
+    if c.leg < leg {
+        return Cursor {
+            revision,
+            leg: c.leg,
+            place: c.place,
+        };
+    }
+    Cursor {
+        revision,
+        leg,
+        place: 0,
+    }
+}

@@ -1,0 +1,75 @@
+// The check: start, slice and move.
+ghost use Rattle.checker.specs.Slices.{Starts, Slices};
+ghost use Rattle.checker.specs.Moves.{Moves};
+use files::Cursor;
+use rules::Rule;
+use shape::Shape;
+
+pub mod cursors;
+pub mod look;
+
+// What a start or a move gives: a cursor, or a refusal's number and position and the cursor as it was given.
+pub enum Grant {
+    Granted(Cursor),
+    Refused(u32, usize, Cursor),
+}
+
+// What a slice gives: violated, with the cursor of that place, the steps and the rule; nothing violated from here on, with the end cursor and the
+// steps; paused, with the cursor of the first place not looked at and the steps; or a refusal's number and position, and the cursor as it was given.
+pub enum SliceAnswer {
+    Violated(Cursor, u32, Rule),
+    NothingViolated(Cursor, u32),
+    Paused(Cursor, u32),
+    Refused(u32, usize, Cursor),
+}
+
+// Starts a check of a table.
+pub fn start(t: &[u32]) -> Grant
+    ensures { λ r. ⌜ Starts (now (t .entry)) r ⌝ }
+{
+    let told = shape::judged_shape(t);
+    match told {
+        Shape::Wrong(number, at) => Grant::Refused(
+            number,
+            at,
+            Cursor {
+                revision: 0,
+                leg: 0,
+                place: 0,
+            },
+        ),
+        Shape::Right => Grant::Granted(Cursor {
+            revision: t[table::REVISION_AT],
+            leg: 0,
+            place: 0,
+        }),
+    }
+}
+
+// Looks at places in order from a cursor on, as many as the budget says, and stops sooner only at a violated place or at the end.
+pub fn slice(t: &[u32], cursor: Cursor, budget: u32) -> SliceAnswer
+    ensures { λ r. ⌜ Slices (now (t .entry)) cursor budget r ⌝ }
+{
+    let told = cursors::judged_cursor(t, cursor);
+    match told {
+        Shape::Wrong(number, at) => SliceAnswer::Refused(number, at, cursor),
+        Shape::Right => look::looked(t, cursor, budget),
+    }
+}
+
+// Sets the offset of one leg, raises the revision by one, and pulls the cursor back to that leg where it stands behind its start.
+pub fn move_leg(t: &mut [u32], cursor: Cursor, leg: u32, offset: u32) -> Grant
+    ensures { λ r. ⌜ Moves (now (t .entry)) cursor leg offset r (now (t .exit)) ⌝ }
+{
+    let told = cursors::judged_move(t, cursor, leg);
+    match told {
+        Shape::Wrong(number, at) => Grant::Refused(number, at, cursor),
+        Shape::Right => {
+            let at = table::parts::offset_at(t, table::wide(leg));
+            let revision = t[table::REVISION_AT] + 1;
+            t[at] = offset;
+            t[table::REVISION_AT] = revision;
+            Grant::Granted(cursors::pulled_back(cursor, revision, leg))
+        }
+    }
+}
