@@ -53,7 +53,7 @@ not-greater a b =
     (b .one)
 
 module _ {t : List ℕ} {c : Cursor} where
-  right-no-fault : {k p : ℕ} → CursorRight t c → CursorFault t c k p → ⊥
+  pub right-no-fault : {k p : ℕ} → CursorRight t c → CursorFault t c k p → ⊥
   right-no-fault r (inl f) = well-no-fault (r .shape) f
   right-no-fault r (inr w) = ⊎-elim (λ s. s .other (r .revision)) (λ l. l .nowhere (r .stands)) (w .cause)
 
@@ -160,7 +160,7 @@ module _ {t : List ℕ} {c : Cursor} {leg : ℕ} where
   move-fault-one (inr v) (inr w) = move-wrong-one v w
 
   -- The lesser of two places stands where one of them does.
-  lesser-stands : {d : Cursor} → CursorRight t c → leg < legCount t → AtTheLesser c leg d → Stands t (d .leg) (d .place)
+  pub lesser-stands : {d : Cursor} → CursorRight t c → leg < legCount t → AtTheLesser c leg d → Stands t (d .leg) (d .place)
   lesser-stands r h a =
       ⊎-elim
       (λ e. rw (e .0, e .1) (r .stands))

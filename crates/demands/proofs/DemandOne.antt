@@ -1,0 +1,29 @@
+-- Demand 1, from the statements and theorems of each call. Assumes nothing.
+use Rattle.numbers.proofs.OneNumber.{read-number-one-answer, write-number-one-answer}
+use Rattle.files.proofs.OneAnswer.{read-plan-one-answer, write-plan-one-answer, read-cursor-one-answer, write-cursor-one-answer}
+use Rattle.checker.proofs.OneAnswer.{start-one-answer, slice-one-answer, move-one-answer}
+use Rattle.demands.specs.DemandOne.{DemandOne}
+
+pub demand-one : DemandOne
+demand-one = record {
+  one-answer = record {
+    read-number = read-number-one-answer;
+    write-number = write-number-one-answer;
+    read-plan = read-plan-one-answer;
+    write-plan = write-plan-one-answer;
+    read-cursor = read-cursor-one-answer;
+    write-cursor = write-cursor-one-answer;
+    start = start-one-answer;
+    slice = slice-one-answer;
+    move-leg = move-one-answer;
+  };
+  nothing-lost = record {
+    write-number = λ x at k p b b′ w. w .kept;
+    read-plan = λ s b b′ k p w. w .1;
+    write-plan = λ t b b′ k p w. w .2;
+    write-cursor = λ c d b b′ k p w. (w .0 .kept, w .1);
+    start = λ t d k p w. w .1;
+    slice = λ t c d b k p w. w .1;
+    move-leg = λ t t′ c d leg offset k p w. (w .2, w .1);
+  };
+}

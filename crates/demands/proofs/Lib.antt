@@ -1,0 +1,3 @@
+pub mod DemandOne
+pub mod Verdicts
+pub mod DemandTwo

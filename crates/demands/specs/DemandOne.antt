@@ -1,0 +1,46 @@
+-- Demand 1: any table, file, cursor, budget or move may be handed in. Each call ends with an answer or with a numbered refusal whose cause is fixed.
+-- A refused call changes no lent memory, and gives back any cursor it was given.
+use Prim.Native.Nat.{ℕ}
+use mathlib.Core.Path.{_≡_}
+use mathlib.Core.List.{List}
+use Rattle.numbers.specs.Calls.{WritesNumber}
+use Rattle.numbers.specs.Theorems.{ReadNumberOneAnswer, WriteNumberOneAnswer}
+use Rattle.numbers.specs.declared.Written.the-variants as written
+use Rattle.files.specs.Plan.{ReadsPlan, WritesPlan}
+use Rattle.files.specs.Cursors.{WritesCursor}
+use Rattle.files.specs.Theorems.{ReadPlanOneAnswer, WritePlanOneAnswer, ReadCursorOneAnswer, WriteCursorOneAnswer}
+use Rattle.files.specs.declared.Cursor.{Cursor}
+use Rattle.files.specs.declared.PlanRead.the-variants as plan
+use Rattle.files.specs.declared.CursorWritten.the-variants as saved
+use Rattle.checker.specs.Slices.{noCursor, Starts, Slices}
+use Rattle.checker.specs.Moves.{Moves}
+use Rattle.checker.specs.Theorems.{StartOneAnswer, SliceOneAnswer, MoveOneAnswer}
+use Rattle.checker.specs.declared.Grant.the-variants as grant
+use Rattle.checker.specs.declared.SliceAnswer.the-variants as answer
+
+-- Each public call has the one answer that its statement fixes.
+pub record OneAnswerEach : Type 0 where
+  pub read-number : ReadNumberOneAnswer
+  pub write-number : WriteNumberOneAnswer
+  pub read-plan : ReadPlanOneAnswer
+  pub write-plan : WritePlanOneAnswer
+  pub read-cursor : ReadCursorOneAnswer
+  pub write-cursor : WriteCursorOneAnswer
+  pub start : StartOneAnswer
+  pub slice : SliceOneAnswer
+  pub move-leg : MoveOneAnswer
+
+-- A refused call leaves the lent memory b, or the table t, as it was, and gives back the cursor c. A start is given none, and gives 0, 0, 0. The calls
+-- that are not named here are lent nothing to write and are given no cursor.
+pub record RefusalsLoseNothing : Type 0 where
+  pub write-number : (x at k p : ℕ) (b b′ : List ℕ) → WritesNumber x at b (written.Refused k p) b′ → b′ ≡ b
+  pub read-plan : (s b b′ : List ℕ) (k p : ℕ) → ReadsPlan s b (plan.Refused k p) b′ → b′ ≡ b
+  pub write-plan : (t b b′ : List ℕ) (k p : ℕ) → WritesPlan t b (written.Refused k p) b′ → b′ ≡ b
+  pub write-cursor : (c d : Cursor) (b b′ : List ℕ) (k p : ℕ) → WritesCursor c b (saved.Refused k p d) b′ → (b′ ≡ b) × (d ≡ c)
+  pub start : (t : List ℕ) (d : Cursor) (k p : ℕ) → Starts t (grant.Refused k p d) → d ≡ noCursor
+  pub slice : (t : List ℕ) (c d : Cursor) (budget k p : ℕ) → Slices t c budget (answer.Refused k p d) → d ≡ c
+  pub move-leg : (t t′ : List ℕ) (c d : Cursor) (leg offset k p : ℕ) → Moves t c leg offset (grant.Refused k p d) t′ → (t′ ≡ t) × (d ≡ c)
+
+pub record DemandOne : Type 0 where
+  pub one-answer : OneAnswerEach
+  pub nothing-lost : RefusalsLoseNothing
