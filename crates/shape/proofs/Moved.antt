@@ -5,7 +5,8 @@ use mathlib.Core.Path.{_≡_, refl, _∙_, sym, ap, subst}
 use mathlib.Core.List.{List}
 use native.Mathlib.Omega.{arith}
 use Rattle.table.specs.Layout.{linkCount, streamCount, legCount, Sized}
-use Rattle.table.specs.Records.{linkAt, streamAt, legAt}
+use Rattle.table.specs.Records.{linkAt, streamAt, legAt, moved}
+use Rattle.table.proofs.Moved.{moved-length, moved-links, moved-streams, moved-legs, moved-precision, moved-link, moved-stream, moved-leg-stream, moved-leg-link}
 use Rattle.table.specs.declared.Link.{Link}
 use Rattle.table.specs.declared.Stream.{Stream}
 use Rattle.shape.specs.Links.{LinkInRange, SameEnds, LinkNew}
@@ -37,10 +38,10 @@ module _ (t u : List ℕ) (m : SameButMoved t u) where
 
   module _ (w : WellFormedTable t) where
     -- The link and the stream of a leg stay.
-    link-of-moved : (b : ℕ) → b < legCount t → linkOf t b ≡ linkOf u b
+    pub link-of-moved : (b : ℕ) → b < legCount t → linkOf t b ≡ linkOf u b
     link-of-moved b h = m .link (legAt t b .link) (w .legs b h .link) ∙ ap (linkAt u) (m .leg-link b h)
 
-    stream-of-moved : (b : ℕ) → b < legCount t → streamOf t b ≡ streamOf u b
+    pub stream-of-moved : (b : ℕ) → b < legCount t → streamOf t b ≡ streamOf u b
     stream-of-moved b h = m .stream (legAt t b .stream) (w .legs b h .stream) ∙ ap (streamAt u) (m .leg-stream b h)
 
     stream-moved : (i : ℕ) → i < streamCount t → StreamRight u i
@@ -93,3 +94,17 @@ moves-keep-shape t u m w =
       counts = sym (ap (legsBefore u) s) ∙ sym (legs-moved t u m (streamCount t) (omega arith)) ∙ w .counts ∙ g;
       legs = λ a h. leg-moved t u m w a (omega arith);
     }
+
+-- A moved table differs in an offset and the revision alone.
+pub moved-same : (t : List ℕ) → Sized t → (a offset : ℕ) → a < legCount t → SameButMoved t (moved t a offset)
+moved-same t s a offset h = record {
+  long = sym (moved-length t s a offset h);
+  link-count = sym (moved-links t s a offset h);
+  stream-count = sym (moved-streams t s a offset h);
+  leg-count = sym (moved-legs t s a offset h);
+  precision = sym (moved-precision t s a offset h);
+  link = λ i l. sym (moved-link t s a offset h i l);
+  stream = λ i l. sym (moved-stream t s a offset h i l);
+  leg-stream = λ b l. sym (moved-leg-stream t s a offset h b l);
+  leg-link = λ b l. sym (moved-leg-link t s a offset h b l);
+}
