@@ -39,7 +39,7 @@ same-numbers d e r l p =
     x
 
 -- Two cursors at one place.
-one-cursor : {t : List ℕ} {d e : Cursor} → d .revision ≡ e .revision → Stands t (d .leg) (d .place) → Stands t (e .leg) (e .place) → cursorRank d ≡ cursorRank e → d ≡ e
+pub one-cursor : {t : List ℕ} {d e : Cursor} → d .revision ≡ e .revision → Stands t (d .leg) (d .place) → Stands t (e .leg) (e .place) → cursorRank d ≡ cursorRank e → d ≡ e
 one-cursor {d = d} {e = e} r s u h =
     let x = rank-is-one (d .leg) (d .place) (e .leg) (e .place) s u h in
     same-numbers d e r (x .0) (x .1)

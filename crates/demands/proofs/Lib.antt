@@ -1,3 +1,5 @@
 pub mod DemandOne
 pub mod Verdicts
 pub mod DemandTwo
+pub mod Runs
+pub mod DemandThree

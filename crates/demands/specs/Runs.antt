@@ -1,0 +1,100 @@
+-- Runs of the three calls (demand 3): a granted start followed by any mix of further starts, slices and moves, granted or refused, each given any cursor
+-- handed out earlier in the run, the table changed by the run's moves alone. The steps are the public calls' own statements.
+use Prim.Native.Nat.{ℕ, _+_}
+use mathlib.Core.Path.{_≡_}
+use mathlib.Core.List.{List, [], _∷_}
+use mathlib.Core.Logic.{_⊎_}
+use Rattle.files.specs.declared.Cursor.{Cursor}
+use Rattle.checker.specs.Slices.{Starts, Slices}
+use Rattle.checker.specs.Moves.{Moves}
+use Rattle.checker.specs.declared.Grant.{Grant}
+use Rattle.checker.specs.declared.Grant.the-variants.{Granted, Refused}
+use Rattle.checker.specs.declared.SliceAnswer.{SliceAnswer}
+use Rattle.checker.specs.declared.SliceAnswer.the-variants as answer
+use Rattle.demands.specs.Verdicts.{IsVerdict}
+
+-- A call and its answer: a start; a slice from a cursor with a budget; a move of a leg to an offset, given a cursor.
+pub data Call : Type 0 where
+  start : Grant → Call
+  slice : Cursor → ℕ → SliceAnswer → Call
+  move-leg : Cursor → ℕ → ℕ → Grant → Call
+
+-- The cursor in an answer. Every one counts as handed out.
+abbrev pub cursorOfGrant : Grant → Cursor
+cursorOfGrant (Granted d) = d
+cursorOfGrant (Refused k p d) = d
+
+abbrev pub cursorOfAnswer : SliceAnswer → Cursor
+cursorOfAnswer (answer.Violated d n r) = d
+cursorOfAnswer (answer.NothingViolated d n) = d
+cursorOfAnswer (answer.Paused d n) = d
+cursorOfAnswer (answer.Refused k p d) = d
+
+abbrev pub cursorOf : Call → Cursor
+cursorOf (start g) = cursorOfGrant g
+cursorOf (slice c budget r) = cursorOfAnswer r
+cursorOf (move-leg c leg offset g) = cursorOfGrant g
+
+-- The calls of a run stand in a list, the latest first. A cursor was handed out by one of them.
+abbrev pub HandedOut : Cursor → List Call → Type 0
+HandedOut c [] = ⊥
+HandedOut c (call ∷ earlier) = (c ≡ cursorOf call) ⊎ HandedOut c earlier
+
+-- A run begins with a granted start.
+abbrev pub Begins : List ℕ → Call → Type 0
+Begins t (start (Granted d)) = Starts t (Granted d)
+Begins t (start (Refused k p d)) = ⊥
+Begins t (slice c budget r) = ⊥
+Begins t (move-leg c leg offset g) = ⊥
+
+-- These calls are a run, and t is the table as it stands behind them.
+abbrev pub Run : List Call → List ℕ → Type 0
+Run [] t = ⊥
+Run (call ∷ []) t = Begins t call
+Run (start g ∷ call ∷ earlier) t = Run (call ∷ earlier) t × Starts t g
+Run (slice c budget r ∷ call ∷ earlier) t = Run (call ∷ earlier) t × HandedOut c (call ∷ earlier) × Slices t c budget r
+Run (move-leg c leg offset g ∷ call ∷ earlier) t = (u : List ℕ) × Run (call ∷ earlier) u × HandedOut c (call ∷ earlier) × Moves u c leg offset g t
+
+-- A start or a granted move, after which the check begins anew or goes back.
+abbrev pub Renews : Call → Type 0
+Renews (start g) = Unit {0}
+Renews (slice c budget r) = ⊥
+Renews (move-leg c leg offset (Granted d)) = Unit {0}
+Renews (move-leg c leg offset (Refused k p d)) = ⊥
+
+-- The newest cursor is the one in the last answer: that of the latest call of the part, or of the call before the part.
+abbrev pub newest : List Call → Call → Cursor
+newest [] last = cursorOf last
+newest (call ∷ part) last = cursorOf call
+
+-- A slice or a refused move that was given the cursor c.
+abbrev pub KeepsOn : Cursor → Call → Type 0
+KeepsOn c (start g) = ⊥
+KeepsOn c (slice d budget r) = d ≡ c
+KeepsOn c (move-leg d leg offset (Granted e)) = ⊥
+KeepsOn c (move-leg d leg offset (Refused k p e)) = d ≡ c
+
+-- The part of a run since the call last: no start and no granted move is in it, and each call was given the newest cursor.
+abbrev pub Since : List Call → Call → Type 0
+Since [] last = Unit {0}
+Since (call ∷ part) last = KeepsOn (newest part last) call × Since part last
+
+-- What the budgets of the slices of a part add up to.
+abbrev pub budgets : List Call → ℕ
+budgets [] = 0
+budgets (start g ∷ part) = budgets part
+budgets (slice c budget r ∷ part) = budget + budgets part
+budgets (move-leg c leg offset g ∷ part) = budgets part
+
+-- A slice is in a part; a slice that gave a verdict is in it.
+abbrev pub HasSlice : List Call → Type 0
+HasSlice [] = ⊥
+HasSlice (start g ∷ part) = HasSlice part
+HasSlice (slice c budget r ∷ part) = Unit {0}
+HasSlice (move-leg c leg offset g ∷ part) = HasSlice part
+
+abbrev pub HasVerdict : List Call → Type 0
+HasVerdict [] = ⊥
+HasVerdict (start g ∷ part) = HasVerdict part
+HasVerdict (slice c budget r ∷ part) = IsVerdict r ⊎ HasVerdict part
+HasVerdict (move-leg c leg offset g ∷ part) = HasVerdict part
