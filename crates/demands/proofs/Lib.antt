@@ -3,3 +3,4 @@ pub mod Verdicts
 pub mod DemandTwo
 pub mod Runs
 pub mod DemandThree
+pub mod AtNumbers

@@ -1,0 +1,47 @@
+-- Runs at numbers: Plan A with leg 2 at 576, which has twelve places and is accepted; and a table with no legs.
+use Prim.Native.Nat.{ℕ}
+use mathlib.Core.Path.{_≡_}
+use mathlib.Core.List.{List, [], _∷_}
+use Rattle.table.specs.Records.{moved}
+use Rattle.table.specs.PlanA.{planWith}
+use Rattle.files.specs.declared.Cursor.{Cursor}
+use Rattle.places.specs.Order.{placeCount}
+use Rattle.checker.specs.declared.Grant.the-variants.{Granted, Refused}
+use Rattle.checker.specs.declared.SliceAnswer.the-variants.{NothingViolated, Paused}
+use Rattle.checker.specs.declared.SliceAnswer.the-variants as answer
+use Rattle.demands.specs.Runs.{Call, start, slice, move-leg, Run, Since, budgets, HasVerdict}
+
+abbrev pub good : List ℕ
+good = planWith 100000 150000 2352 0 1176 576
+
+abbrev pub none : List ℕ
+none = 0 ∷ 0 ∷ 0 ∷ 0 ∷ 0 ∷ []
+
+abbrev pub at : ℕ → ℕ → ℕ → Cursor
+at revision leg place = record { revision = revision; leg = leg; place = place }
+
+-- A start, and a slice of 5 that pauses.
+abbrev pub begun : List Call
+begun = slice (at 0 0 0) 5 (Paused (at 0 1 2) 5) ∷ start (Granted (at 0 0 0)) ∷ []
+
+pub record RunsAtNumbers : Type 0 where
+  pub twelve : placeCount good ≡ 12
+  -- With budgets of 5 and 6 no verdict need come: one place is left. With 5 and 7 it comes, though the budget is just used up.
+  pub eleven : Run (slice (at 0 1 2) 6 (Paused (at 0 2 4) 6) ∷ begun) good
+  pub no-verdict : HasVerdict (slice (at 0 1 2) 6 (Paused (at 0 2 4) 6) ∷ slice (at 0 0 0) 5 (Paused (at 0 1 2) 5) ∷ []) → ⊥
+  pub verdict : Run (slice (at 0 1 2) 7 (NothingViolated (at 0 3 0) 7) ∷ begun) good
+  -- A budget of 0 looks at nothing, and at the end it is a verdict.
+  pub nothing-looked-at : Run (slice (at 0 1 2) 0 (Paused (at 0 1 2) 0) ∷ begun) good
+  pub at-the-end : Run (slice (at 0 3 0) 0 (NothingViolated (at 0 3 0) 0) ∷ slice (at 0 1 2) 7 (NothingViolated (at 0 3 0) 7) ∷ begun) good
+  -- A move behind the cursor pulls it back, one before it does not, and the old cursor is refused 8 from then on.
+  pub behind : Run (move-leg (at 0 1 2) 0 600 (Granted (at 1 0 0)) ∷ begun) (moved good 0 600)
+  pub before : Run (move-leg (at 0 1 2) 2 700 (Granted (at 1 1 2)) ∷ begun) (moved good 2 700)
+  pub stale : Run (slice (at 0 1 2) 5 (answer.Refused 8 0 (at 0 1 2)) ∷ move-leg (at 0 1 2) 2 700 (Granted (at 1 1 2)) ∷ begun) (moved good 2 700)
+  -- A refused move leaves the table and the cursor, and is no new beginning.
+  pub refused : Run (move-leg (at 0 1 2) 3 700 (Refused 10 0 (at 0 1 2)) ∷ begun) good
+  pub goes-on : Since (move-leg (at 0 1 2) 3 700 (Refused 10 0 (at 0 1 2)) ∷ slice (at 0 0 0) 5 (Paused (at 0 1 2) 5) ∷ []) (start (Granted (at 0 0 0)))
+  -- An older cursor than the newest is no part that counts.
+  pub not-newest : Since (slice (at 0 0 0) 7 (Paused (at 0 2 1) 7) ∷ slice (at 0 0 0) 5 (Paused (at 0 1 2) 5) ∷ []) (start (Granted (at 0 0 0))) → ⊥
+  -- No legs: no places, and a budget of 0 is enough once a slice has run.
+  pub no-legs : Run (slice (at 0 0 0) 0 (NothingViolated (at 0 0 0) 0) ∷ start (Granted (at 0 0 0)) ∷ []) none
+  pub no-places : placeCount none ≡ budgets (slice (at 0 0 0) 0 (NothingViolated (at 0 0 0) 0) ∷ [])
