@@ -12,10 +12,10 @@ use Rattle.shape.proofs.StreamLaws.{legs-none}
 use Rattle.shape.proofs.AtNumbers.{plan-a-is-well-formed}
 use Rattle.shape.proofs.Moved.{moved-same, moves-keep-shape}
 use Rattle.files.specs.declared.Cursor.{Cursor}
-use Rattle.rules.proofs.AtNumbers.{accepted-plan-exists}
+use Rattle.rules.proofs.AtNumbers.{starred-cases, accepted-plan-exists}
 use Rattle.rules.proofs.Covering.{places-cover-the-rules}
 use Rattle.places.specs.Order.{placesBelow, rank, Stands, HoldFrom}
-use Rattle.places.proofs.Ranks.{below-none, below-more}
+use Rattle.places.proofs.Ranks.{below-none, below-more, held-none}
 use Rattle.checker.specs.Cursors.{cursorRank, CursorRight}
 use Rattle.checker.specs.Slices.{Went, Ends, Pauses, Slices}
 use Rattle.checker.specs.Moves.{MoveRight, Moves}
@@ -23,7 +23,7 @@ use Rattle.checker.specs.declared.Grant.the-variants.{Granted, Refused}
 use Rattle.checker.specs.declared.SliceAnswer.the-variants.{NothingViolated, Paused}
 use Rattle.checker.specs.declared.SliceAnswer.the-variants as answer
 use Rattle.demands.specs.Runs.{start, slice, move-leg, Run}
-use Rattle.demands.specs.AtNumbers.{good, none, at, begun, RunsAtNumbers}
+use Rattle.demands.specs.AtNumbers.{good, bad, none, at, begun, RunsAtNumbers}
 
 shape : WellFormedTable good
 shape = plan-a-is-well-formed 0 1176 576
@@ -124,6 +124,17 @@ runs-at-numbers = record {
   );
   goes-on = (refl, (refl, _));
   not-newest = λ s. let e : _≡_ {A = ℕ} 0 1 = ap (λ (c : Cursor). c .leg) (s .0) in omega arith;
+  altered = (
+    (
+      record { shape = plan-a-is-well-formed 0 1176 575; revision = refl; stands = inr (record { leg = refl; place = refl }) },
+      record {
+        went = record { revision = refl; steps = omega arith; held = held-none {t = bad} (rank 3 0) };
+        end = record { leg = refl; place = refl };
+        within = omega arith;
+      },
+    ),
+    λ h. starred-cases .case-5 .1 (h .overlap 2 0 (omega arith) (omega arith) (λ e. omega (arith, e))),
+  );
   no-legs = (
     (no-records, refl),
     inl refl,

@@ -5,7 +5,9 @@ use mathlib.Core.List.{List, [], _∷_}
 use Rattle.table.specs.Records.{moved}
 use Rattle.table.specs.PlanA.{planWith}
 use Rattle.files.specs.declared.Cursor.{Cursor}
+use Rattle.rules.specs.Rules.{RulesHold}
 use Rattle.places.specs.Order.{placeCount}
+use Rattle.checker.specs.Slices.{Slices}
 use Rattle.checker.specs.declared.Grant.the-variants.{Granted, Refused}
 use Rattle.checker.specs.declared.SliceAnswer.the-variants.{NothingViolated, Paused}
 use Rattle.checker.specs.declared.SliceAnswer.the-variants as answer
@@ -13,6 +15,10 @@ use Rattle.demands.specs.Runs.{Call, start, slice, move-leg, Run, Since,
 
 abbrev pub good : List ℕ
 good = planWith 100000 150000 2352 0 1176 576
+
+-- One nanosecond earlier legs 0 and 2 meet.
+abbrev pub bad : List ℕ
+bad = planWith 100000 150000 2352 0 1176 575
 
 abbrev pub none : List ℕ
 none = 0 ∷ 0 ∷ 0 ∷ 0 ∷ 0 ∷ []
@@ -42,6 +48,8 @@ pub record RunsAtNumbers : Type 0 where
   pub goes-on : Since (move-leg (at 0 1 2) 3 700 (Refused 10 0 (at 0 1 2)) ∷ slice (at 0 0 0) 5 (Paused (at 0 1 2) 5) ∷ []) (start (Granted (at 0 0 0)))
   -- An older cursor than the newest is no part that counts.
   pub not-newest : Since (slice (at 0 0 0) 7 (Paused (at 0 2 1) 7) ∷ slice (at 0 0 0) 5 (Paused (at 0 1 2) 5) ∷ []) (start (Granted (at 0 0 0))) → ⊥
+  -- A cursor that no call handed out, here at the end of a table that breaks a rule, would be believed: demand 3 asks that cursors are not altered.
+  pub altered : Slices bad (at 0 3 0) 0 (NothingViolated (at 0 3 0) 0) × (RulesHold bad → ⊥)
   -- No legs: no places, and a budget of 0 is enough once a slice has run.
   pub no-legs : Run (slice (at 0 0 0) 0 (NothingViolated (at 0 0 0) 0) ∷ start (Granted (at 0 0 0)) ∷ []) none
   pub no-places : placeCount none ≡ budgets (slice (at 0 0 0) 0 (NothingViolated (at 0 0 0) 0) ∷ [])
