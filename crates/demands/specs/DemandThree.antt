@@ -2,7 +2,7 @@
 -- table, and cursors are not altered, each verdict is that of a whole check of the table as it stands then. With the newest cursor each time, a verdict
 -- has come since the start or last granted move once at least one slice has run since then and the budgets since then add up to at least the number of
 -- places.
-use Prim.Native.Nat.{ℕ, _+_, _≤_}
+use Prim.Native.Nat.{ℕ, _≤_}
 use mathlib.Core.Path.{_≡_}
 use mathlib.Core.List.{List, [], _∷_, _++_}
 use Rattle.files.specs.declared.Cursor.{Cursor}
