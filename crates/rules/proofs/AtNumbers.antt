@@ -301,53 +301,53 @@ more-cases = record {
 }
 
 -- The twelve places of the plan with leg 2 at 576.
-moved : List ℕ
-moved = planWith 100000 150000 2352 0 1176 576
+accepted : List ℕ
+accepted = planWith 100000 150000 2352 0 1176 576
 
-m0 : FrameOf moved 0 (f0 100000 150000 2352 0 1176 576)
-unfolding moved plan
+m0 : FrameOf accepted 0 (f0 100000 150000 2352 0 1176 576)
+unfolding accepted plan
 m0 = is-0 100000 150000 2352 0 1176 576 (omega arith) (omega arith) (omega arith)
 
-m1 : FrameOf moved 1 (f1 100000 150000 2352 0 1176 576)
-unfolding moved plan
+m1 : FrameOf accepted 1 (f1 100000 150000 2352 0 1176 576)
+unfolding accepted plan
 m1 = is-1 100000 150000 2352 0 1176 576 (omega arith) (omega arith) (omega arith)
 
-m2 : FrameOf moved 2 (f2 100000 150000 2352 0 1176 576)
-unfolding moved plan
+m2 : FrameOf accepted 2 (f2 100000 150000 2352 0 1176 576)
+unfolding accepted plan
 m2 = is-2 100000 150000 2352 0 1176 576 (omega arith) (omega arith) (omega arith)
 
-window-at : (a : ℕ) → a < 3 → Window moved a
+window-at : (a : ℕ) → a < 3 → Window accepted a
 unfolding f0 f1 f2
-window-at zero l = window-kept moved 0 _ m0 (omega arith)
-window-at (suc zero) l = window-kept moved 1 _ m1 (omega arith)
-window-at (suc (suc zero)) l = window-kept moved 2 _ m2 (omega arith)
+window-at zero l = window-kept accepted 0 _ m0 (omega arith)
+window-at (suc zero) l = window-kept accepted 1 _ m1 (omega arith)
+window-at (suc (suc zero)) l = window-kept accepted 2 _ m2 (omega arith)
 window-at (suc (suc (suc a))) l = absurd (omega arith)
 
-hop-at : (a : ℕ) → a < 3 → Hop moved a
-unfolding moved plan f0 f2
-hop-at zero l = first-has-no-hop moved 0 _ m0 (omega arith)
+hop-at : (a : ℕ) → a < 3 → Hop accepted a
+unfolding accepted plan f0 f2
+hop-at zero l = first-has-no-hop accepted 0 _ m0 (omega arith)
 hop-at (suc zero) l = hop-1 100000 150000 2352 0 1176 576 (omega arith) (omega arith) (omega arith) (omega arith)
-hop-at (suc (suc zero)) l = first-has-no-hop moved 2 _ m2 (omega arith)
+hop-at (suc (suc zero)) l = first-has-no-hop accepted 2 _ m2 (omega arith)
 hop-at (suc (suc (suc a))) l = absurd (omega arith)
 
-deadline-at : (a : ℕ) → a < 3 → Deadline moved a
-unfolding moved plan f2
+deadline-at : (a : ℕ) → a < 3 → Deadline accepted a
+unfolding accepted plan f2
 deadline-at zero l = deadline-0 100000 150000 2352 0 1176 576 (omega arith) (omega arith) (omega arith)
 deadline-at (suc zero) l = deadline-1 100000 150000 2352 0 1176 576 (omega arith) (omega arith) (omega arith) (omega arith)
-deadline-at (suc (suc zero)) l = deadline-kept moved 2 _ _ _ m2 m2 (ready-of moved 2 _ m2 (omega arith)) (omega arith)
+deadline-at (suc (suc zero)) l = deadline-kept accepted 2 _ _ _ m2 m2 (ready-of accepted 2 _ m2 (omega arith)) (omega arith)
 deadline-at (suc (suc (suc a))) l = absurd (omega arith)
 
-overlap-at : (a b : ℕ) → a < 3 → b < a → Overlap moved a b
-unfolding moved plan f0 f1 f2
+overlap-at : (a b : ℕ) → a < 3 → b < a → Overlap accepted a b
+unfolding accepted plan f0 f1 f2
 overlap-at zero b l m = absurd (omega arith)
-overlap-at (suc zero) zero l m = other-links-never-meet moved 1 0 0 _ m1 (m0 .link) (λ e. absurd (omega (arith, e)))
+overlap-at (suc zero) zero l m = other-links-never-meet accepted 1 0 0 _ m1 (m0 .link) (λ e. absurd (omega (arith, e)))
 overlap-at (suc zero) (suc b) l m = absurd (omega arith)
 overlap-at (suc (suc zero)) zero l m = meets-not 576 (omega arith) (overlap-at-numbers .at-576)
 overlap-at (suc (suc zero)) (suc zero) l m = other-link 100000 150000 2352 0 1176 576 (omega arith) (omega arith) (omega arith)
 overlap-at (suc (suc zero)) (suc (suc b)) l m = absurd (omega arith)
 overlap-at (suc (suc (suc a))) b l m = absurd (omega arith)
 
-all-twelve : (a p : ℕ) → a < 3 → p < 3 + a → PlaceHolds moved a p
+all-twelve : (a p : ℕ) → a < 3 → p < 3 + a → PlaceHolds accepted a p
 unfolding placeAt
 all-twelve a zero l q = window-at a l
 all-twelve a (suc zero) l q = hop-at a l
@@ -355,10 +355,10 @@ all-twelve a (suc (suc zero)) l q = deadline-at a l
 all-twelve a (suc (suc (suc b))) l q = overlap-at a b l (omega arith)
 
 pub accepted-plan-exists : AcceptedPlanExists
-unfolding moved f0 f2
+unfolding accepted f0 f2
 accepted-plan-exists = record {
   shape = plan-a-is-well-formed 0 1176 576;
-  rules = places-cover-the-rules moved .0 all-twelve;
+  rules = places-cover-the-rules accepted .0 all-twelve;
   inside = omega arith;
   same-link = sym (m0 .link) ∙ m2 .link;
 }
