@@ -107,11 +107,11 @@ pulled-to-lesser {t} {c} {d} {rev} {leg} s h b =
     let e = b .here k in
     let m = ap placesBelow (e .0) in
     let i = at-place s (omega arith) in
-    record { one = inl e; given = omega (arith, e .1); moved = omega (arith, e .1, leg-below (c .leg) leg (c .place) k (i .place)) })
+    record { one = inl e; given = omega (arith, e .1); to-leg = omega (arith, e .1, leg-below (c .leg) leg (c .place) k (i .place)) })
     (λ (k : leg ≤ c .leg).
     let e = b .there k in
     let m = ap placesBelow (e .0) in
-    record { one = inr e; given = omega (arith, e .1, below-mono leg (c .leg) k); moved = omega (arith, e .1) })
+    record { one = inr e; given = omega (arith, e .1, below-mono leg (c .leg) k); to-leg = omega (arith, e .1) })
     (lt-or-ge (c .leg) leg)
 
 -- What is neither a place nor the end.

@@ -49,7 +49,7 @@ not-greater : {c d e : Cursor} {leg : ℕ} → AtTheLesser c leg d → AtTheLess
 not-greater a b =
     ⊎-elim
     (λ x. let m = ap placesBelow (x .0) in omega (arith, a .given, x .1))
-    (λ x. let m = ap placesBelow (x .0) in omega (arith, a .moved, x .1))
+    (λ x. let m = ap placesBelow (x .0) in omega (arith, a .to-leg, x .1))
     (b .one)
 
 module _ {t : List ℕ} {c : Cursor} where

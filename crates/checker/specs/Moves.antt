@@ -16,15 +16,15 @@ use Rattle.checker.specs.declared.Grant.the-variants as grant
 abbrev pub noLeg : ℕ
 noLeg = 10
 
-abbrev pub lastRevision : ℕ
-lastRevision = 11
+abbrev pub cannotRise : ℕ
+cannotRise = 11
 
 pub record NoLeg (t : List ℕ) (leg k : ℕ) : Type 0 where
   pub number : k ≡ noLeg
   pub not-below : legCount t ≤ leg
 
-pub record LastRevision (t : List ℕ) (leg k : ℕ) : Type 0 where
-  pub number : k ≡ lastRevision
+pub record CannotRise (t : List ℕ) (leg k : ℕ) : Type 0 where
+  pub number : k ≡ cannotRise
   pub below : leg < legCount t
   pub last : revisionOf t ≡ maxWord
 
@@ -32,7 +32,7 @@ pub record LastRevision (t : List ℕ) (leg k : ℕ) : Type 0 where
 pub record MoveWrong (t : List ℕ) (c : Cursor) (leg k p : ℕ) : Type 0 where
   pub cursor : CursorRight t c
   pub at : p ≡ 0
-  pub cause : NoLeg t leg k ⊎ LastRevision t leg k
+  pub cause : NoLeg t leg k ⊎ CannotRise t leg k
 
 -- The first refusal that is due: 1 to 9, then 10, then 11.
 abbrev pub MoveFault : List ℕ → Cursor → ℕ → ℕ → ℕ → Type 0
@@ -42,7 +42,7 @@ MoveFault t c leg k p = CursorFault t c k p ⊎ MoveWrong t c leg k p
 pub record AtTheLesser (c : Cursor) (leg : ℕ) (d : Cursor) : Type 0 where
   pub one : ((d .leg ≡ c .leg) × (d .place ≡ c .place)) ⊎ ((d .leg ≡ leg) × (d .place ≡ 0))
   pub given : cursorRank d ≤ cursorRank c
-  pub moved : cursorRank d ≤ rank leg 0
+  pub to-leg : cursorRank d ≤ rank leg 0
 
 -- A granted move: the table t becomes t′, and the cursor d is of the new revision.
 pub record MoveRight (t : List ℕ) (c : Cursor) (leg offset : ℕ) (d : Cursor) (t′ : List ℕ) : Type 0 where

@@ -1,5 +1,5 @@
 -- What is proved of start, slice and move.
-use Prim.Native.Nat.{ℕ, _≤_}
+use Prim.Native.Nat.{ℕ}
 use mathlib.Core.Path.{_≡_}
 use mathlib.Core.List.{List}
 use Rattle.files.specs.declared.Cursor.{Cursor}

@@ -15,7 +15,7 @@ pub const NO_PLACE: u32 = 9;
 
 pub const NO_LEG: u32 = 10;
 
-pub const LAST_REVISION: u32 = 11;
+pub const CANNOT_RISE: u32 = 11;
 
 pub const MAX_REVISION: u32 = 4294967295;
 
@@ -74,7 +74,7 @@ fn allowed_told(t: &[u32], c: Cursor, leg: u32) -> Shape
         return Shape::Wrong(NO_LEG, 0);
     }
     if t[table::REVISION_AT] == MAX_REVISION {
-        return Shape::Wrong(LAST_REVISION, 0);
+        return Shape::Wrong(CANNOT_RISE, 0);
     }
     Shape::Right
 }

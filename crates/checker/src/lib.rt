@@ -8,7 +8,7 @@ use shape::Shape;
 pub mod cursors;
 pub mod look;
 
-// What a start or a move gives: a cursor, or a refusal's number and position and the cursor as it was given.
+// What a start or a move gives: a cursor, or a refusal's number and position and the cursor as it was given (a start, which is given none: 0, 0, 0).
 pub enum Grant {
     Granted(Cursor),
     Refused(u32, usize, Cursor),
@@ -57,7 +57,8 @@ pub fn slice(t: &[u32], cursor: Cursor, budget: u32) -> SliceAnswer
     }
 }
 
-// Sets the offset of one leg, raises the revision by one, and pulls the cursor back to that leg where it stands behind its start.
+// Sets the offset of one leg and raises the revision by one. The cursor is of the new revision, and where it stood past the start of that leg it goes
+// back to it.
 pub fn move_leg(t: &mut [u32], cursor: Cursor, leg: u32, offset: u32) -> Grant
     ensures { λ r. ⌜ Moves (now (t .entry)) cursor leg offset r (now (t .exit)) ⌝ }
 {

@@ -73,11 +73,11 @@ allowed leg offset b q l o g m = record {
   rises = omega arith;
   table = refl;
   revision = refl;
-  lesser = record { one = o; given = g; moved = m };
+  lesser = record { one = o; given = g; to-leg = m };
 }
 
-before-move : Run (move-leg (at 0 1 2) 2 700 (Granted (at 1 1 2)) ∷ begun) (moved good 2 700)
-before-move = (good, begins, inl refl, allowed 2 700 1 2 (omega arith) (inl (refl, refl)) (omega arith) (omega (arith, ranks .1, ranks .2)))
+move-ahead : Run (move-leg (at 0 1 2) 2 700 (Granted (at 1 1 2)) ∷ begun) (moved good 2 700)
+move-ahead = (good, begins, inl refl, allowed 2 700 1 2 (omega arith) (inl (refl, refl)) (omega arith) (omega (arith, ranks .1, ranks .2)))
 
 stale-cursor : Slices (moved good 2 700) (at 0 1 2) 5 (answer.Refused 8 0 (at 0 1 2))
 stale-cursor =
@@ -109,13 +109,14 @@ pub runs-at-numbers : RunsAtNumbers
 runs-at-numbers = record {
   twelve = ranks .3;
   eleven = (begins, inl refl, pause 1 2 2 4 6 place-1-2 (omega arith) (omega arith) (omega (arith, ranks .1, ranks .2)));
-  no-verdict = λ v. ⊎-elim (λ z. absurd z) (λ w. ⊎-elim (λ z. absurd z) (λ z. absurd z) w) v;
+  no-verdict = λ v. ⊎-elim (λ z. absurd (z .1)) (λ w. ⊎-elim (λ z. absurd (z .1)) (λ z. absurd z) w) v;
   verdict = (begins, inl refl, end 1 2 7 place-1-2 (omega (arith, ranks .1, ranks .3)));
+  enough = sym (ranks .3);
   nothing-looked-at = (begins, inl refl, pause 1 2 1 2 0 place-1-2 (omega arith) (omega arith) (omega arith));
   at-the-end = ((begins, inl refl, end 1 2 7 place-1-2 (omega (arith, ranks .1, ranks .3))), inl refl, end 3 0 0 the-end (omega arith));
-  behind = (good, begins, inl refl, allowed 0 600 0 0 (omega arith) (inr (refl, refl)) (omega (arith, ranks .0, ranks .1)) (omega arith));
-  before = before-move;
-  stale = (before-move, inr (inl refl), stale-cursor);
+  passed = (good, begins, inl refl, allowed 0 600 0 0 (omega arith) (inr (refl, refl)) (omega (arith, ranks .0, ranks .1)) (omega arith));
+  ahead = move-ahead;
+  stale = (move-ahead, inr (inl refl), stale-cursor);
   refused = (
     good,
     begins,
@@ -123,6 +124,7 @@ runs-at-numbers = record {
     (inr (record { cursor = right 1 2 place-1-2; at = refl; cause = inl (record { number = refl; not-below = omega arith }) }), refl, refl),
   );
   goes-on = (refl, (refl, _));
+  older = (begins, inr (inl refl), pause 0 0 2 0 7 place-0-0 (omega arith) (omega arith) (omega (arith, ranks .0, ranks .2)));
   not-newest = λ s. let e : _≡_ {A = ℕ} 0 1 = ap (λ (c : Cursor). c .leg) (s .0) in omega arith;
   altered = (
     (

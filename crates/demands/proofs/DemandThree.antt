@@ -7,29 +7,27 @@ use mathlib.Core.Logic.{_⊎_, inl, inr, ⊎-elim}
 use native.Mathlib.Nat.{eq-or-lt-of-le}
 use native.Mathlib.Omega.{arith}
 use Rattle.basics.proofs.Splits.{lt-or-ge}
-use Rattle.table.specs.Layout.{revisionOf}
+use Rattle.table.specs.Layout.{revisionOf, legCount}
+use Rattle.shape.specs.Shape.{WellFormedTable}
 use Rattle.shape.proofs.OneShape.{well-no-fault}
 use Rattle.files.specs.declared.Cursor.{Cursor}
-use Rattle.rules.specs.Rules.{RulesHold}
-use Rattle.rules.specs.Places.{placeAt, PlaceHolds}
+use Rattle.rules.specs.Places.{placeAt}
 use Rattle.rules.proofs.Covering.{places-cover-the-rules}
-use Rattle.rules.specs.declared.Rule.{Rule}
-use Rattle.places.specs.Order.{placesBelow, rank, IsPlace, placeCount, HoldFrom}
-use Rattle.places.proofs.Ranks.{place-rank, end-rank, rank-is-one, order-is-by-leg}
+use Rattle.places.specs.Order.{rank, IsPlace, placeCount, HoldFrom}
+use Rattle.places.proofs.Ranks.{place-rank, rank-is-one, order-is-by-leg}
 use Rattle.checker.specs.Cursors.{cursorRank, CursorRight}
-use Rattle.checker.specs.Slices.{Starts, Slices, Ends, Violates}
+use Rattle.checker.specs.Slices.{startCursor, Starts, Slices, Went}
 use Rattle.checker.specs.Moves.{MoveRight}
-use Rattle.checker.proofs.OneAnswer.{right-no-fault, one-cursor}
+use Rattle.checker.proofs.OneAnswer.{right-no-fault}
 use Rattle.checker.specs.declared.Grant.{Grant}
 use Rattle.checker.specs.declared.Grant.the-variants.{Granted, Refused}
 use Rattle.checker.specs.declared.SliceAnswer.{SliceAnswer}
 use Rattle.checker.specs.declared.SliceAnswer.the-variants as answer
-use Rattle.demands.specs.Verdicts.{FirstViolated, Accepts, NamesFirst, IsVerdict, RightVerdict}
-use Rattle.demands.specs.DemandTwo.{WholeCheck}
+use Rattle.demands.specs.Verdicts.{Verdict, violated, nothing-violated, Gives, FirstViolated, Right}
 use Rattle.demands.specs.Runs.{Call, start, slice, move-leg, cursorOf, HandedOut, Run, Renews, newest, KeepsOn, Since, budgets, HasSlice, HasVerdict}
-use Rattle.demands.specs.DemandThree.{AlsoViolated, AlsoPassed, SameVerdict, RunsAreSound, RunsEndInTime, DemandThree}
-use Rattle.demands.proofs.Verdicts.{right-verdict, nothing-violated}
-use Rattle.demands.proofs.DemandTwo.{start-right, demand-two}
+use Rattle.demands.specs.DemandThree.{Sound, RunsAreSound, RunsEndInTime, DemandThree}
+use Rattle.demands.proofs.Verdicts.{rules-keep-places, right-verdict}
+use Rattle.demands.proofs.DemandTwo.{start-right, start-rank, demand-two}
 use Rattle.demands.proofs.Runs.{Kept, run-keeps, right-moved}
 
 -- The first violated place is one.
@@ -44,49 +42,86 @@ first-one a p b q v w =
     (eq-or-lt-of-le h))
     (lt-or-ge (rank a p) (rank b q))
 
--- What a whole check says of the same table.
-module _ (t : List ℕ) where
-  also-violated : (c : Cursor) (b n : ℕ) (d : Cursor) (r : Rule) (w : SliceAnswer) → Violates t c b d n r → FirstViolated t (d .leg) (d .place) → WholeCheck t w → AlsoViolated d r w
-  also-violated c b n d r w v f k = go w k (demand-two .checks t w k .names (λ h. v .broken (rules-keep h)))
-    where
-      rules-keep : RulesHold t → PlaceHolds t (d .leg) (d .place)
-      rules-keep h = places-cover-the-rules t .1 h (d .leg) (d .place) (f .place .leg) (f .place .place)
+-- Two right verdicts of one table are one.
+right-one : (t : List ℕ) (v w : Verdict) → Right t v → Right t w → v ≡ w
+right-one t (violated a p r) (violated b q s) f g =
+    let e = rank-is-one {t = t} a p b q (inl (f .0 .place)) (inl (g .0 .place)) (first-one a p b q (f .0) (g .0)) in
+    let e0 = e .0 in
+    let e1 = e .1 in
+    let e2 = f .1 ∙ ap (λ (z : ℕ). placeAt z .rule) e1 ∙ sym (g .1) in
+    cc
+right-one t (violated a p r) nothing-violated f h = absurd (rules-keep-places (f .0) h)
+right-one t nothing-violated (violated b q s) h g = absurd (rules-keep-places (g .0) h)
+right-one t nothing-violated nothing-violated h k = refl
 
-      go : (w : SliceAnswer) → WholeCheck t w → NamesFirst t w → AlsoViolated d r w
-      go (answer.Violated e m s) k x =
-          let y = k .slices .1 in
-          let z = one-cursor (v .went .revision ∙ sym (y .went .revision)) (inl (f .place)) (inl (y .place)) (first-one (d .leg) (d .place) (e .leg) (e .place) f (x .0)) in
-          (z, v .rule ∙ ap (λ (g : Cursor). placeAt (g .place) .rule) z ∙ sym (x .1))
-      go (answer.NothingViolated e m) k x = absurd x
-      go (answer.Paused e m) k x = absurd x
-      go (answer.Refused l p e) k x = absurd x
+-- The answer of a whole check of a table of which a verdict is right.
+module _ (t : List ℕ) (shape : WellFormedTable t) where
+  begin : Starts t (Granted (startCursor t))
+  begin = (shape, refl)
 
-  also-passed : (c : Cursor) (b n : ℕ) (d : Cursor) (w : SliceAnswer) → Ends t c b d n → RulesHold t → WholeCheck t w → AlsoPassed d w
-  also-passed c b n d w v h k = go w k (demand-two .checks t w k .accepts h)
-    where
-      go : (w : SliceAnswer) → WholeCheck t w → Accepts w → AlsoPassed d w
-      go (answer.Violated e m s) k x = absurd x
-      go (answer.NothingViolated e m) k x =
-          let y = k .slices .1 in
-          one-cursor (v .went .revision ∙ sym (y .went .revision)) (inr (v .end)) (inr (y .end)) (omega (arith, end-rank (v .end), end-rank (y .end)))
-      go (answer.Paused e m) k x = absurd x
-      go (answer.Refused l p e) k x = absurd x
+  -- From the start on to a cursor all places before it were passed.
+  passed : (d : Cursor) → d .revision ≡ revisionOf t → HoldFrom t 0 (cursorRank d) → Went t (startCursor t) d (cursorRank d)
+  passed d e h = record { revision = e; steps = omega (arith, start-rank begin); held = λ a p i from below. h a p i (omega arith) below }
 
-  verdict-sound : (c : Cursor) (b : ℕ) (r : SliceAnswer) → Kept t c → Slices t c b r → IsVerdict r → RightVerdict t r × ((w : SliceAnswer) → WholeCheck t w → SameVerdict r w)
-  verdict-sound c b (answer.Violated d n r) k s v =
-      ⊎-elim
-      (λ x. absurd (x .0))
-      (λ x. (inr x, λ w whole. also-violated c b n d r w (s .1) (x .0) whole))
-      (right-verdict t c (k .held (s .0 .revision)) b (answer.Violated d n r) s v)
-  verdict-sound c b (answer.NothingViolated d n) k s v =
-      let h = nothing-violated t c (k .held (s .0 .revision)) (s .1) in
-      (inl (v, h), λ w whole. also-passed c b n d w (s .1) h whole)
-  verdict-sound c b (answer.Paused d n) k s v = absurd v
-  verdict-sound c b (answer.Refused l p d) k s v = absurd v
+  whole-answer : (v : Verdict) → Right t v → (w : SliceAnswer) × Slices t (startCursor t) (placeCount t) w
+  whole-answer (violated a p r) f = (
+    answer.Violated (record { revision = revisionOf t; leg = a; place = p }) (rank a p + 1) r,
+    (
+      start-right begin,
+      record {
+        passed = rank a p;
+        went = passed (record { revision = revisionOf t; leg = a; place = p }) refl
+            (λ b q i from below. f .0 .before b q i (order-is-by-leg b q a p (inl i) (inl (f .0 .place)) .0 below));
+        steps = refl;
+        place = f .0 .place;
+        broken = f .0 .broken;
+        rule = f .1;
+        within = omega (arith, place-rank (f .0 .place));
+      },
+    ),
+  )
+  whole-answer nothing-violated h = (
+    answer.NothingViolated (record { revision = revisionOf t; leg = legCount t; place = 0 }) (rank (legCount t) 0),
+    (
+      start-right begin,
+      record {
+        went = passed (record { revision = revisionOf t; leg = legCount t; place = 0 }) refl (λ b q i from below. places-cover-the-rules t .1 h b q (i .leg) (i .place));
+        end = record { leg = refl; place = refl };
+        within = omega arith;
+      },
+    ),
+  )
+
+  pub sound-of : (v : Verdict) → Right t v → Sound t v
+  sound-of v h =
+      let w = whole-answer v h in
+      record {
+        right = h;
+        whole = w .0;
+        checked = record {
+          cursor = startCursor t;
+          budget = placeCount t;
+          starts = begin;
+          enough = omega arith;
+          word = demand-two .places t shape;
+          slices = w .1;
+        };
+        each = λ u k.
+            let x = demand-two .checks t u k in
+            subst (Gives u) (right-one t (x .verdict) v (x .right) h) (x .gives);
+      }
 
 pub runs-are-sound : RunsAreSound
-runs-are-sound [] t c b r run v = absurd run
-runs-are-sound (call ∷ earlier) t c b r (run, out, s) v = verdict-sound t c b r (run-keeps (call ∷ earlier) t run .cursors c out) s v
+runs-are-sound [] t c b r v run g = absurd run
+runs-are-sound (call ∷ earlier) t c b r v (run, out, s) g =
+    let k = run-keeps (call ∷ earlier) t run in
+    sound-of t (k .shape) v (verdict-right t c b r v (k .cursors c out) s g)
+  where
+    verdict-right : (t : List ℕ) (c : Cursor) (b : ℕ) (r : SliceAnswer) (v : Verdict) → Kept t c → Slices t c b r → Gives r v → Right t v
+    verdict-right t c b (answer.Violated d n r) v k s g = right-verdict t c (k .held (s .0 .revision)) b (answer.Violated d n r) v s g
+    verdict-right t c b (answer.NothingViolated d n) v k s g = right-verdict t c (k .held (s .0 .revision)) b (answer.NothingViolated d n) v s g
+    verdict-right t c b (answer.Paused d n) v k s g = absurd g
+    verdict-right t c b (answer.Refused l p d) v k s g = absurd g
 
 -- The cursor of a start or of a granted move is right.
 renewed : (last : Call) (earlier : List Call) (t : List ℕ) → Run (last ∷ earlier) t → Renews last → CursorRight t (cursorOf last)
@@ -111,8 +146,8 @@ record Progress (t : List ℕ) (part : List Call) (last : Call) : Type 0 where
 module _ (t : List ℕ) (part : List Call) (last : Call) where
   slice-step : (c : Cursor) (b : ℕ) (r : SliceAnswer) → c ≡ newest part last → Slices t c b r → Progress t part last
       → HasVerdict (slice c b r ∷ part) ⊎ Progress t (slice c b r ∷ part) last
-  slice-step c b (answer.Violated d n r) e s g = inl (inl _)
-  slice-step c b (answer.NothingViolated d n) e s g = inl (inl _)
+  slice-step c b (answer.Violated d n r) e s g = inl (inl (violated (d .leg) (d .place) r, refl))
+  slice-step c b (answer.NothingViolated d n) e s g = inl (inl (nothing-violated, refl))
   slice-step c b (answer.Paused d n) e s g =
       let w = s .1 in
       let x = ap cursorRank e in
@@ -163,4 +198,4 @@ runs-end-in-time part last earlier t r n s h enough =
     (progress part last earlier t r n s)
 
 pub demand-three : DemandThree
-demand-three = record { sound = runs-are-sound; in-time = runs-end-in-time }
+demand-three = record { sound = runs-are-sound; in-time = runs-end-in-time; shape = λ calls t r. run-keeps calls t r .shape }

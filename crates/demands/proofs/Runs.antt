@@ -74,7 +74,7 @@ module _ (u : List ℕ) (c d : Cursor) (leg offset : ℕ) (m : MoveRight u c leg
   held-moved : HoldFrom u 0 (cursorRank c) → HoldFrom t 0 (cursorRank d)
   held-moved h a p i from below =
       let l = legs-moved in
-      let low : a < leg = ⊎-elim (λ (g : a < leg). g) (λ (g : leg ≤ a). absurd (omega (arith, below, m .lesser .moved, below-mono leg a g))) (lt-or-ge a leg) in
+      let low : a < leg = ⊎-elim (λ (g : a < leg). g) (λ (g : leg ≤ a). absurd (omega (arith, below, m .lesser .to-leg, below-mono leg a g))) (lt-or-ge a leg) in
       let here : IsPlace u a p = record { leg = omega (arith, i .leg); place = i .place } in
       earlier-places-stay u t a p (m .cursor .shape) (moved-same u (m .cursor .shape .sized) leg offset (m .below)) (here .leg) (i .place)
       (λ b le. sym (moved-other u (m .cursor .shape .sized) leg offset (m .below) b (omega (arith, here .leg)) (λ e. omega (arith, e, low))))

@@ -16,7 +16,7 @@ use Rattle.checker.specs.Cursors.{cursorRank, CursorRight}
 use Rattle.checker.specs.Slices.{Went, Violates, Ends, Slices}
 use Rattle.checker.specs.declared.SliceAnswer.{SliceAnswer}
 use Rattle.checker.specs.declared.SliceAnswer.the-variants as answer
-use Rattle.demands.specs.Verdicts.{FirstViolated, NamesFirst, IsVerdict, RightVerdict}
+use Rattle.demands.specs.Verdicts.{Verdict, FirstViolated, Gives, Right}
 
 -- One stretch of places and the next.
 pub held-through : {t : List ℕ} (n m k : ℕ) → HoldFrom t n m → HoldFrom t m k → HoldFrom t n k
@@ -40,11 +40,11 @@ module _ (t : List ℕ) (c : Cursor) (held : HoldFrom t 0 (cursorRank c)) where
     before = λ a p i e. all-before {d = d} (v .went) a p i (omega arith) (order-is-by-leg a p (d .leg) (d .place) (inl i) (inl (v .place)) .1 e);
   }
 
-  pub nothing-violated : {b n : ℕ} {d : Cursor} → Ends t c b d n → RulesHold t
-  nothing-violated {d = d} e = all-held t (λ a p i from below. all-before {d = d} (e .went) a p i from (omega (arith, end-rank (e .end))))
+  ended : {b n : ℕ} {d : Cursor} → Ends t c b d n → RulesHold t
+  ended {d = d} e = all-held t (λ a p i from below. all-before {d = d} (e .went) a p i from (omega (arith, end-rank (e .end))))
 
-  pub right-verdict : (b : ℕ) (r : SliceAnswer) → Slices t c b r → IsVerdict r → RightVerdict t r
-  right-verdict b (answer.Violated d n r) s v = inr (first-violated (s .1), s .1 .rule)
-  right-verdict b (answer.NothingViolated d n) s v = inl (v, nothing-violated (s .1))
-  right-verdict b (answer.Paused d n) s v = absurd v
-  right-verdict b (answer.Refused k p d) s v = absurd v
+  pub right-verdict : (b : ℕ) (r : SliceAnswer) (v : Verdict) → Slices t c b r → Gives r v → Right t v
+  right-verdict b (answer.Violated d n r) v s e = rw e (first-violated (s .1), s .1 .rule)
+  right-verdict b (answer.NothingViolated d n) v s e = rw e (ended (s .1))
+  right-verdict b (answer.Paused d n) v s e = absurd e
+  right-verdict b (answer.Refused k p d) v s e = absurd e

@@ -36,18 +36,20 @@ pub record RunsAtNumbers : Type 0 where
   pub eleven : Run (slice (at 0 1 2) 6 (Paused (at 0 2 4) 6) ∷ begun) good
   pub no-verdict : HasVerdict (slice (at 0 1 2) 6 (Paused (at 0 2 4) 6) ∷ slice (at 0 0 0) 5 (Paused (at 0 1 2) 5) ∷ []) → ⊥
   pub verdict : Run (slice (at 0 1 2) 7 (NothingViolated (at 0 3 0) 7) ∷ begun) good
+  pub enough : budgets (slice (at 0 1 2) 7 (NothingViolated (at 0 3 0) 7) ∷ slice (at 0 0 0) 5 (Paused (at 0 1 2) 5) ∷ []) ≡ placeCount good
   -- A budget of 0 looks at nothing, and at the end it is a verdict.
   pub nothing-looked-at : Run (slice (at 0 1 2) 0 (Paused (at 0 1 2) 0) ∷ begun) good
   pub at-the-end : Run (slice (at 0 3 0) 0 (NothingViolated (at 0 3 0) 0) ∷ slice (at 0 1 2) 7 (NothingViolated (at 0 3 0) 7) ∷ begun) good
-  -- A move behind the cursor pulls it back, one before it does not, and the old cursor is refused 8 from then on.
-  pub behind : Run (move-leg (at 0 1 2) 0 600 (Granted (at 1 0 0)) ∷ begun) (moved good 0 600)
-  pub before : Run (move-leg (at 0 1 2) 2 700 (Granted (at 1 1 2)) ∷ begun) (moved good 2 700)
+  -- A move of a leg that the cursor has passed pulls it back, one of a leg ahead does not, and the old cursor is refused 8 from then on.
+  pub passed : Run (move-leg (at 0 1 2) 0 600 (Granted (at 1 0 0)) ∷ begun) (moved good 0 600)
+  pub ahead : Run (move-leg (at 0 1 2) 2 700 (Granted (at 1 1 2)) ∷ begun) (moved good 2 700)
   pub stale : Run (slice (at 0 1 2) 5 (answer.Refused 8 0 (at 0 1 2)) ∷ move-leg (at 0 1 2) 2 700 (Granted (at 1 1 2)) ∷ begun) (moved good 2 700)
   -- A refused move leaves the table and the cursor, and is no new beginning.
   pub refused : Run (move-leg (at 0 1 2) 3 700 (Refused 10 0 (at 0 1 2)) ∷ begun) good
   pub goes-on : Since (move-leg (at 0 1 2) 3 700 (Refused 10 0 (at 0 1 2)) ∷ slice (at 0 0 0) 5 (Paused (at 0 1 2) 5) ∷ []) (start (Granted (at 0 0 0)))
-  -- An older cursor than the newest is no part that counts.
-  pub not-newest : Since (slice (at 0 0 0) 7 (Paused (at 0 2 1) 7) ∷ slice (at 0 0 0) 5 (Paused (at 0 1 2) 5) ∷ []) (start (Granted (at 0 0 0))) → ⊥
+  -- With an older cursor than the newest budgets of 5 and 7 give no verdict, and such a part is none that counts.
+  pub older : Run (slice (at 0 0 0) 7 (Paused (at 0 2 0) 7) ∷ begun) good
+  pub not-newest : Since (slice (at 0 0 0) 7 (Paused (at 0 2 0) 7) ∷ slice (at 0 0 0) 5 (Paused (at 0 1 2) 5) ∷ []) (start (Granted (at 0 0 0))) → ⊥
   -- A cursor that no call handed out, here at the end of a table that breaks a rule, would be believed: demand 3 asks that cursors are not altered.
   pub altered : Slices bad (at 0 3 0) 0 (NothingViolated (at 0 3 0) 0) × (RulesHold bad → ⊥)
   -- No legs: no places, and a budget of 0 is enough once a slice has run.

@@ -18,7 +18,7 @@ use Rattle.checker.specs.Theorems.{StartOneAnswer, SliceOneAnswer, MoveOneAnswe
 use Rattle.checker.specs.declared.Grant.the-variants as grant
 use Rattle.checker.specs.declared.SliceAnswer.the-variants as answer
 
--- Each public call has the one answer that its statement fixes.
+-- Of the statement of each public call no second answer holds. That there is one is the contract of the call, which the code is proved to meet.
 pub record OneAnswerEach : Type 0 where
   pub read-number : ReadNumberOneAnswer
   pub write-number : WriteNumberOneAnswer

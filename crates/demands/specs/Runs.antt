@@ -11,7 +11,7 @@ use Rattle.checker.specs.declared.Grant.{Grant}
 use Rattle.checker.specs.declared.Grant.the-variants.{Granted, Refused}
 use Rattle.checker.specs.declared.SliceAnswer.{SliceAnswer}
 use Rattle.checker.specs.declared.SliceAnswer.the-variants as answer
-use Rattle.demands.specs.Verdicts.{IsVerdict}
+use Rattle.demands.specs.Verdicts.{Verdict, Gives}
 
 -- A call and its answer: a start; a slice from a cursor with a budget; a move of a leg to an offset, given a cursor.
 pub data Call : Type 0 where
@@ -55,7 +55,7 @@ Run (start g ∷ call ∷ earlier) t = Run (call ∷ earlier) t × Starts t g
 Run (slice c budget r ∷ call ∷ earlier) t = Run (call ∷ earlier) t × HandedOut c (call ∷ earlier) × Slices t c budget r
 Run (move-leg c leg offset g ∷ call ∷ earlier) t = (u : List ℕ) × Run (call ∷ earlier) u × HandedOut c (call ∷ earlier) × Moves u c leg offset g t
 
--- A start or a granted move, after which the check begins anew or goes back.
+-- A start or a granted move. (In a run no start is refused, since the table stays well-formed: RunsKeepShape.)
 abbrev pub Renews : Call → Type 0
 Renews (start g) = Unit {0}
 Renews (slice c budget r) = ⊥
@@ -96,5 +96,5 @@ HasSlice (move-leg c leg offset g ∷ part) = HasSlice part
 abbrev pub HasVerdict : List Call → Type 0
 HasVerdict [] = ⊥
 HasVerdict (start g ∷ part) = HasVerdict part
-HasVerdict (slice c budget r ∷ part) = IsVerdict r ⊎ HasVerdict part
+HasVerdict (slice c budget r ∷ part) = ((v : Verdict) × Gives r v) ⊎ HasVerdict part
 HasVerdict (move-leg c leg offset g ∷ part) = HasVerdict part

@@ -2,13 +2,24 @@
 use Prim.Native.Nat.{ℕ}
 use mathlib.Core.Path.{_≡_}
 use mathlib.Core.List.{List}
-use mathlib.Core.Logic.{_⊎_}
 use Rattle.rules.specs.Rules.{RulesHold}
 use Rattle.rules.specs.Places.{placeAt, PlaceHolds}
-use Rattle.places.specs.Order.{IsPlace}
-use Rattle.places.specs.Theorems.{Earlier}
+use Rattle.rules.specs.declared.Rule.{Rule}
+use Rattle.places.specs.Order.{Earlier, IsPlace}
 use Rattle.checker.specs.declared.SliceAnswer.{SliceAnswer}
 use Rattle.checker.specs.declared.SliceAnswer.the-variants as answer
+
+-- Place (a,p) is violated, and by which rule; or nothing is.
+pub data Verdict : Type 0 where
+  violated : ℕ → ℕ → Rule → Verdict
+  nothing-violated : Verdict
+
+-- The verdict that an answer gives, if it gives one. Steps are no part of it.
+abbrev pub Gives : SliceAnswer → Verdict → Type 0
+Gives (answer.Violated d n r) v = v ≡ violated (d .leg) (d .place) r
+Gives (answer.NothingViolated d n) v = v ≡ nothing-violated
+Gives (answer.Paused d n) v = ⊥
+Gives (answer.Refused k p d) v = ⊥
 
 -- (a,p) is the first violated place of table t.
 pub record FirstViolated (t : List ℕ) (a p : ℕ) : Type 0 where
@@ -16,27 +27,7 @@ pub record FirstViolated (t : List ℕ) (a p : ℕ) : Type 0 where
   pub broken : PlaceHolds t a p → ⊥
   pub before : (b q : ℕ) → IsPlace t b q → Earlier b q a p → PlaceHolds t b q
 
--- The answer accepts.
-abbrev pub Accepts : SliceAnswer → Type 0
-Accepts (answer.Violated d n r) = ⊥
-Accepts (answer.NothingViolated d n) = Unit {0}
-Accepts (answer.Paused d n) = ⊥
-Accepts (answer.Refused k p d) = ⊥
-
--- The answer names the first violated place of table t and its rule.
-abbrev pub NamesFirst : List ℕ → SliceAnswer → Type 0
-NamesFirst t (answer.Violated d n r) = FirstViolated t (d .leg) (d .place) × (r ≡ placeAt (d .place) .rule)
-NamesFirst t (answer.NothingViolated d n) = ⊥
-NamesFirst t (answer.Paused d n) = ⊥
-NamesFirst t (answer.Refused k p d) = ⊥
-
--- The answer is a verdict.
-abbrev pub IsVerdict : SliceAnswer → Type 0
-IsVerdict (answer.Violated d n r) = Unit {0}
-IsVerdict (answer.NothingViolated d n) = Unit {0}
-IsVerdict (answer.Paused d n) = ⊥
-IsVerdict (answer.Refused k p d) = ⊥
-
--- What the rules, in their unending meaning, say of table t: it accepts and they hold, or it names the first violated place.
-abbrev pub RightVerdict : List ℕ → SliceAnswer → Type 0
-RightVerdict t r = (Accepts r × RulesHold t) ⊎ NamesFirst t r
+-- What the rules, in their unending meaning, say of table t: the first violated place and its rule, or that they hold.
+abbrev pub Right : List ℕ → Verdict → Type 0
+Right t (violated a p r) = FirstViolated t a p × (r ≡ placeAt p .rule)
+Right t nothing-violated = RulesHold t

@@ -7,11 +7,11 @@ use native.Mathlib.Nat.{add-zero, add-mul, mul-add, mul-sub, mul-one, eq-or-lt-o
 use native.Mathlib.Numerals.{add-one}
 use native.Mathlib.Omega.{arith}
 use Rattle.basics.proofs.Splits.{lt-or-ge}
-use Rattle.table.specs.Layout.{legCount}
+use Rattle.table.specs.Layout.{maxLegs, legCount}
 use Rattle.rules.specs.Places.{placesOf, PlaceHolds}
-use Rattle.places.specs.Order.{placesBelow, rank, IsPlace, IsEnd, Stands, placeCount, HoldFrom}
+use Rattle.places.specs.Order.{placesBelow, rank, Earlier, IsPlace, IsEnd, Stands, placeCount, HoldFrom}
 use Rattle.places.specs.Told.{LegHolds}
-use Rattle.places.specs.Theorems.{CountOfPlaces, Earlier, OrderIsByLeg, RankIsOne, EndIsLast}
+use Rattle.places.specs.Theorems.{CountOfPlaces, OrderIsByLeg, RankIsOne, EndIsLast}
 
 pub below-none : placesBelow 0 ≡ 0
 unfolding placesBelow
@@ -48,6 +48,10 @@ twice (suc g) =
 -- The product that is halved.
 pub half : (g : ℕ) → g * (g + 5) / 2 ≡ placesBelow g
 half g = sym (ap (λ (x : ℕ). x / 2) (twice g)) ∙ mul-div-cancel-left (placesBelow g) (omega arith)
+
+-- The most places that a table has are 2,102,272.
+pub places-at-most : placesBelow maxLegs ≡ 2102272
+places-at-most = let t = twice maxLegs in omega arith
 
 square : (g : ℕ) → g ≤ g * g
 square zero = omega arith

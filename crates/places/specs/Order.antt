@@ -11,7 +11,11 @@ unfoldable pub placesBelow : ℕ → ℕ
 placesBelow zero = 0
 placesBelow (suc a) = placesBelow a + placesOf a
 
--- Order: by a, then by the second number. So many places come before (a,p).
+-- Order: by a, then by the second number.
+abbrev pub Earlier : ℕ → ℕ → ℕ → ℕ → Type 0
+Earlier a p b q = (a < b) ⊎ ((a ≡ b) × (p < q))
+
+-- So many places come before (a,p).
 abbrev pub rank : ℕ → ℕ → ℕ
 rank a p = placesBelow a + p
 
@@ -33,6 +37,6 @@ Stands t a p = IsPlace t a p ⊎ IsEnd t a p
 abbrev pub placeCount : List ℕ → ℕ
 placeCount t = placesBelow (legCount t)
 
--- Every place before which at least n and fewer than m places come holds.
+-- Every place of rank from n up to but without m holds.
 abbrev pub HoldFrom : List ℕ → ℕ → ℕ → Type 0
 HoldFrom t n m = (a p : ℕ) → IsPlace t a p → n ≤ rank a p → rank a p < m → PlaceHolds t a p

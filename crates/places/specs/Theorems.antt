@@ -2,18 +2,14 @@
 use Prim.Native.Nat.{ℕ, _+_, _*_, _-_, _/_, _<_}
 use mathlib.Core.Path.{_≡_}
 use mathlib.Core.List.{List}
-use mathlib.Core.Logic.{_⊎_}
 use Rattle.table.specs.Layout.{legCount}
-use Rattle.places.specs.Order.{rank, IsPlace, IsEnd, Stands, placeCount}
+use Rattle.places.specs.Order.{rank, Earlier, IsPlace, IsEnd, Stands, placeCount}
 
 -- There are G(G − 1)/2 + 3G places.
 abbrev pub CountOfPlaces : Type 0
 CountOfPlaces = (t : List ℕ) → placeCount t ≡ legCount t * (legCount t - 1) / 2 + 3 * legCount t
 
--- Fewer places come before (a,p) than before (b,q) exactly when a is below b, or they are equal and p is below q.
-abbrev pub Earlier : ℕ → ℕ → ℕ → ℕ → Type 0
-Earlier a p b q = (a < b) ⊎ ((a ≡ b) × (p < q))
-
+-- Fewer places come before (a,p) than before (b,q) exactly when it is the earlier one.
 abbrev pub OrderIsByLeg : Type 0
 OrderIsByLeg =
     (t : List ℕ) (a p b q : ℕ) → Stands t a p → Stands t b q

@@ -13,7 +13,7 @@ use Rattle.shape.specs.Links.{LinkInRange, SameEnds, LinkNew}
 use Rattle.shape.specs.Streams.{StreamInRange, legsBefore, StreamRight}
 use Rattle.shape.specs.Legs.{linkOf, streamOf, firstOf, endOf, LegRight}
 use Rattle.shape.specs.Shape.{All, LinkRight, CountsAddUp, WellFormedTable}
-use Rattle.shape.specs.Moves.{SameButMoved, MovesKeepShape}
+use Rattle.shape.specs.Moves.{SameButMoved, MovedIsSame, MovesKeepShape}
 
 module _ (t u : List ℕ) (m : SameButMoved t u) where
   sized-moved : Sized t → Sized u
@@ -96,7 +96,7 @@ moves-keep-shape t u m w =
     }
 
 -- A moved table differs in an offset and the revision alone.
-pub moved-same : (t : List ℕ) → Sized t → (a offset : ℕ) → a < legCount t → SameButMoved t (moved t a offset)
+pub moved-same : MovedIsSame
 moved-same t s a offset h = record {
   long = sym (moved-length t s a offset h);
   link-count = sym (moved-links t s a offset h);
