@@ -2,10 +2,10 @@
 use Prim.Native.Nat.{ℕ, _+_, _-_, _≤_, _<_}
 use mathlib.Core.Path.{_≡_, refl, ap}
 use mathlib.Core.List.{List}
-use mathlib.Core.Logic.{_⊎_, inl, inr, ⊎-elim}
+use mathlib.Core.Logic.{inl, inr, ⊎-elim}
 use native.Mathlib.Omega.{arith}
 use Rattle.basics.proofs.Splits.{lt-or-ge}
-use Rattle.table.specs.Layout.{revisionOf, legCount}
+use Rattle.table.specs.Layout.{legCount}
 use Rattle.files.specs.declared.Cursor.{Cursor}
 use Rattle.rules.specs.Places.{placesOf}
 use Rattle.rules.specs.declared.Rule.{Rule}

@@ -1,9 +1,9 @@
 -- Start, slice and move have one answer. A violated place is passed by no other answer, and where two slices stopped is one place.
 -- Assumes nothing.
-use Prim.Native.Nat.{ℕ, _+_, _≤_, _<_}
-use mathlib.Core.Path.{_≡_, refl, _∙_, sym, ap}
+use Prim.Native.Nat.{ℕ, _≤_, _<_}
+use mathlib.Core.Path.{_≡_, _∙_, sym, ap}
 use mathlib.Core.List.{List}
-use mathlib.Core.Logic.{_⊎_, inl, inr, ⊎-elim}
+use mathlib.Core.Logic.{inl, inr, ⊎-elim}
 use native.Mathlib.Nat.{eq-or-lt-of-le}
 use native.Mathlib.Omega.{arith}
 use Rattle.basics.proofs.Splits.{lt-or-ge}
@@ -15,8 +15,8 @@ use Rattle.rules.specs.declared.Rule.{Rule}
 use Rattle.places.specs.Order.{placesBelow, Stands}
 use Rattle.places.proofs.Ranks.{end-rank, place-rank, rank-is-one}
 use Rattle.checker.specs.Cursors.{cursorRank, CursorRight, CursorWrong, CursorFault}
-use Rattle.checker.specs.Slices.{Starts, Went, Violates, Ends, Pauses, Slices}
-use Rattle.checker.specs.Moves.{AtTheLesser, MoveRight, MoveWrong, MoveFault, Moves}
+use Rattle.checker.specs.Slices.{Went, Violates, Ends, Pauses}
+use Rattle.checker.specs.Moves.{AtTheLesser, MoveRight, MoveWrong, MoveFault}
 use Rattle.checker.specs.Theorems.{StartOneAnswer, SliceOneAnswer, MoveOneAnswer}
 use Rattle.checker.specs.declared.Grant.the-variants.{Granted, Refused}
 use Rattle.checker.specs.declared.SliceAnswer.the-variants as answer

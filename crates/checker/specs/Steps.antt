@@ -1,5 +1,5 @@
 -- What the inner functions of this crate tell.
-use Prim.Native.Nat.{ℕ, _+_, _≤_, _<_}
+use Prim.Native.Nat.{ℕ, _≤_, _<_}
 use mathlib.Core.Path.{_≡_}
 use mathlib.Core.List.{List}
 use Rattle.numbers.specs.Number.{maxWord}

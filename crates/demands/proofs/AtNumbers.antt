@@ -1,10 +1,9 @@
 -- Runs at numbers. All places of the table hold, so that a slice is known by how far it goes. Assumes nothing.
 use Prim.Native.Nat.{ℕ, _+_, _≤_, _<_}
-use mathlib.Core.Path.{_≡_, refl, _∙_, sym, ap}
-use mathlib.Core.List.{List, [], _∷_}
+use mathlib.Core.Path.{_≡_, refl, sym, ap}
+use mathlib.Core.List.{_∷_}
 use mathlib.Core.Logic.{_⊎_, inl, inr, ⊎-elim}
 use native.Mathlib.Omega.{arith}
-use Rattle.table.specs.Layout.{revisionOf, legCount}
 use Rattle.table.specs.Records.{moved}
 use Rattle.table.proofs.Moved.{moved-revision}
 use Rattle.shape.specs.Shape.{WellFormedTable}
@@ -16,13 +15,13 @@ use Rattle.rules.proofs.AtNumbers.{starred-cases, accepted-plan-exists}
 use Rattle.rules.proofs.Covering.{places-cover-the-rules}
 use Rattle.places.specs.Order.{placesBelow, rank, Stands, HoldFrom}
 use Rattle.places.proofs.Ranks.{below-none, below-more, held-none}
-use Rattle.checker.specs.Cursors.{cursorRank, CursorRight}
-use Rattle.checker.specs.Slices.{Went, Ends, Pauses, Slices}
-use Rattle.checker.specs.Moves.{MoveRight, Moves}
+use Rattle.checker.specs.Cursors.{CursorRight}
+use Rattle.checker.specs.Slices.{Went, Slices}
+use Rattle.checker.specs.Moves.{Moves}
 use Rattle.checker.specs.declared.Grant.the-variants.{Granted, Refused}
 use Rattle.checker.specs.declared.SliceAnswer.the-variants.{NothingViolated, Paused}
 use Rattle.checker.specs.declared.SliceAnswer.the-variants as answer
-use Rattle.demands.specs.Runs.{start, slice, move-leg, Run}
+use Rattle.demands.specs.Runs.{move-leg, Run}
 use Rattle.demands.specs.AtNumbers.{good, bad, none, at, begun, RunsAtNumbers}
 
 shape : WellFormedTable good

@@ -19,12 +19,11 @@ use Rattle.checker.specs.Cursors.{cursorRank, CursorRight}
 use Rattle.checker.specs.Slices.{startCursor, Starts, Slices, Went}
 use Rattle.checker.specs.Moves.{MoveRight}
 use Rattle.checker.proofs.OneAnswer.{right-no-fault}
-use Rattle.checker.specs.declared.Grant.{Grant}
 use Rattle.checker.specs.declared.Grant.the-variants.{Granted, Refused}
 use Rattle.checker.specs.declared.SliceAnswer.{SliceAnswer}
 use Rattle.checker.specs.declared.SliceAnswer.the-variants as answer
 use Rattle.demands.specs.Verdicts.{Verdict, violated, nothing-violated, Gives, FirstViolated, Right}
-use Rattle.demands.specs.Runs.{Call, start, slice, move-leg, cursorOf, HandedOut, Run, Renews, newest, KeepsOn, Since, budgets, HasSlice, HasVerdict}
+use Rattle.demands.specs.Runs.{Call, start, slice, move-leg, cursorOf, Run, Renews, newest, KeepsOn, Since, budgets, HasSlice, HasVerdict}
 use Rattle.demands.specs.DemandThree.{Sound, RunsAreSound, RunsEndInTime, DemandThree}
 use Rattle.demands.proofs.Verdicts.{rules-keep-places, right-verdict}
 use Rattle.demands.proofs.DemandTwo.{start-right, start-rank, demand-two}

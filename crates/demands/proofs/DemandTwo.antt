@@ -20,7 +20,7 @@ use Rattle.checker.specs.declared.Grant.the-variants.{Granted}
 use Rattle.checker.specs.declared.SliceAnswer.{SliceAnswer}
 use Rattle.checker.specs.declared.SliceAnswer.the-variants as answer
 use Rattle.demands.specs.Verdicts.{Verdict, violated, nothing-violated, Gives, Right}
-use Rattle.demands.specs.DemandTwo.{WholeCheck, WholeCheckIsRight, DemandTwo}
+use Rattle.demands.specs.DemandTwo.{WholeCheckIsRight, DemandTwo}
 use Rattle.demands.proofs.Verdicts.{rules-keep-places, right-verdict}
 
 -- A start's cursor is right, and no place comes before it.

@@ -1,24 +1,24 @@
 -- What every run keeps: the table is well-formed, no cursor is of a later revision, and before each cursor of the table's revision all places hold.
 -- Assumes nothing.
 use Prim.Native.Nat.{ℕ, _+_, _≤_, _<_}
-use mathlib.Core.Path.{_≡_, refl, _∙_, sym, ap, subst}
+use mathlib.Core.Path.{_≡_, _∙_, sym, ap, subst}
 use mathlib.Core.List.{List, [], _∷_}
-use mathlib.Core.Logic.{_⊎_, inl, inr, ⊎-elim}
+use mathlib.Core.Logic.{inl, inr, ⊎-elim}
 use native.Mathlib.Omega.{arith}
 use Rattle.basics.proofs.Splits.{lt-or-ge}
 use Rattle.table.specs.Layout.{revisionOf, legCount}
-use Rattle.table.specs.Records.{moved, legAt}
+use Rattle.table.specs.Records.{moved}
 use Rattle.table.proofs.Moved.{moved-revision, moved-legs, moved-other}
 use Rattle.shape.specs.Shape.{WellFormedTable}
 use Rattle.shape.proofs.OneShape.{well-no-fault}
 use Rattle.shape.proofs.Moved.{moved-same, moves-keep-shape}
 use Rattle.files.specs.declared.Cursor.{Cursor}
 use Rattle.rules.proofs.Staying.{earlier-places-stay}
-use Rattle.places.specs.Order.{rank, IsPlace, IsEnd, Stands, HoldFrom}
+use Rattle.places.specs.Order.{IsPlace, IsEnd, Stands, HoldFrom}
 use Rattle.places.proofs.Ranks.{below-mono}
 use Rattle.checker.specs.Cursors.{cursorRank, CursorRight}
 use Rattle.checker.specs.Slices.{Starts, Slices, Went}
-use Rattle.checker.specs.Moves.{AtTheLesser, MoveRight, Moves}
+use Rattle.checker.specs.Moves.{MoveRight, Moves}
 use Rattle.checker.proofs.OneAnswer.{lesser-stands}
 use Rattle.checker.specs.declared.Grant.{Grant}
 use Rattle.checker.specs.declared.Grant.the-variants.{Granted, Refused}

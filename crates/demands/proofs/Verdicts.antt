@@ -1,18 +1,16 @@
 -- What a slice finds from a cursor before which all places hold is what the rules say. Assumes nothing.
-use Prim.Native.Nat.{ℕ, _+_, _≤_, _<_}
-use mathlib.Core.Path.{_≡_}
+use Prim.Native.Nat.{ℕ, _≤_, _<_}
 use mathlib.Core.List.{List}
-use mathlib.Core.Logic.{_⊎_, inl, inr, ⊎-elim}
+use mathlib.Core.Logic.{inl, ⊎-elim}
 use native.Mathlib.Omega.{arith}
 use Rattle.basics.proofs.Splits.{lt-or-ge}
 use Rattle.rules.specs.Rules.{RulesHold}
-use Rattle.rules.specs.Places.{AllPlacesHold}
 use Rattle.rules.specs.declared.Rule.{Rule}
 use Rattle.rules.proofs.Covering.{places-cover-the-rules}
 use Rattle.places.specs.Order.{rank, placeCount, HoldFrom}
 use Rattle.places.proofs.Ranks.{place-rank, end-rank, order-is-by-leg}
 use Rattle.files.specs.declared.Cursor.{Cursor}
-use Rattle.checker.specs.Cursors.{cursorRank, CursorRight}
+use Rattle.checker.specs.Cursors.{cursorRank}
 use Rattle.checker.specs.Slices.{Went, Violates, Ends, Slices}
 use Rattle.checker.specs.declared.SliceAnswer.{SliceAnswer}
 use Rattle.checker.specs.declared.SliceAnswer.the-variants as answer

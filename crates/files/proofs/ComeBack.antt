@@ -1,15 +1,14 @@
 -- Plan files and saved cursors read and write back unchanged: what is laid in a buffer is taken out again, so the one answer of the second call
 -- is the table, the file or the cursor that the first began with. And they end: five bytes are enough for a word.
 -- Assumes nothing.
-use Prim.Native.Nat.{ℕ, _+_, _*_, _≤_}
-use mathlib.Core.Path.{_≡_, refl, _∙_, sym, ap}
+use Prim.Native.Nat.{ℕ}
+use mathlib.Core.Path.{_≡_, refl, ap}
 use mathlib.Core.List.{List}
 use lib.ListN.{length, take}
 use native.Mathlib.Omega.{arith}
 use Rattle.numbers.specs.Series.{Words, fileOf, overlaid, Laid}
 use Rattle.numbers.proofs.Overlay.{overlaid-taken}
 use Rattle.numbers.proofs.Rows.{file-length}
-use Rattle.table.specs.Layout.{Sized}
 use Rattle.table.proofs.Sizes.{table-words-at-most}
 use Rattle.files.specs.Plan.{ReadsPlan, WritesPlan}
 use Rattle.files.specs.Cursors.{cursorWords, cursorFile, ReadsCursor, WritesCursor}

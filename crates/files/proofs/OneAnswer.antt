@@ -1,24 +1,23 @@
 -- Reading and writing have one answer. Of two rows in one file the longer goes on where the shorter ends, so a number that is cut short, a
 -- header that passes a limit and a whole table exclude each other.
 -- Assumes nothing.
-use Prim.Native.Nat.{ℕ, _+_, _≤_, _<_}
+use Prim.Native.Nat.{ℕ, _≤_, _<_}
 use mathlib.Core.Path.{_≡_, refl, _∙_, sym, ap}
-use mathlib.Core.List.{List, [], _∷_, _++_, append-nil}
-use mathlib.Core.Logic.{_⊎_, inl, inr, ⊎-elim}
+use mathlib.Core.List.{List, _++_}
+use mathlib.Core.Logic.{inl, inr, ⊎-elim}
 use lib.ListN.{length, length-append}
 use native.Mathlib.Omega.{arith}
-use Rattle.numbers.specs.Number.{NoNumber}
 use Rattle.numbers.specs.Series.{fileOf, Row, Laid}
 use Rattle.basics.proofs.Splits.{lt-or-ge}
 use Rattle.numbers.proofs.OneNumber.{refused-once}
 use Rattle.numbers.proofs.Overlay.{laid-once, laid-fits, too-small-once}
-use Rattle.numbers.proofs.Rows.{row-compare, row-same, row-stops, file-row, row-inside}
+use Rattle.numbers.proofs.Rows.{row-compare, row-same, row-stops, file-row}
 use Rattle.table.specs.Layout.{headWords, tableWords, InLimits, Sized}
-use Rattle.table.proofs.Headers.{SameHeader, header-in-front, limits-same, words-same, same-header-back}
+use Rattle.table.proofs.Headers.{header-in-front, limits-same, words-same, same-header-back}
 use Rattle.table.proofs.Sizes.{sized-no-fault, fault-once}
-use Rattle.files.specs.Reading.{leftOver, IsFile, Cut, Over}
-use Rattle.files.specs.Plan.{PlanDue, HeaderAbove, TableTooLong, PlanFault, PlanUnread, ReadsPlan, PlanUnwritten, WritesPlan}
-use Rattle.files.specs.Cursors.{cursorWords, CursorDue, CursorComplete, ReadsCursor, WritesCursor}
+use Rattle.files.specs.Reading.{IsFile, Cut, Over}
+use Rattle.files.specs.Plan.{PlanDue, HeaderAbove, PlanFault, PlanUnread, PlanUnwritten}
+use Rattle.files.specs.Cursors.{cursorWords, CursorDue, CursorComplete, ReadsCursor}
 use Rattle.files.specs.Theorems.{ReadPlanOneAnswer, WritePlanOneAnswer, ReadCursorOneAnswer, WriteCursorOneAnswer}
 use Rattle.numbers.specs.declared.Written.the-variants as written
 use Rattle.files.specs.declared.PlanRead.the-variants as plan

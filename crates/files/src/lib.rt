@@ -1,5 +1,4 @@
 // Plan files and saved cursors, as bytes: the calls that read and write them. The layers above see what these promise and nothing else.
-ghost use mathlib.Core.Path.{_≡_};
 ghost use Rattle.files.specs.Plan.{ReadsPlan, WritesPlan};
 ghost use Rattle.files.specs.Cursors.{ReadsCursor, WritesCursor};
 use numbers::Written;

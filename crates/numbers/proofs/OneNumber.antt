@@ -3,14 +3,14 @@
 use Prim.Native.Nat.{ℕ, _+_, _*_, _^_, _%_, _≤_, _<_}
 use mathlib.Core.Path.{_≡_, refl, _∙_, sym, ap}
 use mathlib.Core.List.{List, [], _∷_, _++_, append-assoc}
-use mathlib.Core.Logic.{_⊎_, inl, inr, ⊎-elim}
+use mathlib.Core.Logic.{_⊎_, inl, inr}
 use lib.ListN.{length, drop, length-append}
 use native.Mathlib.Omega.{arith}
 use Rattle.numbers.specs.declared.Number.the-variants as number
 use Rattle.numbers.specs.declared.Written.the-variants as written
-use Rattle.numbers.specs.Number.{maxWord, groupValues, maxGoOn, maxFifth, bytesEnd, unfitNumber, groupsOf, bytesOf, Stands, GoOn, RunsOut, Unfit, NoNumber}
-use Rattle.numbers.specs.Groups.{Shortest, worth}
-use Rattle.numbers.specs.Calls.{ReadsNumber, WritesNumber}
+use Rattle.numbers.specs.Number.{maxWord, groupValues, maxGoOn, maxFifth, groupsOf, bytesOf, Stands, GoOn, RunsOut, Unfit, NoNumber}
+use Rattle.numbers.specs.Groups.{worth}
+use Rattle.numbers.specs.Calls.{ReadsNumber}
 use Rattle.numbers.specs.Theorems.{ReadNumberOneAnswer, WriteNumberOneAnswer, NumbersComeBack, BytesTellNumbers, NumberBytesAtMost, NumbersOfThePaper}
 use Rattle.numbers.proofs.Groups.{writing-is-shortest}
 use Rattle.numbers.proofs.Overlay.{overlaid-stands, laid-once, laid-fits, too-small-once}

@@ -1,12 +1,12 @@
 -- Along the chain of a leg's link: each leg passed over is on another link, and each looked at was told apart. Assumes nothing.
-use Prim.Native.Nat.{ℕ, _+_, _≤_, _<_}
-use mathlib.Core.Path.{_≡_, refl, _∙_, sym, subst}
+use Prim.Native.Nat.{ℕ, _≤_, _<_}
+use mathlib.Core.Path.{_≡_, _∙_, sym, subst}
 use mathlib.Core.List.{List}
 use mathlib.Core.Logic.{⊎-elim}
 use lib.ListN.{getD}
 use native.Mathlib.Nat.{eq-or-lt-of-le}
 use native.Mathlib.Omega.{arith}
-use Rattle.basics.proofs.Splits.{lt-or-ge, eq-or-ne}
+use Rattle.basics.proofs.Splits.{lt-or-ge}
 use Rattle.table.specs.Layout.{legCount}
 use Rattle.table.specs.Records.{legAt}
 use Rattle.overlap.specs.Divisor.{IsGcd}

@@ -1,10 +1,10 @@
 -- What is told of the places of one leg.
-use Prim.Native.Nat.{ℕ, _+_, _≤_, _<_}
+use Prim.Native.Nat.{ℕ, _≤_, _<_}
 use mathlib.Core.Path.{_≡_}
 use mathlib.Core.List.{List}
 use Rattle.shape.specs.declared.Found.{Found}
 use Rattle.shape.specs.declared.Found.the-variants as found
-use Rattle.rules.specs.Places.{placesOf, placeAt, PlaceHolds}
+use Rattle.rules.specs.Places.{placeAt, PlaceHolds}
 use Rattle.rules.specs.Rules.{Overlap}
 use Rattle.rules.specs.Steps.{LegIn, FrameOf}
 use Rattle.rules.specs.declared.Frame.{Frame}

@@ -1,6 +1,5 @@
 -- `places::place_count` meets its contract. Assumes nothing.
 use native.Mathlib.Nat.{mul-le-mul}
-use mathlib.Core.Path.{sym}
 use Prim.Native.Nat.{_+_, _*_, _≤_}
 use native.Mathlib.Omega.{arith}
 use Rattle.table.specs.Layout.{maxLegs}

@@ -1,6 +1,6 @@
 -- `checker::look::look_on` meets its contract: at each leg the places passed hold, and the budget used is their number. Assumes nothing.
 use Prim.Native.Nat.{ℕ, _+_, _-_, _≤_, _<_}
-use mathlib.Core.Path.{_≡_, refl, _∙_, ap, subst}
+use mathlib.Core.Path.{_≡_, subst}
 use mathlib.Core.Logic.{⊎-elim}
 use native.Mathlib.Omega.{arith}
 use Rattle.table.specs.Layout.{maxLegs, legCount}

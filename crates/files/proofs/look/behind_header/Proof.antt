@@ -1,7 +1,7 @@
 -- `files::look::behind_header` meets its contract: the header was taken into five words, so its limits and its length are told, and the
 -- records behind it are looked through. Assumes nothing.
 use Prim.Native.Nat.{ℕ, _-_}
-use mathlib.Core.Path.{_≡_, refl, _∙_, sym, ap, subst}
+use mathlib.Core.Path.{_≡_, refl, _∙_, sym, subst}
 use mathlib.Core.List.{List, _++_}
 use mathlib.Core.Logic.{inl, inr}
 use lib.ListN.{length}

@@ -1,6 +1,6 @@
 -- `numbers::series::file_size` meets its contract: the sum so far is the size of the words passed. Assumes nothing.
-use Prim.Native.Nat.{ℕ, _+_, _*_, _-_, _≤_}
-use mathlib.Core.Path.{_≡_, refl, _∙_, ap, sym}
+use Prim.Native.Nat.{_*_, _-_, _≤_}
+use mathlib.Core.Path.{_≡_, _∙_, ap, sym}
 use lib.ListN.{length, take, getD, length-append}
 use lib.Seq.{take-all}
 use native.Mathlib.Omega.{arith}

@@ -1,7 +1,7 @@
 -- `places::chains::chain` meets its contract: each leg is put in front of the chain of its link. Assumes nothing.
-use Prim.Native.Nat.{ℕ, _-_, _+_, _<_}
+use Prim.Native.Nat.{_-_, _+_, _<_}
 use mathlib.Core.Path.{_≡_, refl, _∙_, ap, subst}
-use lib.ListN.{length, length-set, set, getD}
+use lib.ListN.{length-set}
 use native.Mathlib.Omega.{arith}
 use Rattle.table.specs.Layout.{linkCount, legCount}
 use Rattle.table.specs.Records.{legAt}

@@ -1,7 +1,6 @@
 -- `places::leg::each_told` meets its contract: the places from p on and below q hold. Assumes nothing.
-use Prim.Native.Nat.{ℕ, _-_, _≤_, _<_}
+use Prim.Native.Nat.{_-_, _≤_}
 use mathlib.Core.Path.{subst}
-use borrow.Author.Count.{below-more}
 use native.Mathlib.Omega.{arith}
 use Rattle.rules.specs.Places.{JudgedTold}
 use Rattle.places.specs.Told.{LegHolds}

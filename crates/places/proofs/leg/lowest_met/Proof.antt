@@ -1,10 +1,9 @@
 -- `places::leg::lowest_met` meets its contract: what leg a was told of along the chain. Assumes nothing.
-use Prim.Native.Nat.{ℕ, _-_, _<_}
-use mathlib.Core.Path.{_≡_, _∙_, sym, subst}
+use Prim.Native.Nat.{ℕ, _-_}
+use mathlib.Core.Path.{_≡_, sym, subst}
 use native.Mathlib.Omega.{arith}
 use Rattle.basics.specs.Tells.{Tells}
 use Rattle.basics.specs.declared.Holds.{Holds}
-use Rattle.table.specs.Layout.{legCount}
 use Rattle.overlap.specs.Divisor.{IsGcd}
 use Rattle.overlap.proofs.Euclid.{gcd-same}
 use Rattle.rules.specs.Rules.{Overlap}

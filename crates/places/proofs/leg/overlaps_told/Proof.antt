@@ -1,7 +1,6 @@
 -- `places::leg::overlaps_told` meets its contract: the chain of the leg's link begins with its lowest leg. Assumes nothing.
 use Prim.Native.Nat.{ℕ, _<_}
 use mathlib.Core.Path.{_≡_, _∙_, subst}
-use lib.ListN.{getD}
 use native.Mathlib.Omega.{arith}
 use Rattle.table.specs.Layout.{linkCount}
 use Rattle.table.specs.Records.{legAt}
