@@ -23,7 +23,7 @@ fn each_told(t: &[u32], a: usize, f: Frame, p: usize, limit: usize) -> LegTold
 {
     let mut q = p;
     while q < limit {
-        let told = rules::places::judged_place(t, a, f, q);
+        let told = rules::place::judged_place(t, a, f, q);
         match told {
             Judged::Broken(rule) => {
                 return LegTold::Broken(q, rule);
