@@ -2,6 +2,7 @@
 use Rattle.numbers.proofs.OneNumber.{read-number-one-answer, write-number-one-answer}
 use Rattle.files.proofs.OneAnswer.{read-plan-one-answer, write-plan-one-answer, read-cursor-one-answer, write-cursor-one-answer}
 use Rattle.checker.proofs.OneAnswer.{start-one-answer, slice-one-answer, move-one-answer}
+use Rattle.host.proofs.OneAnswer.{host-slice-one-answer, host-refusal-writes-nothing}
 use Rattle.demands.specs.DemandOne.{DemandOne}
 
 pub demand-one : DemandOne
@@ -16,6 +17,7 @@ demand-one = record {
     start = start-one-answer;
     slice = slice-one-answer;
     move-leg = move-one-answer;
+    host-slice = host-slice-one-answer;
   };
   nothing-lost = record {
     write-number = λ x at k p b b′ w. w .kept;
@@ -25,5 +27,6 @@ demand-one = record {
     start = λ t d k p w. w .1;
     slice = λ t c d b k p w. w .1;
     move-leg = λ t t′ c d leg offset k p w. (w .2, w .1);
+    host-slice = host-refusal-writes-nothing;
   };
 }

@@ -87,27 +87,27 @@ over-file {t = t} o f =
     omega (arith, o .left-over)
 
 -- What is wrong with a plan file is one thing, and nothing where it is the file of a table.
-fault-one : (s : List ℕ) (k p l q : ℕ) → PlanFault s k p → PlanFault s l q → (k ≡ l) × (p ≡ q)
-fault-one s k p l q (inl c) (inl d) = cut-once c d
-fault-one s k p l q (inl c) (inr (inl (e, f, h))) = absurd (cut-above h c)
-fault-one s k p l q (inl c) (inr (inr (e, o))) = absurd (cut-table (o .ws) (o .complete) (o .row) c)
-fault-one s k p l q (inr (inl (e, f, h))) (inl c) = absurd (cut-above h c)
-fault-one s k p l q (inr (inl (e, f, h))) (inr (inl (e′, f′, h′))) = (e ∙ sym e′, f ∙ sym f′)
-fault-one s k p l q (inr (inl (e, f, h))) (inr (inr (e′, o))) = absurd (above-table (o .ws) (o .complete) (o .row) h)
-fault-one s k p l q (inr (inr (e, o))) (inl c) = absurd (cut-table (o .ws) (o .complete) (o .row) c)
-fault-one s k p l q (inr (inr (e, o))) (inr (inl (e′, f′, h))) = absurd (above-table (o .ws) (o .complete) (o .row) h)
-fault-one s k p l q (inr (inr (e, o))) (inr (inr (e′, o′))) = (e ∙ sym e′, same-table (o .ws) (o′ .ws) (o .complete) (o′ .complete) (o .row) (o′ .row) .1)
+pub plan-fault-one : (s : List ℕ) (k p l q : ℕ) → PlanFault s k p → PlanFault s l q → (k ≡ l) × (p ≡ q)
+plan-fault-one s k p l q (inl c) (inl d) = cut-once c d
+plan-fault-one s k p l q (inl c) (inr (inl (e, f, h))) = absurd (cut-above h c)
+plan-fault-one s k p l q (inl c) (inr (inr (e, o))) = absurd (cut-table (o .ws) (o .complete) (o .row) c)
+plan-fault-one s k p l q (inr (inl (e, f, h))) (inl c) = absurd (cut-above h c)
+plan-fault-one s k p l q (inr (inl (e, f, h))) (inr (inl (e′, f′, h′))) = (e ∙ sym e′, f ∙ sym f′)
+plan-fault-one s k p l q (inr (inl (e, f, h))) (inr (inr (e′, o))) = absurd (above-table (o .ws) (o .complete) (o .row) h)
+plan-fault-one s k p l q (inr (inr (e, o))) (inl c) = absurd (cut-table (o .ws) (o .complete) (o .row) c)
+plan-fault-one s k p l q (inr (inr (e, o))) (inr (inl (e′, f′, h))) = absurd (above-table (o .ws) (o .complete) (o .row) h)
+plan-fault-one s k p l q (inr (inr (e, o))) (inr (inr (e′, o′))) = (e ∙ sym e′, same-table (o .ws) (o′ .ws) (o .complete) (o′ .complete) (o .row) (o′ .row) .1)
 
-file-no-fault : {s t : List ℕ} {k p : ℕ} → IsFile Sized s t → PlanFault s k p → ⊥
+pub file-no-fault : {s t : List ℕ} {k p : ℕ} → IsFile Sized s t → PlanFault s k p → ⊥
 file-no-fault {t = t} f (inl c) = cut-table t (f .complete) (file-is-row f) c
 file-no-fault {t = t} f (inr (inl (e, g, h))) = above-table t (f .complete) (file-is-row f) h
 file-no-fault f (inr (inr (e, o))) = over-file o f
 
-same-file : {s t u : List ℕ} → IsFile Sized s t → IsFile Sized s u → t ≡ u
+pub same-file : {s t u : List ℕ} → IsFile Sized s t → IsFile Sized s u → t ≡ u
 same-file {t = t} {u = u} f g = same-table t u (f .complete) (g .complete) (file-is-row f) (file-is-row g) .0
 
 unread-one : (s : List ℕ) (room k p l q : ℕ) → PlanUnread s room k p → PlanUnread s room l q → (k ≡ l) × (p ≡ q)
-unread-one s room k p l q (inl f) (inl g) = fault-one s k p l q f g
+unread-one s room k p l q (inl f) (inl g) = plan-fault-one s k p l q f g
 unread-one s room k p l q (inl f) (inr (e, g, t)) = absurd (file-no-fault (t .file) f)
 unread-one s room k p l q (inr (e, g, t)) (inl f) = absurd (file-no-fault (t .file) f)
 unread-one s room k p l q (inr (e, g, t)) (inr (e′, g′, t′)) = (e ∙ sym e′, g ∙ sym g′)

@@ -12,6 +12,9 @@ pub const CURSOR_NUMBERS: usize = 3;
 // The most bytes that a plan file has: five for each word.
 pub const MAX_FILE_BYTES: usize = 5 * table::MAX_TABLE_WORDS;
 
+// The most bytes that a saved cursor has.
+pub const MAX_CURSOR_BYTES: usize = 5 * CURSOR_NUMBERS;
+
 // A plan file read: how many words its table has, or a refusal's number and position.
 pub enum PlanRead {
     Words(usize),
