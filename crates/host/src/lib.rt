@@ -46,7 +46,6 @@ fn put_back(cursor: Cursor, out: &mut [u8])
 
 // The slice from a cursor, where there is room for the one that comes back.
 fn slice_from(t: &[u32], cursor: Cursor, budget: u32, out: &mut [u8]) -> u32
-    requires { ⌜ Words (now t) ⌝ }
     ensures { λ r. ⌜ SlicesFrom (now (t .entry)) cursor budget (now (out .entry)) r (now (out .exit)) ⌝ }
 {
     if out.len() < files::MAX_CURSOR_BYTES {
@@ -72,7 +71,6 @@ fn slice_from(t: &[u32], cursor: Cursor, budget: u32, out: &mut [u8]) -> u32
 
 // The slice from the bytes of a cursor.
 fn slice_table(t: &[u32], cursor: &[u8], budget: u32, out: &mut [u8]) -> u32
-    requires { ⌜ Words (now t) ⌝ }
     ensures { λ r. ⌜ SlicesTable (now (t .entry)) (now (cursor .entry)) budget (now (out .entry)) r (now (out .exit)) ⌝ }
 {
     let saved = files::read_cursor(cursor);

@@ -1,8 +1,7 @@
 -- `host::slice_plan` meets its contract: the words that were read are the table of the file. Assumes nothing.
 use mathlib.Core.Logic.{inl, inr}
-use mathlib.Core.Path.{refl, sym, subst}
+use mathlib.Core.Path.{refl, sym}
 use lib.Seq.{length-take-le}
-use Rattle.numbers.specs.Series.{Words}
 use Rattle.host.proofs.Laws.{plan-fault-small, read-table, read-fault}
 use borrow.Author.Needs.{needs}
 use Rattle.host.proofs.slice_plan.Statement.{statement}
@@ -27,7 +26,7 @@ slice-aggregate-slice-table : tie.Need-slice-aggregate-slice-table
 slice-aggregate-slice-table c = sym (length-take-le _ _ (read-table _ _ _ _ _ (c .before .before .read2 .given .1) (c .before .before .before .before .before .before .read-plan .ensures) .2 .1))
 
 slice-table-requires : tie.Need-slice-table-requires
-slice-table-requires c κs = let x = read-table _ _ _ _ _ (c .before .before .before .read2 .given .1) (c .before .before .before .before .before .before .before .read-plan .ensures) in subst Words (sym (x .2 .0)) (x .1 .words)
+slice-table-requires c κs = search needs
 
 same-length : tie.Need-same-length
 same-length c = search needs
