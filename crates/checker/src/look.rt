@@ -10,7 +10,7 @@ use crate::SliceAnswer;
 use files::Cursor;
 use places::LegTold;
 
-// Leg by leg, with the chains of all legs. What is left of the budget and the place go down and up together.
+// Leg by leg, with the chains of all legs: the slice stands at (a,p), and left is what is left of its budget.
 fn look_on(t: &[u32], first: &[usize], next: &[usize], cursor: Cursor, budget: u32) -> SliceAnswer
     requires { ⌜ CursorRight (now t) cursor ⌝ }
     requires { ⌜ Looked (now t) (now first) (now next) ⌝ }
