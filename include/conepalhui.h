@@ -1,0 +1,212 @@
+/*
+ * conepalhui.h: the calls of Conepalhui, for C (C99 or later) and C++.
+ *
+ * Conepalhui checks a network timetable (IEEE 802.1Qbv): whether every frame keeps its window, its hops and its
+ * deadline, and whether two frames ever want one wire. The check is done in slices as small as one likes. Between two
+ * slices all that is known of it is a cursor of at most 15 bytes, which the caller saves where it likes.
+ *
+ *     uint8_t cursor[CONEPALHUI_CURSOR_BYTES], next[CONEPALHUI_CURSOR_BYTES];
+ *     uint64_t answer = conepalhui_start(plan, plan_len, cursor, sizeof cursor);
+ *     if (conepalhui_result(answer) != 0)
+ *         return bad_plan(answer);
+ *     do {
+ *         wait_until_idle();
+ *         answer = conepalhui_slice_full(plan, plan_len, cursor, conepalhui_cursor_length(cursor), 200,
+ *                                        next, sizeof next);
+ *         memcpy(cursor, next, sizeof cursor);
+ *     } while (conepalhui_result(answer) == CONEPALHUI_PAUSED);
+ *
+ * A frame may be given another slot while the check is paused, by conepalhui_move alone: it gives the new plan file and
+ * the cursor to go on with. The verdict is then that of a whole check of the new plan. A plan that was changed in any
+ * other way needs a new start: a cursor knows its plan by the revision, and only a move raises that.
+ *
+ * examples/host.c is a whole program that keeps plan and cursor in files and may be killed at any moment.
+ */
+#ifndef CONEPALHUI_H
+#define CONEPALHUI_H
+
+#include <stddef.h>
+#include <stdint.h>
+
+/*
+ * What holds of every call
+ *
+ * Any bytes and any numbers may be handed in. Each call ends, with an answer or a numbered refusal.
+ *
+ * Memory. A pointer and the length behind it lend that many bytes to the call, until it returns. A pointer may be null
+ * where its length is 0. plan and cursor are only read, and may overlap one another. out and new_plan are written to:
+ * neither may overlap any other memory that is lent to the same call. While a call runs, nobody else may write to the
+ * lent memory, nor read out and new_plan.
+ *
+ * A refusal writes nothing. So whoever keeps the cursor's bytes apart from out still has them. Otherwise the answer lies
+ * in the first bytes of out (and of new_plan), and every byte behind it is what it was.
+ *
+ * Nothing is kept between calls. There is no memory from the heap, no global state, no file and no lock: calls from
+ * several threads at once do not concern each other. No call uses more than CONEPALHUI_STACK_BYTES of the stack.
+ *
+ * Linking. The archive is for x86-64 and the System V calling convention (Linux). Of other libraries it needs memset
+ * alone. It is proved and built with 'rt staticlib host', which writes target/staticlib/libhost.a.
+ */
+
+#define CONEPALHUI_CURSOR_BYTES 15    /* room for every cursor; out must have this many bytes or more */
+#define CONEPALHUI_PLAN_BYTES 48665   /* no plan file is longer; room for every new plan */
+#define CONEPALHUI_MOVE_BYTES 5       /* a move makes a plan file longer by this many bytes at most */
+#define CONEPALHUI_STACK_BYTES 131072 /* a thread that calls needs this much stack beyond its own */
+
+/* The results. Each call tells one of them: conepalhui_slice returns it, the others have it in the low 32 bits. */
+enum {
+    CONEPALHUI_NOTHING_VIOLATED = 0, /* a slice: nothing is violated from its cursor on, so the plan is accepted */
+    CONEPALHUI_GRANTED = 0,          /* start and move: done */
+    CONEPALHUI_PAUSED = 1,           /* a slice: the budget is used up, and all that was looked at holds */
+    CONEPALHUI_WINDOW = 2,           /* violated: the frame is not through at the end of its period */
+    CONEPALHUI_HOP = 3,              /* violated: it is sent on before it has arrived from its previous link */
+    CONEPALHUI_DEADLINE = 4,         /* violated: it arrives at its last node after its deadline */
+    CONEPALHUI_OVERLAP = 5,          /* violated: two frames want one link at some time */
+    CONEPALHUI_REFUSED = 100         /* plus the number of the refusal, 101 to 115 */
+};
+
+/*
+ * The refusals, with the position that is told beside each. docs/REFUSALS.md has examples, and what to do.
+ *
+ *   no.   cause                                                                         position
+ *    2    more than 256 links, 512 streams or 2,048 legs, or precision above 1 ms       0
+ *    4    a link out of range                                                           the lowest such link
+ *    5    a link that has the same nodes as an earlier one                              the lowest later link
+ *    6    a stream out of range, or its legs do not follow those before it              the lowest such stream
+ *         all streams are right, and have fewer legs than the header says               the number of streams
+ *    7    a leg's stream, link or route is wrong                                        the lowest such leg
+ *    8    the cursor is of another revision than the plan                               0
+ *    9    the cursor is at no place of the plan, nor at its end                         0
+ *   10    no such leg                                                                   0
+ *   11    a move at revision 4,294,967,295                                              0
+ *   12    the bytes end before the numbers do                                           where that number starts
+ *   13    a number not in its shortest form, or above 32 bits                           where it starts
+ *   14    bytes left over behind the numbers                                            the first such byte
+ *   15    out has fewer than 15 bytes, or the new plan does not fit into new_plan        0
+ *
+ * 1 (fewer than five words) and 3 (another length than the header says) are of tables in memory: a plan file that is
+ * too short or too long is refused with 12 or 14.
+ *
+ * Where several are due the first is told: of the plan 12 and 13 from left to right, 2 behind the fifth number, 14; of
+ * the cursor 12, 13, 14; 15 for out; then 4 to 11 in their order; and last 15 for new_plan. A 12, 13 or 14 of a slice or
+ * a move lies in the plan exactly when conepalhui_start refuses that plan with it too, and otherwise in the cursor.
+ */
+
+/*
+ * Places and cursors
+ *
+ * Leg a of a plan has the places 0 (window), 1 (hop), 2 (deadline) and 3 + b (overlap with leg b) for each leg b below
+ * a. A check looks at them by leg, and then by place. A plan of G legs has G(G - 1)/2 + 3G places, and the end is leg
+ * G, place 0.
+ *
+ * A cursor is three numbers: the plan's revision, a leg, and a place of that leg. A number is written in groups of seven
+ * bits, the lowest group first, the top bit set on all bytes but the last, in as few bytes as possible. So a cursor ends
+ * with the third byte below 0x80. A plan file is such numbers as well.
+ */
+
+#ifdef __cplusplus
+extern "C" {
+#endif
+
+/*
+ * Begins a check. out gets the first cursor: the plan's revision, leg 0, place 0.
+ *
+ * Low 32 bits: 0 granted, or 100 + refusal. High 32 bits: how many places the plan has, or the refusal's position.
+ */
+uint64_t conepalhui_start(const uint8_t *plan, size_t plan_len, uint8_t *out, size_t out_len);
+
+/*
+ * Looks at the plan's places in order from the cursor on, at no more than budget of them, and stops sooner only at a
+ * violated place or at the end. Any budget will do, 0 too. out gets the cursor to go on with:
+ *
+ *   0  nothing violated from the cursor on: the end. This is told as soon as the end is reached, not a slice later
+ *   1  paused: the first place that was not looked at
+ *   2 to 5  violated: that very place. Another slice from there tells it again
+ *
+ * The call reads the whole plan whatever the budget is, so a slice of a few hundred places costs less for each of them
+ * than a slice of one.
+ *
+ * Low 32 bits: the result, or 100 + refusal. High 32 bits: the steps, which are the places that were looked at, or the
+ * refusal's position.
+ */
+uint64_t conepalhui_slice_full(const uint8_t *plan, size_t plan_len, const uint8_t *cursor, size_t cursor_len,
+                               uint32_t budget, uint8_t *out, size_t out_len);
+
+/* The same slice. It returns the result alone, without the steps or the position. */
+uint32_t conepalhui_slice(const uint8_t *plan, size_t plan_len, const uint8_t *cursor, size_t cursor_len,
+                          uint32_t budget, uint8_t *out, size_t out_len);
+
+/*
+ * Sets the offset of one leg to any number of nanoseconds and raises the plan's revision by one. new_plan gets the whole
+ * new plan file, out the cursor to go on with: of the new revision, at the given place or at (leg, 0), whichever comes
+ * first. Cursors of the old plan are refused with 8 from then on. To set the offset that the leg has already is a move
+ * like any other.
+ *
+ * plan_len + CONEPALHUI_MOVE_BYTES bytes are room enough for the new plan, and so are CONEPALHUI_PLAN_BYTES. Whoever
+ * saves both saves the new plan before the new cursor: then a saved cursor is never newer than the saved plan.
+ *
+ * Low 32 bits: 0 granted, or 100 + refusal. High 32 bits: how many bytes the new plan file has, or the position.
+ */
+uint64_t conepalhui_move(const uint8_t *plan, size_t plan_len, const uint8_t *cursor, size_t cursor_len,
+                         uint32_t leg, uint32_t offset, uint8_t *new_plan, size_t new_plan_len,
+                         uint8_t *out, size_t out_len);
+
+#ifdef __cplusplus
+}
+#endif
+
+/* ---- Reading answers and cursors */
+
+/* The result in an answer: one of those above. */
+static inline uint32_t conepalhui_result(uint64_t answer)
+{
+    return (uint32_t)(answer & 0xFFFFFFFFu);
+}
+
+/* The number beside it: places, steps, the bytes of the new plan, or the position of a refusal. */
+static inline uint32_t conepalhui_number(uint64_t answer)
+{
+    return (uint32_t)(answer >> 32);
+}
+
+/* The number of the refusal that a result tells, or 0 where it tells none. */
+static inline uint32_t conepalhui_refusal(uint32_t result)
+{
+    return result > CONEPALHUI_REFUSED ? result - CONEPALHUI_REFUSED : 0;
+}
+
+/* How many bytes the cursor has that a call wrote to out. Only for such cursors: other bytes may have no end. */
+static inline size_t conepalhui_cursor_length(const uint8_t *cursor)
+{
+    size_t length = 0;
+    int ends = 0;
+    while (ends < 3 && length < CONEPALHUI_CURSOR_BYTES)
+        ends += cursor[length++] < 0x80;
+    return length;
+}
+
+/* A cursor as numbers. */
+struct conepalhui_place {
+    uint32_t revision, leg, place;
+};
+
+/* The three numbers of a cursor that a call wrote to out. */
+static inline struct conepalhui_place conepalhui_cursor_place(const uint8_t *cursor)
+{
+    uint32_t numbers[3] = {0, 0, 0};
+    size_t length = conepalhui_cursor_length(cursor), at;
+    unsigned which = 0, shift = 0;
+    struct conepalhui_place place;
+    for (at = 0; at < length; at++) {
+        if (shift < 32)
+            numbers[which] |= (uint32_t)(cursor[at] & 0x7F) << shift;
+        shift = cursor[at] < 0x80 ? 0 : shift + 7;
+        which += cursor[at] < 0x80;
+    }
+    place.revision = numbers[0];
+    place.leg = numbers[1];
+    place.place = numbers[2];
+    return place;
+}
+
+#endif
