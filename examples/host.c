@@ -204,12 +204,12 @@ static bool read_input(bool wait)
 }
 
 /*
- * Gives the next line without its end, or null where no whole line is there yet. What stands behind the last end of
- * line may be a part of a move, and is never taken. A line that is too long for a move is given as an empty one.
+ * Gives the next line with its end, or null where no whole line is there yet. What stands behind the last end of line
+ * may be a part of a move, and is never taken. A line that is too long for a move is given as an empty one.
  */
 static const char *next_line(bool wait)
 {
-    static char line[sizeof input];
+    static char line[sizeof input + 1];
     static bool too_long;
     const char *end;
     while ((end = memchr(input, '\n', input_len)) == NULL) {
@@ -220,12 +220,12 @@ static const char *next_line(bool wait)
         if (input_ended || !read_input(wait))
             return NULL;
     }
-    size_t length = (size_t)(end - input);
+    size_t length = (size_t)(end - input) + 1;
     memcpy(line, input, length);
     line[too_long ? 0 : length] = '\0';
     too_long = false;
-    input_len -= length + 1;
-    memmove(input, end + 1, input_len);
+    input_len -= length;
+    memmove(input, input + length, input_len);
     return line;
 }
 
@@ -250,7 +250,7 @@ static bool take_moves(bool wait)
     while ((line = next_line(wait && !changed)) != NULL) {
         uint32_t leg, offset;
         const char *rest = read_number(line, ' ', &leg);
-        if (rest != NULL && read_number(rest, '\0', &offset) != NULL)
+        if (rest != NULL && read_number(rest, '\n', &offset) != NULL)
             changed = move(leg, offset) || changed;
         else
             tell("no move: a move is LEG OFFSET, two numbers from 0 to 4294967295");
