@@ -12,7 +12,7 @@ use Rattle.numbers.specs.Number.{maxWord, groupValues, maxGoOn, maxFifth
 use Rattle.numbers.specs.Groups.{worth}
 use Rattle.numbers.specs.Calls.{ReadsNumber}
 use Rattle.numbers.specs.Theorems.{ReadNumberOneAnswer, WriteNumberOneAnswer, NumbersComeBack, BytesTellNumbers, NumberBytesAtMost, NumbersOfThePaper}
-use Rattle.numbers.proofs.Groups.{writing-is-shortest}
+use Rattle.numbers.proofs.Groups.{groups-few, writing-is-shortest}
 use Rattle.numbers.proofs.Overlay.{overlaid-stands, laid-once, laid-fits, too-small-once}
 use Rattle.numbers.proofs.Passing.{worth-more}
 
@@ -186,11 +186,8 @@ pub bytes-tell-numbers : BytesTellNumbers
 bytes-tell-numbers x y hx hy e = sym (word-ended x hx .worth-is) ∙ ap worth e ∙ word-ended y hy .worth-is
 
 pub number-bytes-at-most : NumberBytesAtMost
-number-bytes-at-most x h =
-    let a = word-ended x h in
-    let l = ap length (a .whole) ∙ length-append (a .before) (a .last ∷ []) in
-    let f = a .few in
-    (omega arith, omega arith)
+unfolding bytesOf
+number-bytes-at-most x = groups-few maxGoOn x
 
 pub numbers-of-the-paper : NumbersOfThePaper
 unfolding bytesOf groupsOf

@@ -96,12 +96,12 @@ pub file-split : (ws : List ℕ) (i : ℕ) → length (fileOf ws) ≡ length (fi
 file-split ws i = ap (λ (l : List ℕ). length (fileOf l)) (sym (take-append-drop i ws)) ∙ rw (file-append, length-append)
 
 -- A file has at most five bytes for each word.
-pub file-length : (ws : List ℕ) → Words ws → length (fileOf ws) ≤ maxNumberBytes * length ws
+pub file-length : (ws : List ℕ) → length (fileOf ws) ≤ maxNumberBytes * length ws
 unfolding fileOf
-file-length [] w = omega arith
-file-length (v ∷ vs) w =
-    let i = file-length vs (w .1) in
-    let n = number-bytes-at-most v (w .0) in
+file-length [] = omega arith
+file-length (v ∷ vs) =
+    let i = file-length vs in
+    let n = number-bytes-at-most v in
     let l = length-append (bytesOf v) (fileOf vs) in
     omega arith
 

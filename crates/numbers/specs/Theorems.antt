@@ -32,7 +32,7 @@ BytesTellNumbers = (x y : ℕ) → x ≤ maxWord → y ≤ maxWord → bytesOf x
 
 -- A number has one to five bytes.
 abbrev pub NumberBytesAtMost : Type 0
-NumberBytesAtMost = (x : ℕ) → x ≤ maxWord → (1 ≤ length (bytesOf x)) × (length (bytesOf x) ≤ maxNumberBytes)
+NumberBytesAtMost = (x : ℕ) → (1 ≤ length (bytesOf x)) × (length (bytesOf x) ≤ maxNumberBytes)
 
 -- 300 is AC 02; 4,294,967,295 is FF FF FF FF 0F.
 abbrev pub NumbersOfThePaper : Type 0
