@@ -1,6 +1,6 @@
 /*
- * durable.h: small files in one folder, read whole, and replaced so that a kill or a power cut at any moment leaves the
- * old file or the new one, and never a part of either.
+ * durable.h: small files in one folder, read whole, and replaced so that a kill or a power cut at any moment leaves
+ * the old file or the new one, and never a part of either.
  */
 #ifndef DURABLE_H
 #define DURABLE_H
@@ -10,8 +10,9 @@
 #include <sys/types.h>
 
 /*
- * Opens a folder for the calls below and keeps every other process out of it that opens it so. The folder is free again
- * when the process ends, in whatever way. Gives a descriptor, or -1 with errno: EWOULDBLOCK where another process has it.
+ * Opens a folder for the calls below and keeps every other process out of it that opens it so. The folder is free
+ * again when the process ends, in whatever way. Gives a descriptor, or -1 with errno: EWOULDBLOCK where another
+ * process has it.
  */
 int durable_open(const char *path);
 
@@ -19,9 +20,9 @@ int durable_open(const char *path);
 ssize_t durable_read(int folder, const char *name, uint8_t *bytes, size_t room);
 
 /*
- * Makes these bytes the contents of the file name, which need not be there yet. Gives 0 once they would outlast a power
- * cut. Gives -1 with errno otherwise: the file is then the old one or the new one. name has at most 60 characters, and
- * the file name.new belongs to this call.
+ * Makes these bytes the contents of the file name, which need not be there yet. Gives 0 once they would outlast a
+ * power cut. Gives -1 with errno otherwise: the file is then the old one or the new one. name has at most 60
+ * characters, and the file name.new belongs to this call.
  */
 int durable_replace(int folder, const char *name, const uint8_t *bytes, size_t length);
 

@@ -3,18 +3,19 @@
  *
  *     host FOLDER BUDGET
  *
- * FOLDER/plan is the plan file. FOLDER/cursor is the saved cursor: where there is none, a new check begins. Each slice
- * looks at BUDGET places at most. Standard input gives the moves, a line 'LEG OFFSET' each. They are taken between
- * two slices, and also after a verdict, until standard input ends; then the exit status tells the last verdict: 0
- * accepted, 1 violated. It is 2 where the plan is refused, and 4 for bad arguments and for files that cannot be read or
- * written.
+ * FOLDER/plan is the plan file. FOLDER/cursor is the saved cursor: where there is none, a new check begins. Each
+ * slice looks at BUDGET places at most. Standard input gives the moves, a line 'LEG OFFSET' each. They are taken
+ * between two slices, and also after a verdict, until standard input ends; then the exit status tells the last
+ * verdict: 0 accepted, 1 violated. It is 2 where the plan is refused, and 4 for bad arguments and for files that
+ * cannot be read or written.
  *
  * Every answer is a line. It is printed when all that it tells is on the disk: a move that is told as moved is in the
  * plan for good. Whoever misses the answer to a move makes it again, which does no harm.
  *
  * The program may be killed at any moment, and is then called again. A move saves the plan before the cursor, so a
  * saved cursor is never newer than the saved plan. Killed between the two, it leaves a cursor that is older than the
- * plan. The library refuses that one with 8, and the next run begins a new check: this costs time, and never a wrong verdict.
+ * plan. The library refuses that one with 8, and the next run begins a new check: this costs time, and never a wrong
+ * verdict.
  */
 #define _DEFAULT_SOURCE
 
@@ -111,7 +112,7 @@ static bool cursor_fits(void)
     return false;
 }
 
-/* Takes the check up where it was left, or begins a new one. The plan is tried first: then a refusal is the cursor's. */
+/* Takes the check up, or begins a new one. The plan is tried first, so a refusal behind that is the cursor's. */
 static void begin(void)
 {
     uint8_t out[CONEPALHUI_CURSOR_BYTES];
@@ -229,7 +230,7 @@ static const char *next_line(bool wait)
     return line;
 }
 
-/* Reads digits and nothing else, up to the end mark. Gives what stands behind the mark, or null where it is no number. */
+/* Reads digits up to a mark. Gives what stands behind the mark, or null where it is no number of 32 bits. */
 static const char *read_number(const char *text, char mark, uint32_t *number)
 {
     uint64_t value = 0;

@@ -7,18 +7,21 @@
  *
  *     uint8_t cursor[CONEPALHUI_CURSOR_BYTES], next[CONEPALHUI_CURSOR_BYTES];
  *     uint64_t answer = conepalhui_start(plan, plan_len, cursor, sizeof cursor);
- *     if (conepalhui_result(answer) != 0)
- *         return bad_plan(answer);
+ *     if (conepalhui_result(answer) != CONEPALHUI_GRANTED)
+ *         return refused(answer);
  *     do {
  *         wait_until_idle();
  *         answer = conepalhui_slice_full(plan, plan_len, cursor, conepalhui_cursor_length(cursor), 200,
  *                                        next, sizeof next);
- *         memcpy(cursor, next, sizeof cursor);
+ *         if (conepalhui_refusal(conepalhui_result(answer)) != 0)
+ *             return refused(answer);
+ *         memcpy(cursor, next, conepalhui_cursor_length(next));
  *     } while (conepalhui_result(answer) == CONEPALHUI_PAUSED);
  *
- * A frame may be given another slot while the check is paused, by conepalhui_move alone: it gives the new plan file and
- * the cursor to go on with. The verdict is then that of a whole check of the new plan. A plan that was changed in any
- * other way needs a new start: a cursor knows its plan by the revision, and only a move raises that.
+ * A frame may be given another slot while the check is paused: conepalhui_move gives the new plan file and the cursor
+ * to go on with, and the verdict will be that of a whole check of the new plan. This holds for any mix of slices and
+ * moves after a start, as long as cursors are not altered and the plan is changed by moves alone. A plan that was
+ * changed in any other way needs a new start: a cursor knows its plan by the revision, and is taken at its word.
  *
  * examples/host.c is a whole program that keeps plan and cursor in files and may be killed at any moment.
  */
@@ -33,29 +36,29 @@
  *
  * Any bytes and any numbers may be handed in. Each call ends, with an answer or a numbered refusal.
  *
- * Memory. A pointer and the length behind it lend that many bytes to the call, until it returns. A pointer may be null
- * where its length is 0. plan and cursor are only read, and may overlap one another. out and new_plan are written to:
- * neither may overlap any other memory that is lent to the same call. While a call runs, nobody else may write to the
- * lent memory, nor read out and new_plan.
+ * Memory. A pointer and the length behind it lend that many bytes to the call, until it returns. A pointer may be
+ * null where its length is 0. plan and cursor are only read, and may overlap one another. out and new_plan are
+ * written to: neither may overlap any other memory that is lent to the same call. While a call runs, nobody else may
+ * write to the lent memory, nor read out and new_plan.
  *
- * A refusal writes nothing. So whoever keeps the cursor's bytes apart from out still has them. Otherwise the answer lies
- * in the first bytes of out (and of new_plan), and every byte behind it is what it was.
+ * A refusal writes nothing. So whoever keeps the cursor's bytes apart from out still has them. Otherwise the answer
+ * lies in the first bytes of out (and of new_plan), and every byte behind it is what it was.
  *
  * Nothing is kept between calls. There is no memory from the heap, no global state, no file and no lock: calls from
  * several threads at once do not concern each other. No call uses more than CONEPALHUI_STACK_BYTES of the stack.
  *
- * Linking. The archive is for x86-64 and the System V calling convention (Linux). Of other libraries it needs memset
- * alone. It is proved and built with 'rt staticlib host', which writes target/staticlib/libhost.a.
+ * Linking. The archive is for x86-64 and the System V calling convention (Linux), in programs and in shared libraries.
+ * Of other libraries it needs memset alone. 'rt staticlib host' proves it and writes target/staticlib/libhost.a.
  */
 
-#define CONEPALHUI_CURSOR_BYTES 15    /* room for every cursor; out must have this many bytes or more */
-#define CONEPALHUI_PLAN_BYTES 48665   /* no plan file is longer; room for every new plan */
-#define CONEPALHUI_MOVE_BYTES 5       /* a move makes a plan file longer by this many bytes at most */
-#define CONEPALHUI_STACK_BYTES 131072 /* a thread that calls needs this much stack beyond its own */
+#define CONEPALHUI_CURSOR_BYTES 15   /* room for every cursor; out must have this many bytes or more */
+#define CONEPALHUI_PLAN_BYTES 48665  /* no plan file is longer; room for every new plan */
+#define CONEPALHUI_MOVE_BYTES 5      /* a move makes a plan file longer by this many bytes at most */
+#define CONEPALHUI_STACK_BYTES 98304 /* a thread that calls needs this much stack beyond its own */
 
 /* The results. Each call tells one of them: conepalhui_slice returns it, the others have it in the low 32 bits. */
 enum {
-    CONEPALHUI_NOTHING_VIOLATED = 0, /* a slice: nothing is violated from its cursor on, so the plan is accepted */
+    CONEPALHUI_NOTHING_VIOLATED = 0, /* a slice: nothing is violated from its cursor on, and the check is done */
     CONEPALHUI_GRANTED = 0,          /* start and move: done */
     CONEPALHUI_PAUSED = 1,           /* a slice: the budget is used up, and all that was looked at holds */
     CONEPALHUI_WINDOW = 2,           /* violated: the frame is not through at the end of its period */
@@ -87,21 +90,22 @@ enum {
  * 1 (fewer than five words) and 3 (another length than the header says) are of tables in memory: a plan file that is
  * too short or too long is refused with 12 or 14.
  *
- * Where several are due the first is told: of the plan 12 and 13 from left to right, 2 behind the fifth number, 14; of
- * the cursor 12, 13, 14; 15 for out; then 4 to 11 in their order; and last 15 for new_plan. A 12, 13 or 14 of a slice or
- * a move lies in the plan exactly when conepalhui_start refuses that plan with it too, and otherwise in the cursor.
+ * Where several are due the first is told: of the plan 12 and 13 from left to right, 2 behind the fifth number, 14;
+ * of the cursor 12, 13, 14; 15 for out; then 4 to 11 in their order; and last 15 for new_plan. A 12, 13 or 14 of a
+ * slice or a move lies in the plan exactly when conepalhui_start refuses that plan with it too, and otherwise in the
+ * cursor.
  */
 
 /*
  * Places and cursors
  *
- * Leg a of a plan has the places 0 (window), 1 (hop), 2 (deadline) and 3 + b (overlap with leg b) for each leg b below
- * a. A check looks at them by leg, and then by place. A plan of G legs has G(G - 1)/2 + 3G places, and the end is leg
- * G, place 0.
+ * Leg a of a plan has the places 0 (window), 1 (hop), 2 (deadline) and 3 + b (overlap with leg b) for each leg b
+ * below a. A check looks at them by leg, and then by place. A plan of G legs has G(G - 1)/2 + 3G places, and the end
+ * is leg G, place 0.
  *
- * A cursor is three numbers: the plan's revision, a leg, and a place of that leg. A number is written in groups of seven
- * bits, the lowest group first, the top bit set on all bytes but the last, in as few bytes as possible. So a cursor ends
- * with the third byte below 0x80. A plan file is such numbers as well.
+ * A cursor is three numbers: the plan's revision, a leg, and a place of that leg. A number is written in groups of
+ * seven bits, the lowest group first, the top bit set on all bytes but the last, in as few bytes as possible. So a
+ * cursor ends with the third byte below 0x80. A plan file is such numbers as well.
  */
 
 #ifdef __cplusplus
@@ -123,11 +127,11 @@ uint64_t conepalhui_start(const uint8_t *plan, size_t plan_len, uint8_t *out, si
  *   1  paused: the first place that was not looked at
  *   2 to 5  violated: that very place. Another slice from there tells it again
  *
- * The call reads the whole plan whatever the budget is, so a slice of a few hundred places costs less for each of them
- * than a slice of one.
+ * The call reads the whole plan whatever the budget is, so a slice of a few hundred places costs less for each of
+ * them than a slice of one.
  *
- * Low 32 bits: the result, or 100 + refusal. High 32 bits: the steps, which are the places that were looked at, or the
- * refusal's position.
+ * Low 32 bits: the result, or 100 + refusal. High 32 bits: the steps, which are the places that were looked at, or
+ * the refusal's position.
  */
 uint64_t conepalhui_slice_full(const uint8_t *plan, size_t plan_len, const uint8_t *cursor, size_t cursor_len,
                                uint32_t budget, uint8_t *out, size_t out_len);
@@ -137,10 +141,10 @@ uint32_t conepalhui_slice(const uint8_t *plan, size_t plan_len, const uint8_t *c
                           uint32_t budget, uint8_t *out, size_t out_len);
 
 /*
- * Sets the offset of one leg to any number of nanoseconds and raises the plan's revision by one. new_plan gets the whole
- * new plan file, out the cursor to go on with: of the new revision, at the given place or at (leg, 0), whichever comes
- * first. Cursors of the old plan are refused with 8 from then on. To set the offset that the leg has already is a move
- * like any other.
+ * Sets the offset of one leg to any number of nanoseconds and raises the plan's revision by one. new_plan gets the
+ * whole new plan file, out the cursor to go on with: of the new revision, at the given place or at (leg, 0),
+ * whichever comes first. Cursors of the old plan are refused with 8 from then on. To set the offset that the leg has
+ * already is a move like any other.
  *
  * plan_len + CONEPALHUI_MOVE_BYTES bytes are room enough for the new plan, and so are CONEPALHUI_PLAN_BYTES. Whoever
  * saves both saves the new plan before the new cursor: then a saved cursor is never newer than the saved plan.

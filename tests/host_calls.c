@@ -1,9 +1,10 @@
 /*
- * host_calls.c: every call of conepalhui.h at the cases of the rules, at every refusal, and at the edges of its buffers.
+ * host_calls.c: every call of conepalhui.h at the cases of the rules, at every refusal, and at the edges of its
+ * buffers.
  *
- * What is due stands here in numbers, worked out by hand from the rules. Each lent buffer ends at a page that may not be
- * touched, so that a byte read or written behind it ends the program; what lies before it is compared. The exit status
- * is 0 only where all answers are those that are due. tests/host.test builds and runs it.
+ * What is due stands here in numbers, worked out by hand from the rules. Each lent buffer ends at a page that may not
+ * be touched, so that a byte read or written behind it ends the program; what lies before it is compared. The exit
+ * status is 0 only where all answers are those that are due. tests/host.test builds and runs it.
  */
 #define _GNU_SOURCE
 
@@ -432,7 +433,8 @@ static void stacks(void)
     static const struct {
         const char *name;
         void (*call)(void);
-    } calls[] = {{"start", stack_start}, {"slice_full", stack_slice}, {"slice", stack_short_slice}, {"move", stack_move}};
+    } calls[] = {
+        {"start", stack_start}, {"slice_full", stack_slice}, {"slice", stack_short_slice}, {"move", stack_move}};
     const char *plans[] = {largest, plan_a};
     make_largest();
     start("largest plan", largest, 15, gives(0, 2102272, "07 00 00"));

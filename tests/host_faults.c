@@ -1,8 +1,8 @@
 /*
  * host_faults.c: stands between examples/ and the system, and makes one call of the host go wrong.
  *
- * It is linked with --wrap for each call below. The environment variable HOST_FAULT is 'KIND N': the host's call number
- * N, counted from 1, goes wrong in this way:
+ * It is linked with --wrap for each call below. The environment variable HOST_FAULT is 'KIND N': the host's call
+ * number N, counted from 1, goes wrong in this way:
  *
  *   kill       the host is killed before the call is made
  *   fail       the call is not made, and fails for good: the disk is full, or broken
