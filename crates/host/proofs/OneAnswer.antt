@@ -18,10 +18,14 @@ use Rattle.checker.specs.declared.Grant.{Grant}
 use Rattle.checker.specs.declared.Grant.the-variants as grant
 use Rattle.checker.proofs.OneAnswer.{start-one-answer, slice-one-answer, move-one-answer}
 use Rattle.host.specs.declared.Answer.{Answer}
-use Rattle.host.specs.Answers.{refusal, sliceAnswered, grantAnswered, bytesAfterSlice, bytesAfterStart, inHalves, resultAlone}
+use Rattle.host.specs.Answers.{refusal, sliceAnswered, startAnswered, bytesAfterSlice, bytesAfterStart, inHalves, resultAlone}
 use Rattle.host.specs.Refusals.{RefusedFor, CursorUnread, TooFew, AfterPlan, AfterCursor, AfterRoom}
 use Rattle.host.specs.Calls.{Lent, AfterMove, BothWritten, Started, Sliced, MoveMade, StartsTable, SlicesTable, MovesTable, HostStarts, HostSlices, HostMoves, Returns}
-use Rattle.host.specs.Theorems.{One, OneNumber, HostStartOneAnswer, HostSliceFullOneAnswer, HostSliceOneAnswer, HostMoveOneAnswer}
+use Rattle.host.specs.Theorems.{OneNumber, HostStartOneAnswer, HostSliceFullOneAnswer, HostSliceOneAnswer, HostMoveOneAnswer}
+
+-- Whatever Does says of a call has one answer and leaves one memory.
+abbrev pub One : (M : Type 0) → (Answer → M → Type 0) → Type 0
+One M Does = (a b : Answer) (m n : M) → Does a m → Does b n → (a ≡ b) × (m ≡ n)
 
 -- What was read of a cursor, as numbers and a cursor.
 number-of : CursorRead → ℕ
@@ -86,11 +90,11 @@ module _ (M : Type 0) (m : M) where
 started-one : (t out : List ℕ) → One (List ℕ) (Started t out)
 started-one t out a b x y u v =
     let e = start-one-answer t (u .given) (v .given) (u .starts) (v .starts) in
-    (u .answer ∙ ap (grantAnswered (placeCount t)) e ∙ sym (v .answer), u .after ∙ ap (bytesAfterStart out) e ∙ sym (v .after))
+    (u .answer ∙ ap (startAnswered (placeCount t)) e ∙ sym (v .answer), u .after ∙ ap (bytesAfterStart out) e ∙ sym (v .after))
 
 sliced-one : (t : List ℕ) (c : Cursor) (budget : ℕ) (out : List ℕ) → One (List ℕ) (Sliced t c budget out)
 sliced-one t c budget out a b x y u v =
-    let e = slice-one-answer t c budget (u .told) (v .told) (u .slices) (v .slices) in
+    let e = slice-one-answer t c budget (u .given) (v .given) (u .slices) (v .slices) in
     (u .answer ∙ ap sliceAnswered e ∙ sym (v .answer), u .after ∙ ap (bytesAfterSlice out) e ∙ sym (v .after))
 
 written-one : (u : List ℕ) (d : Cursor) (m : Lent) → One Lent (BothWritten u d m)
@@ -112,7 +116,7 @@ starts-one plan out =
     after-plan-one (List ℕ) out plan (λ (t : List ℕ). StartsTable t out)
     (λ t. after-room-one (List ℕ) out (length out) maxCursorBytes (Started t out) (started-one t out))
 
-slices-one : (plan cursor : List ℕ) (budget : ℕ) (out : List ℕ) → One (List ℕ) (HostSlices plan cursor budget out)
+pub slices-one : (plan cursor : List ℕ) (budget : ℕ) (out : List ℕ) → One (List ℕ) (HostSlices plan cursor budget out)
 slices-one plan cursor budget out =
     after-plan-one (List ℕ) out plan (λ (t : List ℕ). AfterCursor (List ℕ) cursor out (λ (c : Cursor). SlicesTable t c budget out))
     (λ t. after-cursor-one (List ℕ) out cursor (λ (c : Cursor). SlicesTable t c budget out)
@@ -125,10 +129,10 @@ moves-one plan cursor leg offset m =
     (λ c. after-room-one Lent m (length (m .out)) maxCursorBytes (MoveMade t c leg offset m) (move-made-one t c leg offset m)))
 
 -- The number that C gets.
-returns-one : (M : Type 0) (told : Answer → ℕ) (Does : Answer → M → Type 0) → One M Does → OneNumber M (Returns M told Does)
-returns-one M told Does one r s x y u v =
+returns-one : (M : Type 0) (tell : Answer → ℕ) (Does : Answer → M → Type 0) → One M Does → OneNumber M (Returns M tell Does)
+returns-one M tell Does one r s x y u v =
     let e = one (u .answer) (v .answer) x y (u .does) (v .does) in
-    (u .number ∙ ap told (e .0) ∙ sym (v .number), e .1)
+    (u .is ∙ ap tell (e .0) ∙ sym (v .is), e .1)
 
 pub host-start-one-answer : HostStartOneAnswer
 host-start-one-answer plan out = returns-one (List ℕ) inHalves (HostStarts plan out) (starts-one plan out)

@@ -1,6 +1,6 @@
 -- What holds of every outcome of a call for C: a refusal is small and writes nothing, and each other answer is a small result. Assumes nothing.
-use Prim.Native.Nat.{ℕ, _+_, _≤_}
-use mathlib.Core.Path.{_≡_, refl, _∙_, ap}
+use Prim.Native.Nat.{ℕ, _+_, _*_, _/_, _%_, _≤_}
+use mathlib.Core.Path.{_≡_, refl, _∙_, sym, ap, subst}
 use mathlib.Core.List.{List}
 use mathlib.Core.Logic.{inl, inr}
 use native.Mathlib.Nat.{add-mul-mod-self-left, add-mul-div-left, mod-eq-of-lt, div-eq-of-lt}
@@ -10,8 +10,11 @@ use Rattle.numbers.specs.Series.{fileOf}
 use Rattle.files.specs.Plan.{PlanFault}
 use Rattle.files.specs.Theorems.{maxCursorBytes}
 use Rattle.files.specs.declared.Cursor.{Cursor}
+use Rattle.files.proofs.OneAnswer.{plan-fault-one, file-no-fault}
+use Rattle.shape.specs.Shape.{ShapeFault}
 use Rattle.rules.specs.declared.Rule.{Rule}
 use Rattle.rules.specs.declared.Rule.the-variants as rule
+use Rattle.places.specs.Order.{placeCount}
 use Rattle.checker.specs.Moves.{Moves}
 use Rattle.checker.specs.Slices.{Starts, Slices}
 use Rattle.checker.specs.declared.Grant.{Grant}
@@ -19,11 +22,12 @@ use Rattle.checker.specs.declared.Grant.the-variants as grant
 use Rattle.checker.specs.declared.SliceAnswer.{SliceAnswer}
 use Rattle.checker.specs.declared.SliceAnswer.the-variants as answer
 use Rattle.host.specs.declared.Answer.{Answer}
-use Rattle.host.specs.Answers.{refusedResult, ruleResult, refusal, answered, sliceAnswered, grantAnswered, bytesAfterSlice, bytesAfterStart, halfValues}
+use Rattle.host.specs.Answers.{refusedResult, ruleResult, refusal, answered, sliceAnswered, startAnswered, bytesAfterSlice, bytesAfterStart, halfValues, inHalves, resultAlone}
 use Rattle.host.specs.Refusals.{RefusedFor, CursorUnread, TooFew, AfterPlan, AfterCursor, AfterRoom}
-use Rattle.host.specs.Calls.{Lent, AfterMove, BothWritten, Started, Sliced, MoveMade, HostStarts, HostSlices, HostMoves}
+use Rattle.host.specs.Calls.{Lent, AfterMove, BothWritten, Started, Sliced, MoveMade, StartsTable, SlicesTable, MovesTable, HostStarts, HostSlices, HostMoves, Returns}
 use Rattle.host.specs.Steps.{Small}
-use Rattle.host.specs.Theorems.{HostRefusalsWriteNothing, HalvesTellBoth, HostResultsFit, ResultsOfThePaper}
+use Rattle.host.specs.Theorems.{HostRefusalsWriteNothing, HalvesTellBoth, SliceIsTheLowHalf, PlanFaultsComeFirst, ResultsOfThePaper}
+use Rattle.host.proofs.OneAnswer.{slices-one}
 use Rattle.host.proofs.Laws.{plan-fault-small, cursor-file-small, shape-small, cursor-fault-small, move-fault-small}
 
 -- Every answer is a refusal that writes nothing, or a result of 5 at most.
@@ -61,7 +65,7 @@ module _ (M : Type 0) (m : M) where
   after-room-outcome lent needed Then then a m′ (inl x) = refused-outcome (TooFew lent needed) (too-few-small lent needed) a m′ x
   after-room-outcome lent needed Then then a m′ (inr x) = then a m′ (x .1)
 
-started-outcome : (t out : List ℕ) (n : ℕ) (g : Grant) (a : Answer) (out′ : List ℕ) → Starts t g → a ≡ grantAnswered n g → out′ ≡ bytesAfterStart out g
+started-outcome : (t out : List ℕ) (n : ℕ) (g : Grant) (a : Answer) (out′ : List ℕ) → Starts t g → a ≡ startAnswered n g → out′ ≡ bytesAfterStart out g
     → Outcome (List ℕ) out a out′
 started-outcome t out n (grant.Granted d) a out′ s e f = small-outcome (List ℕ) out a out′ 0 n (omega arith) e
 started-outcome t out n (grant.Refused k p d) a out′ s e f = refusal-outcome (List ℕ) out a out′ k p (shape-small t k p (s .0)) e f
@@ -98,7 +102,7 @@ slices-outcome plan cursor budget out =
     after-plan-outcome (List ℕ) out plan _
     (λ t. after-cursor-outcome (List ℕ) out cursor _
     (λ c. after-room-outcome (List ℕ) out (length out) maxCursorBytes (Sliced t c budget out)
-    (λ a n x. sliced-outcome t c budget out (x .told) a n (x .slices) (x .answer) (x .after))))
+    (λ a n x. sliced-outcome t c budget out (x .given) a n (x .slices) (x .answer) (x .after))))
 
 moves-outcome : (plan cursor : List ℕ) (leg offset : ℕ) (m : Lent) (a : Answer) (m′ : Lent) → HostMoves plan cursor leg offset m a m′ → Outcome Lent m a m′
 moves-outcome plan cursor leg offset m =
@@ -114,18 +118,74 @@ host-refusals-write-nothing = record {
   move-leg = λ plan cursor leg offset m a n x. moves-outcome plan cursor leg offset m a n x .keeps;
 }
 
-pub host-results-fit : HostResultsFit
-host-results-fit = record {
-  start = λ plan out a n x. starts-outcome plan out a n x .fits;
-  slice = λ plan cursor budget out a n x. slices-outcome plan cursor budget out a n x .fits;
-  move-leg = λ plan cursor leg offset m a n x. moves-outcome plan cursor leg offset m a n x .fits;
-}
+-- The two halves of a number whose low part is small.
+halves : (r s n : ℕ) → r ≤ refusedResult 15 → s ≡ inHalves (answered r n) → (s % halfValues ≡ r) × (s / halfValues ≡ n)
+halves r s n h e =
+    let low : (r + halfValues * n) % halfValues ≡ r = add-mul-mod-self-left r halfValues n ∙ mod-eq-of-lt (omega (arith, h)) in
+    let quotient = add-mul-div-left r n {y = halfValues} (omega arith) in
+    let none : r / halfValues ≡ 0 = div-eq-of-lt (omega (arith, h)) in
+    (ap (λ (x : ℕ). x % halfValues) e ∙ low, ap (λ (x : ℕ). x / halfValues) e ∙ omega (arith, quotient, none))
+
+module _ (M : Type 0) (m : M) (Does : Answer → M → Type 0) (all : (a : Answer) (m′ : M) → Does a m′ → Outcome M m a m′) where
+  tells-both : (r : ℕ) (m′ : M) → Returns M inHalves Does r m′ → Does (answered (r % halfValues) (r / halfValues)) m′
+  tells-both r m′ x =
+      let a = x .answer in
+      let e = halves (a .result) r (a .beside) (all a m′ (x .does) .fits) (x .is) in
+      subst (λ (b : Answer). Does b m′) (ap (λ (y : ℕ). answered y (a .beside)) (sym (e .0)) ∙ ap (answered (r % halfValues)) (sym (e .1))) (x .does)
 
 pub halves-tell-both : HalvesTellBoth
-halves-tell-both a h = (
-  add-mul-mod-self-left (a .result) halfValues (a .number) ∙ mod-eq-of-lt h,
-  omega (arith, add-mul-div-left (a .result) (a .number) {y = halfValues} (omega arith), div-eq-of-lt h),
-)
+halves-tell-both = record {
+  start = λ plan out. tells-both (List ℕ) out (HostStarts plan out) (starts-outcome plan out);
+  slice = λ plan cursor budget out. tells-both (List ℕ) out (HostSlices plan cursor budget out) (slices-outcome plan cursor budget out);
+  move-leg = λ plan cursor leg offset m. tells-both Lent m (HostMoves plan cursor leg offset m) (moves-outcome plan cursor leg offset m);
+}
+
+pub slice-is-the-low-half : SliceIsTheLowHalf
+slice-is-the-low-half plan cursor budget out r s x y u v =
+    let a = v .answer in
+    let e = halves (a .result) s (a .beside) (slices-outcome plan cursor budget out a y (v .does) .fits) (v .is) in
+    let o = slices-one plan cursor budget out (u .answer) a x y (u .does) (v .does) in
+    (u .is ∙ ap resultAlone (o .0) ∙ sym (e .0), o .1)
+
+-- A fault of the plan file.
+first-fault : (M : Type 0) (m : M) (s : List ℕ) (Then : List ℕ → Answer → M → Type 0) (k p : ℕ) (a : Answer) (m′ : M)
+    → PlanFault s k p → AfterPlan M s m Then a m′ → a ≡ refusal k p
+first-fault M m s Then k p a m′ f (inl x) =
+    let e = plan-fault-one s (x .number) (x .at) k p (x .fault) f in
+    x .answer ∙ ap (λ (l : ℕ). refusal l (x .at)) (e .0) ∙ ap (refusal k) (e .1)
+first-fault M m s Then k p a m′ f (inr (t, g, x)) = absurd (file-no-fault g f)
+
+-- Behind the plan reader a start is refused with 15 or with 1 to 7.
+shape-low : (t : List ℕ) (k p : ℕ) → ShapeFault t k p → k ≤ 7
+shape-low t k p (inl (inl x, e)) = omega (arith, x .0)
+shape-low t k p (inl (inr (inl x), e)) = omega (arith, x .0)
+shape-low t k p (inl (inr (inr x), e)) = omega (arith, x .0)
+shape-low t k p (inr (inl x)) = omega (arith, x .0)
+shape-low t k p (inr (inr (inl x))) = omega (arith, x .0)
+shape-low t k p (inr (inr (inr (inl x)))) = omega (arith, x .0)
+shape-low t k p (inr (inr (inr (inr x)))) = omega (arith, x .0)
+
+not-granted : (t : List ℕ) (n k p : ℕ) (g : Grant) → 12 ≤ k → Starts t g → refusal k p ≡ startAnswered n g → ⊥
+not-granted t n k p (grant.Granted d) h s e = omega (arith, ap resultAlone e)
+not-granted t n k p (grant.Refused l q d) h s e = omega (arith, ap resultAlone e, shape-low t l q (s .0))
+
+of-the-plan : (plan out : List ℕ) (k p : ℕ) (out′ : List ℕ) → 12 ≤ k → k ≤ 14 → HostStarts plan out (refusal k p) out′ → PlanFault plan k p
+of-the-plan plan out k p out′ h l (inl x) =
+    let e : x .number ≡ k = omega (arith, ap resultAlone (x .answer)) in
+    let f : x .at ≡ p = sym (ap (λ (a : Answer). a .beside) (x .answer)) in
+    subst (λ (q : ℕ). PlanFault plan k q) f (subst (λ (j : ℕ). PlanFault plan j (x .at)) e (x .fault))
+of-the-plan plan out k p out′ h l (inr (t, g, inl x)) = absurd (omega (arith, ap resultAlone (x .answer), x .fault .number))
+of-the-plan plan out k p out′ h l (inr (t, g, inr x)) = absurd (not-granted t (placeCount t) k p (x .1 .given) h (x .1 .starts) (x .1 .answer))
+
+pub plan-faults-come-first : PlanFaultsComeFirst
+plan-faults-come-first = record {
+  start = λ plan out k p a out′ f x. first-fault (List ℕ) out plan (λ (t : List ℕ). StartsTable t out) k p a out′ f x;
+  slice = λ plan cursor budget out k p a out′ f x.
+      first-fault (List ℕ) out plan (λ (t : List ℕ). AfterCursor (List ℕ) cursor out (λ (c : Cursor). SlicesTable t c budget out)) k p a out′ f x;
+  move-leg = λ plan cursor leg offset m k p a m′ f x.
+      first-fault Lent m plan (λ (t : List ℕ). AfterCursor Lent cursor m (λ (c : Cursor). MovesTable t c leg offset m)) k p a m′ f x;
+  no-other = of-the-plan;
+}
 
 pub results-of-the-paper : ResultsOfThePaper
 results-of-the-paper = record {
@@ -135,6 +195,8 @@ results-of-the-paper = record {
   hop = λ d n. refl;
   deadline = λ d n. refl;
   overlap = λ d n. refl;
-  refused = λ k p. refl;
+  refused = λ k p d. refl;
+  started = λ n d. refl;
+  not-started = λ n k p d. refl;
   room = refl;
 }

@@ -30,7 +30,7 @@ use Rattle.checker.specs.declared.SliceAnswer.the-variants as answer
 use Rattle.host.specs.declared.Answer.{Answer}
 use Rattle.host.specs.declared.Opened.{Opened}
 use Rattle.host.specs.declared.Opened.the-variants as opened
-use Rattle.host.specs.Answers.{answered, refusal, sliceAnswered, grantAnswered, withCursor, bytesAfterSlice, bytesAfterStart}
+use Rattle.host.specs.Answers.{answered, refusal, sliceAnswered, startAnswered, withCursor, bytesAfterSlice, bytesAfterStart}
 use Rattle.host.specs.Refusals.{CursorUnread, TooFew, AfterPlan, AfterCursor}
 use Rattle.host.specs.Calls.{Lent, lent, WritesBoth, MoveMade, Started, Sliced, SlicesTable, MovesTable, HostSlices, HostMoves}
 use Rattle.host.specs.Steps.{Small, InFront, Opens}
@@ -97,7 +97,7 @@ started-shape t g d e h = subst (Starts t) e h .0
 pub start-small : (t : List ℕ) (g : Grant) (k p : ℕ) (d : Cursor) → g ≡ grant.Refused k p d → Starts t g → Small k p
 start-small t g k p d e h = shape-small t k p (subst (Starts t) e h .0)
 
-pub start-made : (t out out′ : List ℕ) (g h : Grant) (a : Answer) → g ≡ h → Starts t g → a ≡ grantAnswered (placeCount t) h → out′ ≡ bytesAfterStart out h
+pub start-made : (t out out′ : List ℕ) (g h : Grant) (a : Answer) → g ≡ h → Starts t g → a ≡ startAnswered (placeCount t) h → out′ ≡ bytesAfterStart out h
     → Started t out a out′
 start-made t out out′ g h a e x f k = record { given = h; starts = subst (Starts t) e x; answer = f; after = k }
 
@@ -107,7 +107,7 @@ slice-small t c b x k p d e h = cursor-fault-small t c k p (subst (Slices t c b)
 
 pub slice-made : (t : List ℕ) (c : Cursor) (b : ℕ) (out out′ : List ℕ) (x y : SliceAnswer) (a : Answer) → x ≡ y → Slices t c b x → a ≡ sliceAnswered y
     → out′ ≡ bytesAfterSlice out y → Sliced t c b out a out′
-slice-made t c b out out′ x y a e h f k = record { told = y; slices = subst (Slices t c b) e h; answer = f; after = k }
+slice-made t c b out out′ x y a e h f k = record { given = y; slices = subst (Slices t c b) e h; answer = f; after = k }
 
 pub with-result : (r s n : ℕ) → r ≡ s → answered r n ≡ answered s n
 with-result r s n e = ap (λ (x : ℕ). answered x n) e

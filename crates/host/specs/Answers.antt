@@ -26,9 +26,9 @@ ruleResult rule.Overlap = 5
 
 -- An answer is a result and a number beside it.
 abbrev pub answered : ℕ → ℕ → Answer
-answered r n = record { result = r; number = n }
+answered r n = record { result = r; beside = n }
 
--- A refusal, with its position beside it.
+-- A refusal, with its position beside it: that of a byte, a link, a stream or a leg, or 0, as document 01's table of refusals says.
 abbrev pub refusal : ℕ → ℕ → Answer
 refusal k p = answered (refusedResult k) p
 
@@ -39,10 +39,10 @@ sliceAnswered (answer.NothingViolated d n) = answered 0 n
 sliceAnswered (answer.Paused d n) = answered 1 n
 sliceAnswered (answer.Refused k p d) = refusal k p
 
--- A start: 0 granted, with n beside it.
-abbrev pub grantAnswered : ℕ → Grant → Answer
-grantAnswered n (grant.Granted d) = answered 0 n
-grantAnswered n (grant.Refused k p d) = refusal k p
+-- A start of a plan with n places: 0 granted, which is no verdict, with the number of places beside it.
+abbrev pub startAnswered : ℕ → Grant → Answer
+startAnswered n (grant.Granted d) = answered 0 n
+startAnswered n (grant.Refused k p d) = refusal k p
 
 -- The lent bytes with a saved cursor in front, and the rest as it was.
 abbrev pub withCursor : List ℕ → Cursor → List ℕ
@@ -64,7 +64,7 @@ abbrev pub halfValues : ℕ
 halfValues = maxWord + 1
 
 abbrev pub inHalves : Answer → ℕ
-inHalves a = a .result + halfValues * a .number
+inHalves a = a .result + halfValues * a .beside
 
 -- The result alone.
 abbrev pub resultAlone : Answer → ℕ

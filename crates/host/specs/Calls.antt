@@ -13,22 +13,22 @@ use Rattle.checker.specs.declared.Grant.{Grant}
 use Rattle.checker.specs.declared.Grant.the-variants as grant
 use Rattle.checker.specs.declared.SliceAnswer.{SliceAnswer}
 use Rattle.host.specs.declared.Answer.{Answer}
-use Rattle.host.specs.Answers.{answered, refusal, sliceAnswered, grantAnswered, withCursor, bytesAfterSlice, bytesAfterStart}
+use Rattle.host.specs.Answers.{answered, refusal, sliceAnswered, startAnswered, withCursor, bytesAfterSlice, bytesAfterStart}
 use Rattle.host.specs.Refusals.{AfterPlan, AfterCursor, AfterRoom}
 
 -- A start of a table: granted, the number of places stands beside the result.
 pub record Started (t : List ℕ) (out : List ℕ) (a : Answer) (out′ : List ℕ) : Type 0 where
   pub given : Grant
   pub starts : Starts t given
-  pub answer : a ≡ grantAnswered (placeCount t) given
+  pub answer : a ≡ startAnswered (placeCount t) given
   pub after : out′ ≡ bytesAfterStart out given
 
 -- A slice of a table from a cursor.
 pub record Sliced (t : List ℕ) (c : Cursor) (budget : ℕ) (out : List ℕ) (a : Answer) (out′ : List ℕ) : Type 0 where
-  pub told : SliceAnswer
-  pub slices : Slices t c budget told
-  pub answer : a ≡ sliceAnswered told
-  pub after : out′ ≡ bytesAfterSlice out told
+  pub given : SliceAnswer
+  pub slices : Slices t c budget given
+  pub answer : a ≡ sliceAnswered given
+  pub after : out′ ≡ bytesAfterSlice out given
 
 -- What is lent to a move: bytes for the new plan file, and for the cursor.
 pub record Lent : Type 0 where
@@ -59,7 +59,8 @@ pub record MoveMade (t : List ℕ) (c : Cursor) (leg offset : ℕ) (m : Lent) (a
   pub moves : Moves t c leg offset given table
   pub after : AfterMove given table m a m′
 
--- From a table and a cursor on: 15 where fewer than 15 bytes are lent for the cursor, then as the call.
+-- From a table on, and for slice and move a cursor: 15 where fewer than 15 bytes are lent for the cursor, then as the call. (A move has a second 15 at its
+-- end, for the file.)
 abbrev pub StartsTable : List ℕ → List ℕ → Answer → List ℕ → Type 0
 StartsTable t out = AfterRoom (List ℕ) (length out) maxCursorBytes out (Started t out)
 
@@ -80,8 +81,8 @@ HostSlices plan cursor budget out =
 abbrev pub HostMoves : List ℕ → List ℕ → ℕ → ℕ → Lent → Answer → Lent → Type 0
 HostMoves plan cursor leg offset m = AfterPlan Lent plan m (λ (t : List ℕ). AfterCursor Lent cursor m (λ (c : Cursor). MovesTable t c leg offset m))
 
--- What C gets is one number, which tells the answer in a given way.
-pub record Returns (M : Type 0) (told : Answer → ℕ) (Does : Answer → M → Type 0) (r : ℕ) (m′ : M) : Type 0 where
+-- What C gets is one number r, which tells the answer in a given way: inHalves or resultAlone.
+pub record Returns (M : Type 0) (tell : Answer → ℕ) (Does : Answer → M → Type 0) (r : ℕ) (m′ : M) : Type 0 where
   pub answer : Answer
   pub does : Does answer m′
-  pub number : r ≡ told answer
+  pub is : r ≡ tell answer

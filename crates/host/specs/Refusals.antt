@@ -1,4 +1,4 @@
--- The order of the host's refusals (document 01, "Numbered refusals"): plan reader, cursor reader, 15, then as the call. Lent memory M is m before a call
+-- The stages of the host's refusals (document 01, "Numbered refusals": plan reader, cursor reader, 15, then as the call). Lent memory M is m before a call
 -- and m′ after it; a is the answer; Then says what happens where nothing was refused so far.
 use Prim.Native.Nat.{ℕ, _≤_, _<_}
 use mathlib.Core.Path.{_≡_}
@@ -26,11 +26,11 @@ pub record RefusedFor (M : Type 0) (Fault : ℕ → ℕ → Type 0) (m : M) (a :
 abbrev pub CursorUnread : List ℕ → ℕ → ℕ → Type 0
 CursorUnread s k p = ReadsCursor s (read.Refused k p)
 
--- 15 at 0: so many bytes are lent, and more are needed.
-pub record TooFew (lent needed k p : ℕ) : Type 0 where
+-- 15 at 0: fewer bytes are given than are needed.
+pub record TooFew (given needed k p : ℕ) : Type 0 where
   pub number : k ≡ noRoom
   pub position : p ≡ 0
-  pub fewer : lent < needed
+  pub fewer : given < needed
 
 -- The plan file is refused, or it is the file of a table t.
 abbrev pub AfterPlan : (M : Type 0) → List ℕ → M → (List ℕ → Answer → M → Type 0) → Answer → M → Type 0
@@ -41,6 +41,6 @@ abbrev pub AfterCursor : (M : Type 0) → List ℕ → M → (Cursor → Answer 
 AfterCursor M cursor m Then a m′ =
     RefusedFor M (CursorUnread cursor) m a m′ ⊎ ((c : Cursor) × ReadsCursor cursor (read.Saved c) × Then c a m′)
 
--- Too few bytes are lent, or there is room.
+-- Too few bytes are given, or there is room.
 abbrev pub AfterRoom : (M : Type 0) → ℕ → ℕ → M → (Answer → M → Type 0) → Answer → M → Type 0
-AfterRoom M lent needed m Then a m′ = RefusedFor M (TooFew lent needed) m a m′ ⊎ ((needed ≤ lent) × Then a m′)
+AfterRoom M given needed m Then a m′ = RefusedFor M (TooFew given needed) m a m′ ⊎ ((needed ≤ given) × Then a m′)

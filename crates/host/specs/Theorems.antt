@@ -1,20 +1,18 @@
 -- What is proved of the calls for C.
-use Prim.Native.Nat.{ℕ, _+_, _≤_, _<_, _/_, _%_}
+use Prim.Native.Nat.{ℕ, _+_, _≤_, _/_, _%_}
 use mathlib.Core.Path.{_≡_}
 use mathlib.Core.List.{List}
+use Rattle.files.specs.Plan.{PlanFault}
 use Rattle.files.specs.Theorems.{maxCursorBytes}
 use Rattle.files.specs.declared.Cursor.{Cursor}
 use Rattle.rules.specs.declared.Rule.the-variants as rule
+use Rattle.checker.specs.declared.Grant.the-variants as grant
 use Rattle.checker.specs.declared.SliceAnswer.the-variants as answer
 use Rattle.host.specs.declared.Answer.{Answer}
-use Rattle.host.specs.Answers.{refusedResult, refusal, sliceAnswered, halfValues, inHalves, resultAlone}
+use Rattle.host.specs.Answers.{refusedResult, answered, refusal, sliceAnswered, startAnswered, halfValues, inHalves, resultAlone}
 use Rattle.host.specs.Calls.{Lent, HostStarts, HostSlices, HostMoves, Returns}
 
--- Whatever Does says of a call has one answer and leaves one memory.
-abbrev pub One : (M : Type 0) → (Answer → M → Type 0) → Type 0
-One M Does = (a b : Answer) (m n : M) → Does a m → Does b n → (a ≡ b) × (m ≡ n)
-
--- The same of the number that C gets.
+-- Whatever Does says of a call: C gets one number, and one memory is left.
 abbrev pub OneNumber : (M : Type 0) → (ℕ → M → Type 0) → Type 0
 OneNumber M Does = (r s : ℕ) (m n : M) → Does r m → Does s n → (r ≡ s) × (m ≡ n)
 
@@ -42,25 +40,42 @@ pub record HostRefusalsWriteNothing : Type 0 where
   pub slice : (plan cursor : List ℕ) (budget : ℕ) (out : List ℕ) → Keeps (List ℕ) out (HostSlices plan cursor budget out)
   pub move-leg : (plan cursor : List ℕ) (leg offset : ℕ) (m : Lent) → Keeps Lent m (HostMoves plan cursor leg offset m)
 
--- C finds the result and the number again: the remainder and the quotient by 4,294,967,296, for every result below it; and the results of all calls are.
-abbrev pub HalvesTellBoth : Type 0
-HalvesTellBoth = (a : Answer) → a .result < halfValues → (inHalves a % halfValues ≡ a .result) × (inHalves a / halfValues ≡ a .number)
+-- C finds both numbers again in the one that it gets: the remainder and the quotient by 4,294,967,296.
+pub record HalvesTellBoth : Type 0 where
+  pub start : (plan out : List ℕ) (r : ℕ) (out′ : List ℕ)
+      → Returns (List ℕ) inHalves (HostStarts plan out) r out′ → HostStarts plan out (answered (r % halfValues) (r / halfValues)) out′
+  pub slice : (plan cursor : List ℕ) (budget : ℕ) (out : List ℕ) (r : ℕ) (out′ : List ℕ)
+      → Returns (List ℕ) inHalves (HostSlices plan cursor budget out) r out′ → HostSlices plan cursor budget out (answered (r % halfValues) (r / halfValues)) out′
+  pub move-leg : (plan cursor : List ℕ) (leg offset : ℕ) (m : Lent) (r : ℕ) (m′ : Lent)
+      → Returns Lent inHalves (HostMoves plan cursor leg offset m) r m′ → HostMoves plan cursor leg offset m (answered (r % halfValues) (r / halfValues)) m′
 
-abbrev pub ResultsFit : (M : Type 0) → (Answer → M → Type 0) → Type 0
-ResultsFit M Does = (a : Answer) (m′ : M) → Does a m′ → a .result ≤ refusedResult 15
+-- The slice that gives its result alone gives the low half of the slice in full, and writes the same.
+abbrev pub SliceIsTheLowHalf : Type 0
+SliceIsTheLowHalf =
+    (plan cursor : List ℕ) (budget : ℕ) (out : List ℕ) (r s : ℕ) (out′ out″ : List ℕ)
+    → Returns (List ℕ) resultAlone (HostSlices plan cursor budget out) r out′
+    → Returns (List ℕ) inHalves (HostSlices plan cursor budget out) s out″
+    → (r ≡ s % halfValues) × (out′ ≡ out″)
 
-pub record HostResultsFit : Type 0 where
-  pub start : (plan out : List ℕ) → ResultsFit (List ℕ) (HostStarts plan out)
-  pub slice : (plan cursor : List ℕ) (budget : ℕ) (out : List ℕ) → ResultsFit (List ℕ) (HostSlices plan cursor budget out)
-  pub move-leg : (plan cursor : List ℕ) (leg offset : ℕ) (m : Lent) → ResultsFit Lent (HostMoves plan cursor leg offset m)
+-- Which file a refusal 12, 13 or 14 lies in: a fault of the plan file comes before all else, in every call, and a start gives these numbers for no other.
+pub record PlanFaultsComeFirst : Type 0 where
+  pub start : (plan out : List ℕ) (k p : ℕ) (a : Answer) (out′ : List ℕ) → PlanFault plan k p → HostStarts plan out a out′ → a ≡ refusal k p
+  pub slice : (plan cursor : List ℕ) (budget : ℕ) (out : List ℕ) (k p : ℕ) (a : Answer) (out′ : List ℕ)
+      → PlanFault plan k p → HostSlices plan cursor budget out a out′ → a ≡ refusal k p
+  pub move-leg : (plan cursor : List ℕ) (leg offset : ℕ) (m : Lent) (k p : ℕ) (a : Answer) (m′ : Lent)
+      → PlanFault plan k p → HostMoves plan cursor leg offset m a m′ → a ≡ refusal k p
+  pub no-other : (plan out : List ℕ) (k p : ℕ) (out′ : List ℕ) → 12 ≤ k → k ≤ 14 → HostStarts plan out (refusal k p) out′ → PlanFault plan k p
 
--- The paper's results: 0 nothing violated, 1 paused, 2 to 5 violated (window, hop, deadline, overlap), 100 plus the refusal number; and 15 bytes.
+-- The answers at the paper's numbers: 0 nothing violated, 1 paused, 2 to 5 violated (window, hop, deadline, overlap), each with the steps; 100 plus the refusal
+-- number, with the position; and 15 bytes.
 pub record ResultsOfThePaper : Type 0 where
-  pub nothing-violated : (d : Cursor) (n : ℕ) → sliceAnswered (answer.NothingViolated d n) .result ≡ 0
-  pub paused : (d : Cursor) (n : ℕ) → sliceAnswered (answer.Paused d n) .result ≡ 1
-  pub window : (d : Cursor) (n : ℕ) → sliceAnswered (answer.Violated d n rule.Window) .result ≡ 2
-  pub hop : (d : Cursor) (n : ℕ) → sliceAnswered (answer.Violated d n rule.Hop) .result ≡ 3
-  pub deadline : (d : Cursor) (n : ℕ) → sliceAnswered (answer.Violated d n rule.Deadline) .result ≡ 4
-  pub overlap : (d : Cursor) (n : ℕ) → sliceAnswered (answer.Violated d n rule.Overlap) .result ≡ 5
-  pub refused : (k p : ℕ) → refusal k p .result ≡ 100 + k
+  pub nothing-violated : (d : Cursor) (n : ℕ) → sliceAnswered (answer.NothingViolated d n) ≡ answered 0 n
+  pub paused : (d : Cursor) (n : ℕ) → sliceAnswered (answer.Paused d n) ≡ answered 1 n
+  pub window : (d : Cursor) (n : ℕ) → sliceAnswered (answer.Violated d n rule.Window) ≡ answered 2 n
+  pub hop : (d : Cursor) (n : ℕ) → sliceAnswered (answer.Violated d n rule.Hop) ≡ answered 3 n
+  pub deadline : (d : Cursor) (n : ℕ) → sliceAnswered (answer.Violated d n rule.Deadline) ≡ answered 4 n
+  pub overlap : (d : Cursor) (n : ℕ) → sliceAnswered (answer.Violated d n rule.Overlap) ≡ answered 5 n
+  pub refused : (k p : ℕ) (d : Cursor) → sliceAnswered (answer.Refused k p d) ≡ answered (100 + k) p
+  pub started : (n : ℕ) (d : Cursor) → startAnswered n (grant.Granted d) ≡ answered 0 n
+  pub not-started : (n k p : ℕ) (d : Cursor) → startAnswered n (grant.Refused k p d) ≡ answered (100 + k) p
   pub room : maxCursorBytes ≡ 15

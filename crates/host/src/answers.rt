@@ -22,7 +22,7 @@ pub(crate) fn refused(number: u32, at: usize) -> Answer
 {
     Answer {
         result: REFUSED + number,
-        number: at as u32,
+        beside: at as u32,
     }
 }
 
@@ -49,5 +49,5 @@ pub(crate) fn put_back(cursor: Cursor, out: &mut [u8])
 pub(crate) fn in_halves(told: Answer) -> u64
     ensures { λ r. ⌜ r ≡ inHalves told ⌝ }
 {
-    told.result as u64 + HALF_VALUES * (told.number as u64)
+    told.result as u64 + HALF_VALUES * (told.beside as u64)
 }

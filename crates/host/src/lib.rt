@@ -1,4 +1,5 @@
-// The calls for C, on bytes and numbers.
+// The calls for C, on bytes and numbers. Where a call returns 64 bits, the low 32 are the result and the high 32 the number beside it. What is lent to one call
+// may not overlap (include/conepalhui.h).
 ghost use Prim.Native.Nat.{ℕ, _≤_};
 ghost use mathlib.Core.List.{List};
 ghost use lib.ListN.{length};
@@ -13,11 +14,11 @@ use files::PlanRead;
 mod answers;
 mod tables;
 
-// What C is told: document 01's result, and a number beside it. Refused, that is the position; after a slice the steps, after a start the number of places,
-// after a move the size of the new plan file.
+// What C is told: a result (0 is nothing violated after a slice, and granted after a start or a move) and a number beside it. Refused, that is the position;
+// after a slice the steps, after a start the number of places, after a move the size of the new plan file.
 pub struct Answer {
     pub result: u32,
-    pub number: u32,
+    pub beside: u32,
 }
 
 // A plan file and a saved cursor read: how many words the table has and the cursor, or a refusal's number and position.
@@ -85,7 +86,7 @@ fn move_plan(
     }
 }
 
-// Starts a check of a plan file.
+// Starts a check of a plan file, and writes its first cursor.
 #[no_mangle]
 pub extern "C" fn conepalhui_start(plan: &[u8], out: &mut [u8]) -> u64
     ensures { λ r. ⌜ Returns (List ℕ) inHalves (HostStarts (now (plan .entry)) (now (out .entry))) r (now (out .exit)) ⌝ }
@@ -104,7 +105,7 @@ pub extern "C" fn conepalhui_slice(plan: &[u8], cursor: &[u8], budget: u32, out:
     told.result
 }
 
-// The same slice, with the steps or the position.
+// The same slice, with the steps or the position beside the result.
 #[no_mangle]
 pub extern "C" fn conepalhui_slice_full(
     plan: &[u8],
@@ -118,7 +119,7 @@ pub extern "C" fn conepalhui_slice_full(
     answers::in_halves(slice_plan(plan, cursor, budget, out, &mut words))
 }
 
-// Moves one leg of a plan file: the new plan file and the new cursor.
+// Moves one leg of a plan file, and writes the new plan file and the new cursor.
 #[no_mangle]
 pub extern "C" fn conepalhui_move(
     plan: &[u8],

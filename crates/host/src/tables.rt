@@ -27,7 +27,7 @@ pub(crate) fn start_table(t: &[u32], out: &mut [u8]) -> Answer
             answers::put_back(first, out);
             Answer {
                 result: 0,
-                number: places::place_count(table::wide(t[table::LEGS_AT])) as u32,
+                beside: places::place_count(table::wide(t[table::LEGS_AT])) as u32,
             }
         }
     }
@@ -46,21 +46,21 @@ pub(crate) fn slice_table(t: &[u32], cursor: Cursor, budget: u32, out: &mut [u8]
             answers::put_back(at, out);
             Answer {
                 result: answers::rule_result(rule),
-                number: steps,
+                beside: steps,
             }
         }
         SliceAnswer::NothingViolated(end, steps) => {
             answers::put_back(end, out);
             Answer {
                 result: 0,
-                number: steps,
+                beside: steps,
             }
         }
         SliceAnswer::Paused(at, steps) => {
             answers::put_back(at, out);
             Answer {
                 result: 1,
-                number: steps,
+                beside: steps,
             }
         }
     }
@@ -79,7 +79,7 @@ fn write_both(t: &[u32], cursor: Cursor, file: &mut [u8], out: &mut [u8]) -> Ans
             answers::put_back(cursor, out);
             Answer {
                 result: 0,
-                number: n as u32,
+                beside: n as u32,
             }
         }
     }
