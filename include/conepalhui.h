@@ -69,43 +69,54 @@ enum {
 };
 
 /*
+ * Plans, places and cursors
+ *
+ * A number is 0 to 4,294,967,295, written in groups of seven bits, the lowest group first, the top bit set on all bytes
+ * but the last, in as few bytes as possible: 300 is AC 02. A plan file is these numbers and nothing else, times in ns:
+ *
+ *   the header    revision, links (0 to 256), streams (0 to 512), legs (0 to 2,048), clock precision (0 to 1,000,000)
+ *   each link     from node, to node (0 to 65,535), ns per octet (8, 80 or 800), propagation (0 to 100,000)
+ *   each stream   period (1 to 1,000,000,000), deadline (1 to the period), octets of its frame (64 to 1,522), the
+ *                 number of its first leg, how many legs it has (1 to 8)
+ *   each leg      stream, link, offset (any)
+ *
+ * A link joins two different nodes, and no other link joins the same two in this direction. The legs stand in the order
+ * of their streams. The legs of a stream are a route: each link begins where the previous one ended, and no node is met
+ * twice.
+ *
+ * Leg a has the places 0 (window), 1 (hop), 2 (deadline) and 3 + b (overlap with leg b) for each leg b below a. A check
+ * looks at them by leg, and then by place. G legs have G(G - 1)/2 + 3G places. The end is leg G, place 0.
+ *
+ * A cursor is three numbers: the plan's revision, a leg, and a place of that leg. It ends with the third byte below
+ * 0x80.
+ */
+
+/*
  * The refusals, with the position that is told beside each. docs/REFUSALS.md has examples, and what to do.
  *
- *   no.   cause                                                                         position
- *    2    more than 256 links, 512 streams or 2,048 legs, or precision above 1 ms       0
- *    4    a link out of range                                                           the lowest such link
- *    5    a link that has the same nodes as an earlier one                              the lowest later link
- *    6    a stream out of range, or its legs do not follow those before it              the lowest such stream
- *         all streams are right, and have fewer legs than the header says               the number of streams
- *    7    a leg's stream, link or route is wrong                                        the lowest such leg
- *    8    the cursor is of another revision than the plan                               0
- *    9    the cursor is at no place of the plan, nor at its end                         0
- *   10    no such leg                                                                   0
- *   11    a move at revision 4,294,967,295                                              0
- *   12    the bytes end before the numbers do                                           where that number starts
- *   13    a number not in its shortest form, or above 32 bits                           where it starts
- *   14    bytes left over behind the numbers                                            the first such byte
- *   15    out has fewer than 15 bytes, or the new plan does not fit into new_plan        0
+ *   no.   cause                                                                     position
+ *    2    more links, streams or legs than are allowed, or too high a precision     0
+ *    4    a link out of range, or from a node to itself                             the lowest such link
+ *    5    a link from and to the same nodes as an earlier one                       the lowest later link
+ *    6    a stream out of range, or its first leg or leg count is wrong             the lowest such stream
+ *         all streams are right, and have fewer legs than the header says           the number of streams
+ *    7    a leg's stream, its link or its route is wrong                            the lowest such leg
+ *    8    the cursor is of another revision than the plan                           0
+ *    9    the cursor is at no place of the plan, nor at its end                     0
+ *   10    no such leg                                                               0
+ *   11    a move at revision 4,294,967,295                                          0
+ *   12    the bytes end before the numbers do                                       the start of that number
+ *   13    a number in more bytes than it needs, or above 4,294,967,295              the start of that number
+ *   14    bytes left over behind the last number                                    the first such byte
+ *   15    out has fewer than 15 bytes, or new_plan has no room for the new plan     0
  *
- * 1 (fewer than five words) and 3 (another length than the header says) are of tables in memory: a plan file that is
- * too short or too long is refused with 12 or 14.
+ * 1 (fewer than five words) and 3 (another length than the header says) are of tables in memory, and no call here gives
+ * them: a plan file that is too short or too long is refused with 12 or 14.
  *
  * Where several are due the first is told: of the plan 12 and 13 from left to right, 2 behind the fifth number, 14;
  * of the cursor 12, 13, 14; 15 for out; then 4 to 11 in their order; and last 15 for new_plan. A 12, 13 or 14 of a
  * slice or a move lies in the plan exactly when conepalhui_start refuses that plan with it too, and otherwise in the
  * cursor.
- */
-
-/*
- * Places and cursors
- *
- * Leg a of a plan has the places 0 (window), 1 (hop), 2 (deadline) and 3 + b (overlap with leg b) for each leg b
- * below a. A check looks at them by leg, and then by place. A plan of G legs has G(G - 1)/2 + 3G places, and the end
- * is leg G, place 0.
- *
- * A cursor is three numbers: the plan's revision, a leg, and a place of that leg. A number is written in groups of
- * seven bits, the lowest group first, the top bit set on all bytes but the last, in as few bytes as possible. So a
- * cursor ends with the third byte below 0x80. A plan file is such numbers as well.
  */
 
 #ifdef __cplusplus
