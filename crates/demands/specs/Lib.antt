@@ -3,4 +3,5 @@ pub mod Verdicts
 pub mod DemandTwo
 pub mod Runs
 pub mod DemandThree
+pub mod HostRuns
 pub mod AtNumbers
