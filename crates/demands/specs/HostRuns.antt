@@ -9,17 +9,10 @@ use lib.Dec.{ltb}
 use lib.ListN.{take}
 use Rattle.basics.specs.Pick.{pick}
 use Rattle.numbers.specs.Number.{maxWord, groupValues}
-use Rattle.table.specs.Layout.{Sized}
-use Rattle.files.specs.Reading.{IsFile}
-use Rattle.files.specs.Cursors.{cursorNumbers, ReadsCursor}
-use Rattle.files.specs.declared.Cursor.{Cursor}
-use Rattle.files.specs.declared.CursorRead.the-variants as read
-use Rattle.rules.specs.declared.Rule.{Rule}
-use Rattle.host.specs.Answers.{refusedResult, ruleResult}
+use Rattle.files.specs.Cursors.{cursorNumbers}
+use Rattle.host.specs.Answers.{refusedResult}
 use Rattle.host.specs.Calls.{Lent, HostStarts, HostSlices, HostMoves}
 use Rattle.host.specs.declared.Answer.{Answer}
-use Rattle.demands.specs.Verdicts.{Verdict, violated, nothing-violated}
-use Rattle.demands.specs.DemandThree.{Sound}
 
 -- How C finds the end of a saved cursor: the bytes up to the n-th that is below 128, that one included.
 unfoldable pub upToClosing : ℕ → List ℕ → List ℕ
@@ -79,25 +72,3 @@ HostRun (slice cursor budget a out ∷ call ∷ earlier) plan =
     HostRun (call ∷ earlier) plan × LeftBy cursor (call ∷ earlier) × SliceMade plan cursor budget a out
 HostRun (move-leg cursor leg offset a m ∷ call ∷ earlier) plan =
     (old : List ℕ) × HostRun (call ∷ earlier) old × LeftBy cursor (call ∷ earlier) × MoveDone old cursor leg offset a m plan
-
--- The verdict that C is given by a slice: 0, or a rule, whose place is in the cursor that it left.
-pub record TellsPlace (a : Answer) (out : List ℕ) (v : Verdict) : Type 0 where
-  pub rule : Rule
-  pub cursor : Cursor
-  pub result : a .result ≡ ruleResult rule
-  pub saved : ReadsCursor (savedIn out) (read.Saved cursor)
-  pub is : v ≡ violated (cursor .leg) (cursor .place) rule
-
-abbrev pub HostGives : Answer → List ℕ → Verdict → Type 0
-HostGives a out v = ((a .result ≡ 0) × (v ≡ nothing-violated)) ⊎ TellsPlace a out v
-
--- Sound: the plan file is that of a table, and the verdict is that of a whole check of it.
-pub record SoundFile (plan : List ℕ) (v : Verdict) : Type 0 where
-  pub table : List ℕ
-  pub file : IsFile Sized plan table
-  pub sound : Sound table v
-
-abbrev pub HostRunsAreSound : Type 0
-HostRunsAreSound =
-    (calls : List HostCall) (plan cursor : List ℕ) (budget : ℕ) (a : Answer) (out : List ℕ) (v : Verdict)
-    → HostRun (slice cursor budget a out ∷ calls) plan → HostGives a out v → SoundFile plan v

@@ -4,4 +4,5 @@ pub mod DemandTwo
 pub mod Runs
 pub mod DemandThree
 pub mod HostRuns
+pub mod DemandThreeForC
 pub mod AtNumbers

@@ -48,7 +48,7 @@ unread-one : (s : List ℕ) (k p l q : ℕ) → CursorUnread s k p → CursorUnr
 unfolding number-of position-of
 unread-one s k p l q f g = let e = read-cursor-one-answer s (read.Refused k p) (read.Refused l q) f g in (ap number-of e, ap position-of e)
 
-saved-one : (s : List ℕ) (c d : Cursor) → ReadsCursor s (read.Saved c) → ReadsCursor s (read.Saved d) → c ≡ d
+pub saved-one : (s : List ℕ) (c d : Cursor) → ReadsCursor s (read.Saved c) → ReadsCursor s (read.Saved d) → c ≡ d
 unfolding cursor-of
 saved-one s c d f g = ap cursor-of (read-cursor-one-answer s (read.Saved c) (read.Saved d) f g)
 
