@@ -2,3 +2,4 @@ pub mod Laws
 pub mod Steps
 pub mod OneAnswer
 pub mod Outcomes
+pub mod MoveRoom

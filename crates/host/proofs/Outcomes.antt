@@ -156,7 +156,7 @@ first-fault M m s Then k p a m′ f (inl x) =
 first-fault M m s Then k p a m′ f (inr (t, g, x)) = absurd (file-no-fault g f)
 
 -- Behind the plan reader a start is refused with 15 or with 1 to 7.
-shape-low : (t : List ℕ) (k p : ℕ) → ShapeFault t k p → k ≤ 7
+pub shape-low : (t : List ℕ) (k p : ℕ) → ShapeFault t k p → k ≤ 7
 shape-low t k p (inl (inl x, e)) = omega (arith, x .0)
 shape-low t k p (inl (inr (inl x), e)) = omega (arith, x .0)
 shape-low t k p (inl (inr (inr x), e)) = omega (arith, x .0)

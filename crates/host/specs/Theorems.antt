@@ -2,6 +2,8 @@
 use Prim.Native.Nat.{ℕ, _+_, _≤_, _/_, _%_}
 use mathlib.Core.Path.{_≡_}
 use mathlib.Core.List.{List}
+use lib.ListN.{length}
+use Rattle.numbers.specs.Number.{noRoom}
 use Rattle.files.specs.Plan.{PlanFault}
 use Rattle.files.specs.Theorems.{maxCursorBytes}
 use Rattle.files.specs.declared.Cursor.{Cursor}
@@ -65,6 +67,17 @@ pub record PlanFaultsComeFirst : Type 0 where
   pub move-leg : (plan cursor : List ℕ) (leg offset : ℕ) (m : Lent) (k p : ℕ) (a : Answer) (m′ : Lent)
       → PlanFault plan k p → HostMoves plan cursor leg offset m a m′ → a ≡ refusal k p
   pub no-other : (plan out : List ℕ) (k p : ℕ) (out′ : List ℕ) → 12 ≤ k → k ≤ 14 → HostStarts plan out (refusal k p) out′ → PlanFault plan k p
+
+-- A move makes a plan file longer by 5 bytes at the most: 4 for the offset and 1 for the revision. So whoever lends that much more than the plan has for the new
+-- file, and 15 bytes for the cursor, is not refused with 15.
+abbrev pub moveBytes : ℕ
+moveBytes = 5
+
+abbrev pub MoveRoomIsEnough : Type 0
+MoveRoomIsEnough =
+    (plan cursor : List ℕ) (leg offset : ℕ) (m : Lent) (a : Answer) (m′ : Lent)
+    → maxCursorBytes ≤ length (m .out) → length plan + moveBytes ≤ length (m .file)
+    → HostMoves plan cursor leg offset m a m′ → a .result ≡ refusedResult noRoom → ⊥
 
 -- The answers at the paper's numbers: 0 nothing violated, 1 paused, 2 to 5 violated (window, hop, deadline, overlap), each with the steps; 100 plus the refusal
 -- number, with the position; and 15 bytes.
