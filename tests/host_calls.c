@@ -270,11 +270,14 @@ static void refused_cursors(void)
 static void moves(void)
 {
     const char *longer = PLAN_A("01", "00", "FF FF FF FF 0F"), *same = PLAN_A("01", "00", "00");
+    const char *longest = PLAN_A("80 01", "00", "FF FF FF FF 0F");
     const char *last = PLAN_A("FF FF FF FF 0F", "00", "01");
     const char *before_last = PLAN_A("FE FF FF FF 0F", "00", "00");
     move("leg 3", plan_a, "00 00 00", (struct moved){3, 0}, ROOM, 15, refused(110, 0));
     move("leg 2^32 - 1", plan_a, "00 00 00", (struct moved){TOP, 0}, ROOM, 15, refused(110, 0));
     move("ahead", plan_a, "00 01 02", (struct moved){2, TOP}, 45, 15, grants(45, "01 01 02", longer));
+    move("longer by all five bytes", PLAN_A("7F", "00", "00"), "7F 00 00", (struct moved){2, TOP},
+         41 + CONEPALHUI_MOVE_BYTES, 15, grants(46, "80 01 00 00", longest));
     move("same offset", plan_a, "00 03 00", (struct moved){2, 0}, 41, 15, grants(41, "01 02 00", same));
     move("from the end", plan_a, "00 03 00", (struct moved){0, 0}, 41, 15, grants(41, "01 00 00", same));
     move("to the last revision", before_last, "FE FF FF FF 0F 00 00", (struct moved){2, 1}, 45, 15,
