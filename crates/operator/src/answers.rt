@@ -61,10 +61,7 @@ pub(crate) fn unread(number: u32, at: usize, file: &[u8]) {
 
 // A refusal of a table and a cursor.
 pub(crate) fn refused(number: u32, at: usize, revision: u32) {
-    show::text(b"refused ");
-    show::number(number as u64);
-    show::text(b" ");
-    show::number(at as u64);
+    show::refusal(number, at);
     labelled(b" revision ", revision);
     show::end_line();
     lies_in(number);

@@ -11,8 +11,6 @@ const CURSOR_ROOM: usize = files::MAX_CURSOR_BYTES + 1;
 
 const SEEN_ROOM: usize = seen::MAX_SEEN_BYTES + 1;
 
-const SIZE_ROOM: usize = 5;
-
 // A cursor file: its cursor, a refusal's number and position, or no file that can be read.
 pub(crate) enum Saved {
     At(Cursor),
@@ -100,7 +98,7 @@ fn sized_beside(name: &[u8], size: &[u8], n: usize, plan: &[u8], other: &[u8]) -
 pub(crate) fn seen_beside(path: &[u8], plan: &[u8], other: &[u8]) -> bool {
     let mut name = io::buffer();
     let n = durable::ended(path, b".seen", &mut name);
-    let mut size = [0u8; SIZE_ROOM];
+    let mut size = [0u8; seen::MAX_SIZE_BYTES];
     if files::MAX_FILE_BYTES < plan.len() {
         return false;
     }

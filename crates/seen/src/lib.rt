@@ -7,8 +7,10 @@ ghost use Rattle.seen.specs.Seen.{Known, KnownParts};
 use basics::Holds;
 use numbers::Number;
 
-// The most bytes that what was seen has: how long the first plan is, and two plans.
-pub const MAX_SEEN_BYTES: usize = 5 + 2 * files::MAX_FILE_BYTES;
+// The most bytes that how long the first plan is has as a number, and that all that was seen has.
+pub const MAX_SIZE_BYTES: usize = 5;
+
+pub const MAX_SEEN_BYTES: usize = MAX_SIZE_BYTES + 2 * files::MAX_FILE_BYTES;
 
 // Internal: whether two byte strings are equal.
 pub fn same(a: &[u8], b: &[u8]) -> Holds
