@@ -32,23 +32,6 @@ fn steps(n: u32) {
     number(n);
 }
 
-fn rule(r: Rule) {
-    match r {
-        Rule::Window => {
-            show::text(b" rule window");
-        }
-        Rule::Hop => {
-            show::text(b" rule hop");
-        }
-        Rule::Deadline => {
-            show::text(b" rule deadline");
-        }
-        Rule::Overlap => {
-            show::text(b" rule overlap");
-        }
-    }
-}
-
 fn refused(number: u32, position: usize, back: Cursor) {
     show::refused(number, position);
     show::text(b"given back: ");
@@ -60,7 +43,8 @@ fn violated(c: Cursor, n: u32, r: Rule) {
     show::text(b"violated: ");
     cursor(c);
     steps(n);
-    rule(r);
+    show::text(b" rule ");
+    told::rule(r);
     show::end_line();
 }
 

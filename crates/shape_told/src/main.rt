@@ -36,7 +36,7 @@ fn answer(bytes: &[u8]) {
 fn main() {
     let mut bytes = [0u8; MAX_INPUT];
     let n = io::read_full(libc::STDIN_FILENO, &mut bytes);
-    if input::is_whole(n, MAX_INPUT) {
+    if input::is_whole(libc::STDIN_FILENO, n, MAX_INPUT) {
         answer(&bytes[..n]);
     }
 }

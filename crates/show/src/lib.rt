@@ -31,12 +31,17 @@ pub fn end_line() {
     text(b"\n");
 }
 
-// Internal: prints a refusal's line.
-pub fn refused(number_of: u32, at: usize) {
+// Internal: prints a refusal, and ends no line.
+pub fn refusal(number_of: u32, at: usize) {
     text(b"refused ");
     number(number_of as u64);
     space();
     number(at as u64);
+}
+
+// Internal: prints a refusal's line.
+pub fn refused(number_of: u32, at: usize) {
+    refusal(number_of, at);
     end_line();
 }
 

@@ -3,9 +3,7 @@
 ghost use Rattle.shape.specs.Shape.{WellFormedTable};
 use checker::Grant;
 use checker::SliceAnswer;
-use files::Cursor;
 use files::PlanRead;
-use rules::Rule;
 
 // The bytes of the largest file and one more, so that a byte left over is seen.
 const MAX_INPUT: usize = files::MAX_FILE_BYTES + 1;
@@ -24,37 +22,12 @@ fn heading(t: &[u32])
     show::end_line();
 }
 
-fn rule_word(rule: Rule) {
-    match rule {
-        Rule::Window => {
-            show::text(b"window\n");
-        }
-        Rule::Hop => {
-            show::text(b"hop\n");
-        }
-        Rule::Deadline => {
-            show::text(b"deadline\n");
-        }
-        Rule::Overlap => {
-            show::text(b"overlap\n");
-        }
-    }
-}
-
-fn violated(at: Cursor, rule: Rule) {
-    show::text(b"violated ");
-    show::number(at.leg as u64);
-    show::text(b" ");
-    show::number(at.place as u64);
-    show::text(b" ");
-    rule_word(rule);
-}
-
 // A whole check has no other verdict: the budget is more than the places, and the cursor is the start's.
-fn verdict(told: SliceAnswer) {
-    match told {
+fn verdict(answer: SliceAnswer) {
+    match answer {
         SliceAnswer::Violated(at, steps, rule) => {
-            violated(at, rule);
+            told::violated(at, rule);
+            show::end_line();
         }
         SliceAnswer::NothingViolated(end, steps) => {
             show::text(b"accepted\n");
@@ -100,7 +73,7 @@ fn answer(bytes: &[u8]) {
 fn main() {
     let mut bytes = [0u8; MAX_INPUT];
     let n = io::read_full(libc::STDIN_FILENO, &mut bytes);
-    if input::is_whole(n, MAX_INPUT) {
+    if input::is_whole(libc::STDIN_FILENO, n, MAX_INPUT) {
         answer(&bytes[..n]);
     }
 }

@@ -1,0 +1,251 @@
+// Start, slice and move on files. Everything is written beside first, so that a full disk is met before any file is replaced.
+use crate::Order;
+use crate::answers;
+use crate::saved;
+use crate::saved::Saved;
+use basics::Holds;
+use checker::Grant;
+use checker::SliceAnswer;
+use durable::FileRead;
+use files::Cursor;
+use files::PlanRead;
+use numbers::Written;
+
+// One byte more than the largest plan file, so that a byte left over is seen.
+const PLAN_ROOM: usize = files::MAX_FILE_BYTES + 1;
+
+pub(crate) fn are_same(a: &[u8], b: &[u8]) -> bool {
+    let told = seen::same(a, b);
+    match told {
+        Holds::Yes => true,
+        Holds::No => false,
+    }
+}
+
+// A word of the header.
+fn header_word(t: &[u32], at: usize) -> u32 {
+    if at < t.len() {
+        return t[at];
+    }
+    0
+}
+
+fn legs_of(t: &[u32]) -> usize {
+    table::wide(header_word(t, table::LEGS_AT))
+}
+
+// Replaces cursor and copy. The old cursor goes first: it must never stand beside the copy of another plan.
+fn begun(cursor_path: &[u8], plan: &[u8], c: Cursor) -> bool {
+    if !saved::seen_beside(cursor_path, plan, b"") {
+        return false;
+    }
+    if !saved::cursor_beside(cursor_path, c) {
+        return false;
+    }
+    if !durable::remove(cursor_path) {
+        return false;
+    }
+    if !saved::put_seen_in_place(cursor_path) {
+        return false;
+    }
+    durable::put_in_place(cursor_path)
+}
+
+fn start(cursor_path: &[u8], plan: &[u8], t: &[u32]) {
+    let told = checker::start(t);
+    match told {
+        Grant::Refused(number, at, _) => {
+            answers::refused(number, at, header_word(t, table::REVISION_AT));
+        }
+        Grant::Granted(c) => {
+            if begun(cursor_path, plan, c) {
+                answers::granted(c, legs_of(t));
+            }
+        }
+    }
+}
+
+// Replaces the cursor, where the plan is known.
+fn gone_on(cursor_path: &[u8], plan: &[u8], c: Cursor) -> bool {
+    if !saved::is_known(cursor_path, plan, c.revision) {
+        return false;
+    }
+    if !saved::cursor_beside(cursor_path, c) {
+        return false;
+    }
+    durable::put_in_place(cursor_path)
+}
+
+fn sliced(cursor_path: &[u8], plan: &[u8], t: &[u32], told: SliceAnswer) {
+    match told {
+        SliceAnswer::Refused(number, at, _) => {
+            answers::refused(number, at, header_word(t, table::REVISION_AT));
+        }
+        SliceAnswer::Violated(c, steps, rule) => {
+            if gone_on(cursor_path, plan, c) {
+                answers::violated(c, steps, rule, legs_of(t));
+            }
+        }
+        SliceAnswer::NothingViolated(c, steps) => {
+            if gone_on(cursor_path, plan, c) {
+                answers::nothing_violated(c, steps, legs_of(t));
+            }
+        }
+        SliceAnswer::Paused(c, steps) => {
+            if gone_on(cursor_path, plan, c) {
+                answers::paused(c, steps, legs_of(t));
+            }
+        }
+    }
+}
+
+fn slice(cursor_path: &[u8], plan: &[u8], t: &[u32], budget: u32) {
+    let at = saved::cursor(cursor_path);
+    match at {
+        Saved::Failed => {}
+        Saved::Refused(number, position) => {
+            answers::unread(number, position, b"in the cursor\n");
+        }
+        Saved::At(c) => {
+            sliced(cursor_path, plan, t, checker::slice(t, c, budget));
+        }
+    }
+}
+
+// Replaces all three files. The copy goes first and has both plans, so that whichever of the two is found is known; then the plan, then the cursor.
+fn replaced(plan_path: &[u8], cursor_path: &[u8], old: &[u8], new: &[u8], c: Cursor) -> bool {
+    if !saved::seen_beside(cursor_path, new, old) {
+        return false;
+    }
+    if !durable::write_beside(plan_path, new, b"", b"") {
+        return false;
+    }
+    if !saved::cursor_beside(cursor_path, c) {
+        return false;
+    }
+    if !saved::put_seen_in_place(cursor_path) {
+        return false;
+    }
+    if !durable::put_in_place(plan_path) {
+        return false;
+    }
+    durable::put_in_place(cursor_path)
+}
+
+fn written(plan_path: &[u8], cursor_path: &[u8], old: &[u8], t: &[u32], c: Cursor) {
+    let mut new = [0u8; files::MAX_FILE_BYTES];
+    let told = files::write_plan(t, &mut new);
+    match told {
+        Written::Refused(_, _) => {}
+        Written::Bytes(n) => {
+            if new.len() < n {
+                return;
+            }
+            if replaced(plan_path, cursor_path, old, &new[0..n], c) {
+                answers::granted(c, legs_of(t));
+            }
+        }
+    }
+}
+
+fn moved(
+    plan_path: &[u8],
+    cursor_path: &[u8],
+    old: &[u8],
+    t: &mut [u32],
+    c: Cursor,
+    leg: u32,
+    offset: u32,
+) {
+    let told = checker::move_leg(t, c, leg, offset);
+    match told {
+        Grant::Refused(number, at, _) => {
+            answers::refused(number, at, header_word(t, table::REVISION_AT));
+        }
+        Grant::Granted(d) => {
+            if saved::is_known(cursor_path, old, c.revision) {
+                written(plan_path, cursor_path, old, t, d);
+            }
+        }
+    }
+}
+
+fn move_leg(
+    plan_path: &[u8],
+    cursor_path: &[u8],
+    plan: &[u8],
+    t: &mut [u32],
+    leg: u32,
+    offset: u32,
+) {
+    let at = saved::cursor(cursor_path);
+    match at {
+        Saved::Failed => {}
+        Saved::Refused(number, position) => {
+            answers::unread(number, position, b"in the cursor\n");
+        }
+        Saved::At(c) => {
+            moved(plan_path, cursor_path, plan, t, c, leg, offset);
+        }
+    }
+}
+
+fn on_table(order: Order, plan_path: &[u8], cursor_path: &[u8], plan: &[u8], t: &mut [u32]) {
+    match order {
+        Order::Start => {
+            start(cursor_path, plan, t);
+        }
+        Order::Slice(budget) => {
+            slice(cursor_path, plan, t, budget);
+        }
+        Order::Move(leg, offset) => {
+            move_leg(plan_path, cursor_path, plan, t, leg, offset);
+        }
+        Order::Wrong => {}
+    }
+}
+
+fn on_words(
+    order: Order,
+    plan_path: &[u8],
+    cursor_path: &[u8],
+    plan: &[u8],
+    words: &mut [u32],
+    n: usize,
+) {
+    if words.len() < n {
+        return;
+    }
+    on_table(order, plan_path, cursor_path, plan, &mut words[0..n]);
+}
+
+fn on_bytes(order: Order, plan_path: &[u8], cursor_path: &[u8], bytes: &[u8], n: usize) {
+    if bytes.len() < n {
+        return;
+    }
+    let plan = &bytes[0..n];
+    let mut words = [0u32; table::MAX_TABLE_WORDS];
+    let read = files::read_plan(plan, &mut words);
+    match read {
+        PlanRead::Refused(number, at) => {
+            answers::unread(number, at, b"in the plan\n");
+        }
+        PlanRead::Words(m) => {
+            on_words(order, plan_path, cursor_path, plan, &mut words, m);
+        }
+    }
+}
+
+pub(crate) fn on_file(order: Order, plan_path: &[u8], cursor_path: &[u8]) {
+    let mut bytes = [0u8; PLAN_ROOM];
+    let read = durable::file(plan_path, &mut bytes);
+    match read {
+        FileRead::Bytes(n) => {
+            on_bytes(order, plan_path, cursor_path, &bytes, n);
+        }
+        FileRead::Missing => {
+            os::fail(plan_path);
+        }
+        FileRead::Failed => {}
+    }
+}

@@ -1,0 +1,117 @@
+// What an operator and a planner do with files: start PLAN CURSOR, slice PLAN CURSOR BUDGET, move PLAN CURSOR LEG OFFSET. The first line that it writes
+// is the answer; where a file cannot be read or written, or an argument is wrong, it writes none and says so on standard error.
+use decimal::Decimal;
+
+mod answers;
+mod calls;
+mod saved;
+
+// What is asked for.
+pub(crate) enum Order {
+    Start,
+    Slice(u32),
+    Move(u32, u32),
+    Wrong,
+}
+
+// An argument that has to be a number.
+enum Word {
+    Given(u32),
+    Wrong,
+}
+
+const VERB_AT: usize = 1;
+
+const PLAN_AT: usize = 2;
+
+const CURSOR_AT: usize = 3;
+
+const FIRST_NUMBER_AT: usize = 4;
+
+fn not_a_number(what: &[u8], why: &[u8]) -> Word {
+    answers::say(what);
+    answers::say(b" is no number from 0 to 4294967295: ");
+    answers::say(why);
+    answers::say(b"\n");
+    Word::Wrong
+}
+
+fn word_of(text: &[u8], what: &[u8]) -> Word {
+    let read = decimal::read_decimal(text);
+    match read {
+        Decimal::Value(value) => Word::Given(value),
+        Decimal::Empty => not_a_number(what, b"it is empty"),
+        Decimal::NoDigit(_) => not_a_number(what, b"it has a byte that is no digit"),
+        Decimal::TooLarge => not_a_number(what, b"it is larger"),
+    }
+}
+
+fn number_at(i: usize, what: &[u8]) -> Word {
+    let mut text = io::buffer();
+    let n = os::arg(i, &mut text);
+    if os::errno() != 0 {
+        os::fail(what);
+        return Word::Wrong;
+    }
+    word_of(&text[..n], what)
+}
+
+fn slice_order() -> Order {
+    let budget = number_at(FIRST_NUMBER_AT, b"the budget");
+    match budget {
+        Word::Given(value) => Order::Slice(value),
+        Word::Wrong => Order::Wrong,
+    }
+}
+
+fn move_order() -> Order {
+    let leg = number_at(FIRST_NUMBER_AT, b"the leg");
+    let Word::Given(moved) = leg else {
+        return Order::Wrong;
+    };
+    let offset = number_at(FIRST_NUMBER_AT + 1, b"the offset");
+    match offset {
+        Word::Given(value) => Order::Move(moved, value),
+        Word::Wrong => Order::Wrong,
+    }
+}
+
+fn order_of(verb: &[u8]) -> Order {
+    if calls::are_same(verb, b"start") {
+        return Order::Start;
+    }
+    if calls::are_same(verb, b"slice") {
+        return slice_order();
+    }
+    if calls::are_same(verb, b"move") {
+        return move_order();
+    }
+    answers::say(b"the first argument is start, slice or move\n");
+    Order::Wrong
+}
+
+fn order_given() -> Order {
+    let mut verb = io::buffer();
+    let n = os::arg(VERB_AT, &mut verb);
+    order_of(&verb[..n])
+}
+
+fn main() {
+    let order = order_given();
+    if let Order::Wrong = order {
+        return;
+    }
+    let mut plan = io::buffer();
+    let n = os::arg(PLAN_AT, &mut plan);
+    if os::errno() != 0 {
+        os::fail(b"the path of the plan");
+        return;
+    }
+    let mut cursor = io::buffer();
+    let m = os::arg(CURSOR_AT, &mut cursor);
+    if os::errno() != 0 {
+        os::fail(b"the path of the cursor");
+        return;
+    }
+    calls::on_file(order, &plan[..n], &cursor[..m]);
+}

@@ -1,0 +1,23 @@
+-- What was last seen of a plan.
+use Prim.Native.Nat.{ℕ, _≤_}
+use mathlib.Core.Path.{_≡_}
+use mathlib.Core.List.{List, _++_}
+use mathlib.Core.Logic.{_⊎_}
+use lib.ListN.{length, take, drop}
+use Rattle.numbers.specs.Number.{maxWord, bytesOf}
+
+-- What was seen is how many bytes the first plan has, as a number, then that plan, then the other one or nothing.
+pub record Kept (s first other : List ℕ) : Type 0 where
+  pub size : length first ≤ maxWord
+  pub whole : s ≡ bytesOf (length first) ++ (first ++ other)
+
+-- The plan p is one of those that were seen.
+pub record Known (s p : List ℕ) : Type 0 where
+  pub first : List ℕ
+  pub other : List ℕ
+  pub kept : Kept s first other
+  pub is : (first ≡ p) ⊎ (other ≡ p)
+
+-- The plan p stands in front of a position, or behind it.
+abbrev pub KnownParts : List ℕ → ℕ → List ℕ → Type 0
+KnownParts s at p = (take at s ≡ p) ⊎ (drop at s ≡ p)

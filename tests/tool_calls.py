@@ -1,0 +1,121 @@
+"""What the tests of the operator's commands share: a folder with a plan and a cursor, calls on it, and how answers are read.
+
+The expected tables and verdicts come from check_model.py, which owes nothing to the verified code.
+"""
+
+import os
+import platform
+import re
+import shutil
+import subprocess
+import tempfile
+from collections import namedtuple
+from pathlib import Path
+
+import check_model as model
+import plan_model
+
+HOME = Path(__file__).resolve().parent.parent
+COMMAND = str(HOME / "conepalhui")
+STATUS = {"granted": 0, "nothing violated": 0, "violated": 1, "refused": 2, "paused": 3}
+
+# An answer's kind, the words of its first line, and its revision or None.
+Answer = namedtuple("Answer", "kind words revision")
+
+
+def streams(count, hops=2):
+    """Gives a table of so many streams of so many legs each, in which nothing is violated."""
+    links = [(node, node + 1, 8, 500) for node in range(hops)]
+    known = [(1_000_000, 1_176 * hops, 64, hops * number, hops) for number in range(count)]
+    legs = [(number, hop, 600 * number + 1_176 * hop) for number in range(count) for hop in range(hops)]
+    words = [0, len(links), len(known), len(legs), 100]
+    for record in (*links, *known, *legs):
+        words += record
+    return words
+
+
+def offset_at(words, leg):
+    return len(words) - plan_model.LEG_WORDS * (words[3] - leg) + 2
+
+
+def verdict(words):
+    """Gives the verdict of a whole check: ("nothing violated",) or ("violated", leg, place, rule)."""
+    told = model.check(words)
+    return told[:1] if told[0] == "nothing violated" else ("violated", *told[1][1:], told[3])
+
+
+def read(out):
+    """Gives the answer in what was printed. Without two whole lines there is none, and the kind is nothing."""
+    line = out.split("\n")[0] if out.count("\n") == 2 else ""
+    kind = next((kind for kind in STATUS if line.startswith(kind + " ")), "nothing")
+    revision = re.search(r" revision (\d+)$", line)
+    return Answer(kind, line.split(), int(revision.group(1)) if revision else None)
+
+
+def told(answer):
+    """Gives the verdict in an answer, in the form that verdict has, or None."""
+    if answer.kind == "nothing violated":
+        return ("nothing violated",)
+    if answer.kind == "violated":
+        return ("violated", int(answer.words[1]), int(answer.words[2]), answer.words[3])
+    return None
+
+
+class Desk:
+    """A folder with a plan and a cursor, each in a folder of its own below it."""
+
+    def __init__(self, words):
+        self.folder = Path(tempfile.mkdtemp())
+        (self.folder / "plans").mkdir()
+        (self.folder / "cursors").mkdir()
+        self.plan, self.cursor = self.folder / "plans" / "a", self.folder / "cursors" / "c"
+        self.seen = self.folder / "cursors" / "c.seen"
+        self.put(words)
+
+    def __enter__(self):
+        return self
+
+    def __exit__(self, *_):
+        shutil.rmtree(self.folder)
+
+    def put(self, words):
+        self.plan.write_bytes(plan_model.encode_all(words))
+
+    def words(self):
+        """Gives the table as it stands in the plan file."""
+        found = plan_model.read_plan(self.plan.read_bytes())
+        if found[0] != "words":
+            raise AssertionError(f"the plan file is damaged: {found}")
+        return list(found[1])
+
+    def line(self, verb, *numbers):
+        return [COMMAND, verb, str(self.plan), str(self.cursor), *map(str, numbers)]
+
+    def call(self, verb, *numbers, wait=30):
+        done = subprocess.run(
+            self.line(verb, *numbers),
+            stdout=subprocess.PIPE,
+            stderr=subprocess.PIPE,
+            text=True,
+            timeout=600,
+            env={**os.environ, "CONEPALHUI_WAIT": str(wait)},
+        )
+        answer = read(done.stdout)
+        if done.returncode != STATUS.get(answer.kind, 4):
+            raise AssertionError(f"exit status {done.returncode} after {done.stdout!r} {done.stderr!r}")
+        return answer
+
+
+def build():
+    """Makes a first call, which proves and builds the program, however long that takes."""
+    subprocess.run([COMMAND, "start", "missing", "missing"], capture_output=True)
+
+
+def program():
+    """Gives the words that run the built program directly, as the command runs it on this processor."""
+    built = str(HOME / ".built" / "operator")
+    if platform.machine() == "x86_64":
+        return [built]
+    page = subprocess.run(["rt", "doc"], stdout=subprocess.PIPE, text=True, check=True).stdout.strip()
+    tools = Path(page).parent.parent / "on" / platform.machine() / "toolchain"
+    return [str(tools / "bin" / "qemu-x86_64"), str(tools / "lib" / "ld-linux-x86-64.so.2"), "--library-path", str(tools / "lib"), built]
