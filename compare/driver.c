@@ -3,7 +3,8 @@
    A call comes as its kind and two numbers (4 bytes each), the lengths of its four buffers (4 bytes each), and the bytes of
    the buffers: plan, cursor, new plan, out. What goes back is the call's whole result (8 bytes) and every byte of
    the four buffers, with the margin that lies before each. Behind each buffer lies a page that may not be touched.
-   Numbers have their lowest byte first. The end of the input ends the program. */
+   Numbers have their lowest byte first. The kind FLUSH is no call: what was answered so far is written out.
+   The end of the input ends the program. */
 #define _GNU_SOURCE
 #include <stdint.h>
 #include <stdio.h>
@@ -19,7 +20,7 @@ uint64_t conepalhui_start(const uint8_t *plan, size_t plan_len, uint8_t *out, si
 uint64_t conepalhui_move(const uint8_t *plan, size_t plan_len, const uint8_t *cursor, size_t cursor_len, uint32_t leg,
                          uint32_t offset, uint8_t *new_plan, size_t new_plan_len, uint8_t *out, size_t out_len);
 
-enum { SLICE, SLICE_FULL, START, MOVE };
+enum { SLICE, SLICE_FULL, START, MOVE, FLUSH };
 enum { PLAN, CURSOR, NEW_PLAN, OUT, BUFFERS };
 enum { MARGIN = 32, MOST = 1 << 17 };
 
@@ -62,6 +63,10 @@ int main(void) {
     const uint32_t *length = head + 3;
     for (int i = 0; i < BUFFERS; i++) end[i] = lent_end();
     while (fread(head, sizeof head, 1, stdin) == 1) {
+        if (head[0] == FLUSH) {
+            if (fflush(stdout) != 0) fail("cannot write");
+            continue;
+        }
         for (int i = 0; i < BUFFERS; i++) {
             if (length[i] > MOST - MARGIN) fail("a buffer is too long");
             at[i] = end[i] - length[i];
