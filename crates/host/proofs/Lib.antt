@@ -1,2 +1,4 @@
 pub mod Laws
+pub mod Steps
 pub mod OneAnswer
+pub mod Outcomes

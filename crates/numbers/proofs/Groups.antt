@@ -22,6 +22,19 @@ pub more-groups : (n x : ℕ) → groupValues ≤ x → groupsOf (suc n) x ≡ (
 unfolding groupsOf
 more-groups n x h = rw (le-ltb x groupValues h)
 
+few-none : (x : ℕ) → (1 ≤ length (groupsOf zero x)) × (length (groupsOf zero x) ≤ 1)
+unfolding groupsOf
+few-none x = (omega arith, omega arith)
+
+-- One group for each that goes on and one more are the most.
+pub groups-few : (n x : ℕ) → (1 ≤ length (groupsOf n x)) × (length (groupsOf n x) ≤ suc n)
+groups-few zero x = few-none x
+groups-few (suc n) x =
+    ⊎-elim
+    (λ (h : x < groupValues). let e = ap length (one-group (suc n) x h) in (omega arith, omega arith))
+    (λ (h : groupValues ≤ x). let e = ap length (more-groups n x h) in let i = groups-few n (x / groupValues) in (omega arith, omega (arith, e, i .1)))
+    (lt-or-ge x groupValues)
+
 worth-one : (x : ℕ) → x < groupValues → worth (x ∷ []) ≡ x
 unfolding worth
 worth-one x h = omega arith
