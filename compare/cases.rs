@@ -4,7 +4,7 @@ use crate::calls::{answer, Answer, Call, Kind};
 use crate::chance::Chance;
 use crate::check::{self, next, Checker, Plain, VIOLATED};
 use crate::damage::{any_bytes, bend_route, damage_bytes, damage_table, shift_legs};
-use crate::drafts::{beyond, large, medium, plan_a, small, to_an_edge};
+use crate::drafts::{beyond, large, medium, plan_a, row, small, to_an_edge};
 use crate::format::{cursor_bytes, encoded, plan_bytes, read_cursor, Cursor, Plan, CURSOR_BYTES};
 use std::sync::Arc;
 
@@ -310,7 +310,11 @@ impl Batch {
     }
 
     fn damaged_table(&mut self) {
-        let plan = if self.chance.one_in(6) { medium(&mut self.chance) } else { small(&mut self.chance) };
+        let plan = match self.chance.below(6) {
+            0 => medium(&mut self.chance),
+            1 => row(&mut self.chance),
+            _ => small(&mut self.chance),
+        };
         for _ in 0..8 {
             let mut bent = plan.clone();
             match self.chance.below(6) {

@@ -37,6 +37,20 @@ pub fn small(chance: &mut Chance) -> Plan {
     drafted(chance, size)
 }
 
+/// Links in a row, and streams along them, now and then over one link more than a route may have.
+pub fn row(chance: &mut Chance) -> Plan {
+    let mut plan = empty(chance);
+    let link = |from| Link { from, to: from + 1, ns_per_octet: 8, propagation: 500 };
+    plan.links = (0..ROUTE_MAX as u32 + 1).map(link).collect();
+    for _ in 0..1 + chance.below(4) {
+        let first = chance.below(3);
+        let hops = 1 + chance.below(plan.links.len() - first);
+        let route: Vec<u32> = (first..first + hops).map(|at| at as u32).collect();
+        add_stream(chance, &mut plan, 200_000, &route);
+    }
+    plan
+}
+
 /// A plan of some dozens of records.
 pub fn medium(chance: &mut Chance) -> Plan {
     let size = Size { nodes: 4 + chance.below(12), links: 10 + chance.below(40), streams: 5 + chance.below(40) };
