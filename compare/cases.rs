@@ -4,7 +4,7 @@ use crate::calls::{answer, Answer, Call, Kind};
 use crate::chance::Chance;
 use crate::check::{self, next, Checker, Plain, VIOLATED};
 use crate::damage::{any_bytes, bend_route, damage_bytes, damage_table, shift_legs};
-use crate::drafts::{beyond, large, medium, plan_a, row, small, to_an_edge};
+use crate::drafts::{beyond, large, medium, one_link, plan_a, row, small, to_an_edge};
 use crate::format::{cursor_bytes, encoded, plan_bytes, read_cursor, Cursor, Plan, CURSOR_BYTES};
 use std::sync::Arc;
 
@@ -28,12 +28,13 @@ pub fn batch(seed: u64, number: u64) -> Vec<Case> {
     }
     batch.of_a_large_plan(number);
     while batch.cases.len() < BATCH {
-        match batch.chance.below(12) {
+        match batch.chance.below(14) {
             0..=2 => batch.run(),
             3..=5 => batch.at_an_edge(),
-            6 | 7 => batch.beyond_the_period(),
-            8 | 9 => batch.damaged_table(),
-            10 => batch.damaged_bytes(),
+            6 | 7 => batch.on_one_link(),
+            8 | 9 => batch.beyond_the_period(),
+            10 | 11 => batch.damaged_table(),
+            12 => batch.damaged_bytes(),
             _ => batch.cursors(),
         }
     }
@@ -283,6 +284,20 @@ impl Batch {
             if self.chance.one_in(4) {
                 self.any_move(&plan, &bytes, Cursor { revision, leg, place });
             }
+        }
+    }
+
+    /// Slices that look at one overlap whose frames just touch or just meet, in repeats near or far.
+    fn on_one_link(&mut self) {
+        for _ in 0..6 {
+            let mut plan = one_link(&mut self.chance);
+            if self.chance.one_in(2) {
+                beyond(&mut self.chance, &mut plan);
+            }
+            let (leg, place) = to_an_edge(&mut self.chance, &mut plan);
+            let budget = 1 + self.chance.below(2) as u32;
+            let cursor = cursor_bytes(Cursor { revision: plan.revision, leg, place });
+            self.slice(&plan_bytes(&plan).into(), cursor, budget);
         }
     }
 

@@ -13,10 +13,9 @@ mod rules;
 mod shape;
 mod wrong;
 
-use calls::{answer, receive, send, send_flush, Answer, Call, Kind};
+use calls::{receive, send, send_flush, Answer, Call, Kind};
 use cases::{batch, Case, BATCH};
 use check::{GRANTED, OVERLAP, REFUSED};
-use layout::{ByLayout, LAID_OUT};
 use std::collections::BTreeMap;
 use std::io::{BufReader, BufWriter};
 use std::process::{exit, Child, ChildStdin, ChildStdout, Command, Stdio};
@@ -26,13 +25,28 @@ use std::thread;
 use wrong::WRONG;
 
 const SHOWN: usize = 5;
+/// Plans up to this length are given to the third opinion too.
+const LAID_OUT_BYTES: usize = 2_000;
+/// What a spoiled driver does, by the number that tells it to.
+const SPOILED: [&str; 8] = [
+    "changes the plan",
+    "changes the cursor",
+    "changes the last byte for the new plan",
+    "changes the last byte lent for the cursor",
+    "changes the byte before the plan",
+    "changes the byte before the cursor",
+    "changes the byte before the new plan",
+    "changes the byte before the lent cursor",
+];
 
 /// What a run has found so far.
 struct Found {
     differences: u64,
     shown: Vec<String>,
-    /// The number of the first call that catches each wrong checker.
+    /// The number of the first call that catches each wrong checker: the proved call, and the third opinion.
     caught: Vec<Option<u64>>,
+    caught_by_layout: Vec<Option<u64>>,
+    pairs_laid_out: u64,
     /// How often each call gave each result.
     seen: BTreeMap<(Kind, u32), u64>,
 }
@@ -102,50 +116,100 @@ impl Driver {
     }
 }
 
-/// Compares one batch. Gives its differences, the first call that caught each wrong checker, and the results.
+/// Says how the proved call differs from the plain one, if it does.
+fn difference(number: u64, case: &Case, answered: &Answer, changed: &[String]) -> Option<String> {
+    if *answered == case.expected && changed.is_empty() {
+        return None;
+    }
+    Some(format!(
+        "{}\n    proved: {}\n    plain:  {}\n    {}",
+        described(number, &case.call),
+        told(answered),
+        told(&case.expected),
+        changed.join(", ")
+    ))
+}
+
+/// The wrong checkers that no call before this one has caught.
+fn at_large(caught: &[Option<u64>], first: u64) -> Vec<usize> {
+    (0..caught.len()).filter(|&at| caught[at].map_or(true, |call| call > first)).collect()
+}
+
+/// Whether a wrong checker is one that the third opinion has to catch too.
+fn judges_overlap(name: &str) -> bool {
+    name.starts_with("overlap")
+}
+
+/// Notes each wrong checker that answers something else.
+fn catch(at_large: &mut Vec<usize>, caught: &mut [Option<u64>], number: u64, call: &Call, right: &Answer) {
+    at_large.retain(|&at| {
+        let escapes = (WRONG[at].1)(call) == *right;
+        if !escapes {
+            caught[at] = Some(caught[at].map_or(number, |earlier| earlier.min(number)));
+        }
+        escapes
+    });
+}
+
+/// Compares one batch, whose first call has this number in the run.
 fn compare(first: u64, cases: &[Case], answers: &[(Answer, Vec<String>)], found: &Mutex<Found>) {
-    let open: Vec<usize> = {
+    let (mut by_call, mut by_layout) = {
         let found = found.lock().expect("no thread failed");
-        (0..WRONG.len()).filter(|&at| found.caught[at].map_or(true, |call| call > first)).collect()
+        (at_large(&found.caught, first), at_large(&found.caught_by_layout, first))
     };
-    let mut caught = vec![None; WRONG.len()];
-    let mut faults = Vec::new();
+    by_layout.retain(|&at| judges_overlap(WRONG[at].0));
+    let (mut caught, mut caught_by_layout) = (vec![None; WRONG.len()], vec![None; WRONG.len()]);
+    let (mut faults, mut pairs_laid_out) = (Vec::new(), 0);
     for (number, (case, (answered, changed))) in (first..).zip(cases.iter().zip(answers)) {
-        if *answered != case.expected || !changed.is_empty() {
-            faults.push(format!(
-                "{}\n    proved: {}\n    plain:  {}\n    {}",
-                described(number, &case.call),
-                told(answered),
-                told(&case.expected),
-                changed.join(", ")
-            ));
-        }
+        faults.extend(difference(number, case, answered, changed));
+        catch(&mut by_call, &mut caught, number, &case.call, answered);
         let slices = matches!(case.call.kind, Kind::Slice | Kind::SliceFull);
-        if slices && case.call.plan.len() < 2_000 && answer::<ByLayout>(&case.call) != case.expected {
-            faults.push(format!("{}\n    laid out, the repeats say something else", described(number, &case.call)));
-        }
-        for &at in &open {
-            if caught[at].is_none() && (WRONG[at].1)(&case.call) != *answered {
-                caught[at] = Some(number);
+        if slices && case.call.plan.len() < LAID_OUT_BYTES {
+            let third = layout::opinion(&case.call);
+            pairs_laid_out += third.laid_out;
+            if third.answer != case.expected {
+                faults.push(format!("{}\n    laid out: {}", described(number, &case.call), told(&third.answer)));
+            }
+            if third.laid_out > 0 && third.left == 0 {
+                catch(&mut by_layout, &mut caught_by_layout, number, &case.call, &third.answer);
             }
         }
     }
     let mut found = found.lock().expect("no thread failed");
     found.differences += faults.len() as u64;
-    for fault in faults {
-        if found.shown.len() < SHOWN {
-            found.shown.push(fault);
-        }
-    }
-    for (known, new) in found.caught.iter_mut().zip(caught) {
-        *known = match (*known, new) {
-            (Some(earlier), Some(later)) => Some(earlier.min(later)),
-            (earlier, later) => earlier.or(later),
-        };
-    }
+    found.pairs_laid_out += pairs_laid_out;
+    let room = SHOWN.saturating_sub(found.shown.len());
+    found.shown.extend(faults.into_iter().take(room));
+    merge(&mut found.caught, &caught);
+    merge(&mut found.caught_by_layout, &caught_by_layout);
     for case in cases {
         *found.seen.entry((case.call.kind, case.expected.result as u32)).or_default() += 1;
     }
+}
+
+/// Keeps the earlier of two calls for each wrong checker.
+fn merge(known: &mut [Option<u64>], new: &[Option<u64>]) {
+    for (known, &new) in known.iter_mut().zip(new) {
+        *known = known.iter().copied().chain(new).min();
+    }
+}
+
+/// Runs drivers that spoil memory. Gives those that the comparison does not catch.
+fn spoilers_at_large(command: &[String]) -> Vec<&'static str> {
+    let cases = batch(1, 0);
+    let mut uncaught = Vec::new();
+    for (what, name) in SPOILED.iter().enumerate() {
+        let mut driver = Driver::new(&[command, &[what.to_string()]].concat());
+        let answers = driver.answers(&cases);
+        driver.end();
+        let differs = |(case, (answered, changed)): (&Case, &(Answer, Vec<String>))| {
+            difference(0, case, answered, changed).is_some()
+        };
+        if !cases.iter().zip(&answers).any(differs) {
+            uncaught.push(*name);
+        }
+    }
+    uncaught
 }
 
 /// Gives each result that a call can have and that was never seen. From a file, refusals 1 and 3 cannot come.
@@ -175,6 +239,8 @@ fn main() {
         differences: 0,
         shown: Vec::new(),
         caught: vec![None; WRONG.len()],
+        caught_by_layout: vec![None; WRONG.len()],
+        pairs_laid_out: 0,
         seen: BTreeMap::new(),
     });
     let next = AtomicU64::new(0);
@@ -201,31 +267,40 @@ fn main() {
     for fault in &found.shown {
         println!("{}", fault);
     }
-    let mut uncaught = 0;
-    for ((name, _), caught) in WRONG.iter().zip(&found.caught) {
-        match caught {
-            Some(call) => println!("caught in call {:>6}: {}", call + 1, name),
-            None => {
-                uncaught += 1;
-                println!("NOT CAUGHT: {}", name);
-            }
+    exit(if report(&found, batches * BATCH as u64, &spoilers_at_large(&arguments[2..])) { 0 } else { 1 });
+}
+
+/// Prints what a run found, and says whether all is well.
+fn report(found: &Found, calls: u64, spoilers: &[&str]) -> bool {
+    let mut faults = Vec::new();
+    for (at, (name, _)) in WRONG.iter().enumerate() {
+        match found.caught[at] {
+            Some(call) => println!("caught in call {}: {}", call + 1, name),
+            None => faults.push(format!("NOT CAUGHT: {}", name)),
+        }
+        if judges_overlap(name) && found.caught_by_layout[at].is_none() {
+            faults.push(format!("NOT CAUGHT by layout: {}", name));
         }
     }
-    let unseen = unseen(&found.seen);
-    for (kind, result) in &unseen {
-        println!("NEVER SEEN: {:?} with the result {}", kind, result);
+    faults.extend(spoilers.iter().map(|name| format!("NOT CAUGHT: a driver that {}", name)));
+    for (kind, result) in unseen(&found.seen) {
+        faults.push(format!("NEVER SEEN: {:?} with the result {}", kind, result));
     }
-    let laid_out = LAID_OUT.load(Ordering::Relaxed);
+    for fault in &faults {
+        println!("{}", fault);
+    }
+    let seen: Vec<String> =
+        found.seen.iter().map(|((kind, result), times)| format!("{:?} {}: {}", kind, result, times)).collect();
+    println!("seen: {}", seen.join(", "));
     println!(
-        "{} calls, {} differences, {} of {} wrong checkers caught, {} pairs of legs laid out",
-        batches * BATCH as u64,
+        "{} calls, {} differences, {} of {} wrong checkers and {} of {} spoiled drivers caught, {} pairs of legs laid out",
+        calls,
         found.differences,
-        WRONG.len() - uncaught,
+        found.caught.iter().flatten().count(),
         WRONG.len(),
-        laid_out
+        SPOILED.len() - spoilers.len(),
+        SPOILED.len(),
+        found.pairs_laid_out
     );
-    let kinds: Vec<String> = found.seen.iter().map(|((kind, result), times)| format!("{:?} {}: {}", kind, result, times)).collect();
-    println!("seen: {}", kinds.join(", "));
-    let well = found.differences == 0 && uncaught == 0 && unseen.is_empty() && laid_out > 0 && batches > 0;
-    exit(if well { 0 } else { 1 });
+    found.differences == 0 && faults.is_empty() && found.pairs_laid_out > 0
 }

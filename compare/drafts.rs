@@ -5,11 +5,10 @@ use crate::format::{Leg, Link, Plan, Stream, LEGS_MAX, LINKS_MAX, STREAMS_MAX};
 use crate::rules::{apart, divisor, sent};
 
 /// How large a plan is to be.
-#[derive(Clone, Copy)]
-pub struct Size {
-    pub nodes: usize,
-    pub links: usize,
-    pub streams: usize,
+struct Size {
+    nodes: usize,
+    links: usize,
+    streams: usize,
 }
 
 const ROUTE_MAX: usize = 8;
@@ -35,6 +34,12 @@ pub fn plan_a() -> Plan {
 pub fn small(chance: &mut Chance) -> Plan {
     let size = Size { nodes: 2 + chance.below(7), links: chance.below(9), streams: chance.below(7) };
     drafted(chance, size)
+}
+
+/// Two or three streams on one link.
+pub fn one_link(chance: &mut Chance) -> Plan {
+    let streams = 2 + chance.below(2);
+    drafted(chance, Size { nodes: 2, links: 1, streams })
 }
 
 /// Links in a row, and streams along them, now and then over one link more than a route may have.

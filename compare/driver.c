@@ -3,11 +3,13 @@
    A call comes as its kind and two numbers (4 bytes each), the lengths of its four buffers (4 bytes each), and the bytes of
    the buffers: plan, cursor, new plan, out. What goes back is the call's whole result (8 bytes) and every byte of
    the four buffers, with the margin that lies before each. Behind each buffer lies a page that may not be touched.
-   Numbers have their lowest byte first. The kind FLUSH is no call: what was answered so far is written out.
+   With an argument the program spoils something in each call, so that a comparison which misses that is seen: 0 to 3 change
+   the last byte of a buffer after the call, 4 to 7 the byte before one. Numbers have their lowest byte first. The kind FLUSH is no call: what was answered so far is written out.
    The end of the input ends the program. */
 #define _GNU_SOURCE
 #include <stdint.h>
 #include <stdio.h>
+#include <stdlib.h>
 #include <string.h>
 #include <sys/mman.h>
 #include <unistd.h>
@@ -53,11 +55,20 @@ static uint64_t made(const uint32_t *head, uint8_t *const *at, const uint32_t *l
     return 0;
 }
 
+/* Changes a byte of the buffer or before it. An empty buffer has no last byte. */
+static void spoil(int what, uint8_t *const *at, const uint32_t *length) {
+    int buffer = what % BUFFERS;
+    if (what >= BUFFERS)
+        at[buffer][-1] ^= 1;
+    else if (length[buffer] > 0)
+        at[buffer][length[buffer] - 1] ^= 1;
+}
+
 static void put(const void *bytes, size_t length) {
     if (fwrite(bytes, 1, length, stdout) != length) fail("cannot write");
 }
 
-int main(void) {
+int main(int count, char **arguments) {
     uint8_t *end[BUFFERS], *at[BUFFERS];
     uint32_t head[3 + BUFFERS];
     const uint32_t *length = head + 3;
@@ -74,6 +85,7 @@ int main(void) {
             if (fread(at[i], 1, length[i], stdin) != length[i]) fail("the input ends in a call");
         }
         uint64_t result = made(head, at, length);
+        if (count > 1) spoil(atoi(arguments[1]), at, length);
         put(&result, sizeof result);
         for (int i = 0; i < BUFFERS; i++) put(at[i] - MARGIN, MARGIN + length[i]);
     }

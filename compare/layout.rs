@@ -1,27 +1,48 @@
 //! A third opinion on overlap: the repeats of both legs are laid out one by one. No divisor is taken for the answer.
 
+use crate::calls::{self, Answer, Call};
 use crate::check::Checker;
 use crate::rules::{self, Sent};
-use std::sync::atomic::{AtomicU64, Ordering};
+use std::cell::Cell;
 
 /// The checker that lays out the repeats wherever there are few.
-pub struct ByLayout;
+struct ByLayout;
 
 const REPEATS_MAX: u64 = 3_000;
 
-/// How many pairs of legs were laid out.
-pub static LAID_OUT: AtomicU64 = AtomicU64::new(0);
+thread_local! {
+    /// How many pairs of legs were laid out, and how many have too many repeats for that.
+    static PAIRS: Cell<(u64, u64)> = Cell::new((0, 0));
+}
 
 impl Checker for ByLayout {
     fn apart(a: &Sent, b: &Sent) -> bool {
+        let (laid, left) = PAIRS.with(Cell::get);
         match laid_out(a, b) {
             Some(apart) => {
-                LAID_OUT.fetch_add(1, Ordering::Relaxed);
+                PAIRS.with(|pairs| pairs.set((laid + 1, left)));
                 apart
             }
-            None => rules::apart(a, b),
+            None => {
+                PAIRS.with(|pairs| pairs.set((laid, left + 1)));
+                rules::apart(a, b)
+            }
         }
     }
+}
+
+/// What a slice answers by layout, how many pairs of legs were laid out for it, and how many were not.
+pub struct Opinion {
+    pub answer: Answer,
+    pub laid_out: u64,
+    pub left: u64,
+}
+
+pub fn opinion(call: &Call) -> Opinion {
+    PAIRS.with(|pairs| pairs.set((0, 0)));
+    let answer = calls::answer::<ByLayout>(call);
+    let (laid_out, left) = PAIRS.with(Cell::get);
+    Opinion { answer, laid_out, left }
 }
 
 /// Goes through the repeats of both legs in the order of time until all that follows has been seen.
