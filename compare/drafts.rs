@@ -64,20 +64,13 @@ pub fn medium(chance: &mut Chance) -> Plan {
 
 /// A plan near or at the limits of links, streams and legs.
 pub fn large(chance: &mut Chance) -> Plan {
+    if chance.one_in(3) {
+        return full_line(chance);
+    }
     let links = LINKS_MAX as usize - chance.below(2);
     let streams = STREAMS_MAX as usize - chance.below(2);
     let nodes = chance.of(&[17, 24, 40]);
-    let mut plan = match chance.below(3) {
-        0 => full_line(chance),
-        _ => drafted(chance, Size { nodes, links, streams }),
-    };
-    // Single legs fill the plan up to the most legs, or to one less.
-    let most = LEGS_MAX as usize - chance.below(2);
-    while plan.legs.len() < most && plan.streams.len() < STREAMS_MAX as usize && !plan.links.is_empty() {
-        let route = vec![chance.below(plan.links.len()) as u32];
-        add_stream(chance, &mut plan, 1_000_000, &route);
-    }
-    plan
+    drafted(chance, Size { nodes, links, streams })
 }
 
 /// Four links in a row that each of 512 streams takes. Nothing is violated.
@@ -107,7 +100,7 @@ fn empty(chance: &mut Chance) -> Plan {
 
 fn drafted(chance: &mut Chance, size: Size) -> Plan {
     let mut plan = empty(chance);
-    add_links(chance, &mut plan, size);
+    add_links(chance, &mut plan, &size);
     if plan.links.is_empty() {
         return plan;
     }
@@ -125,7 +118,7 @@ fn drafted(chance: &mut Chance, size: Size) -> Plan {
     plan
 }
 
-fn add_links(chance: &mut Chance, plan: &mut Plan, size: Size) {
+fn add_links(chance: &mut Chance, plan: &mut Plan, size: &Size) {
     let lowest = chance.of(&[0, 1, 100, 65_536 - size.nodes as u32]);
     let one_rate = chance.one_in(2);
     let mut pairs: Vec<(usize, usize)> = (0..size.nodes)
