@@ -122,7 +122,7 @@ fn bench(name: &str, bytes: &[u8], rounds: u32) {
     for kind in &kinds {
         let [ours, theirs] = kind.medians();
         println!(
-            "  {:<32} proved {:>9.1} us  plain {:>9.1} us  ratio {:.2}",
+            "  {:<32} proved {:>9.1} us  plain {:>9.1} us  ratio {:.3}",
             kind.what,
             ours / 1e3,
             theirs / 1e3,
