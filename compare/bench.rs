@@ -38,15 +38,7 @@ extern "C" {
 fn proved(plan: &[u8], cursor: &[u8], budget: u32, out: &mut [u8]) -> u32 {
     // Each pointer comes from a slice together with its length.
     unsafe {
-        conepalhui_slice(
-            plan.as_ptr(),
-            plan.len(),
-            cursor.as_ptr(),
-            cursor.len(),
-            budget,
-            out.as_mut_ptr(),
-            out.len(),
-        )
+        conepalhui_slice(plan.as_ptr(), plan.len(), cursor.as_ptr(), cursor.len(), budget, out.as_mut_ptr(), out.len())
     }
 }
 

@@ -19,12 +19,15 @@ set_emulator() {
 # Sets $c_compiler to a compiler of C for x86-64, and $emulator.
 need_c() {
     set_emulator
-    c_compiler=gcc
-    if ((${#emulator[@]} > 0)); then
+    need cc gcc # Rust links with it.
+    need /usr/include/stdio.h libc6-dev
+    if ((${#emulator[@]} == 0)); then
+        c_compiler=cc
+    else
         c_compiler=x86_64-linux-gnu-gcc
+        need "$c_compiler" gcc-x86-64-linux-gnu
         need /usr/x86_64-linux-gnu/lib/libc.a libc6-dev-amd64-cross
     fi
-    need "$c_compiler" "${c_compiler/x86_64-linux-gnu-gcc/gcc-x86-64-linux-gnu}"
 }
 
 # Builds NAME from its sources unless it is newer than all of them. The command makes the file that is its last word.
@@ -62,16 +65,17 @@ rust_for_x86_64() {
 
 # Both sides of the benchmark are for x86-64. On Arm that takes Debian's packages for two processors and its emulator.
 build_benchmark() {
-    local rust
+    local rust c_library=/usr/lib/x86_64-linux-gnu/libc.so
     build host staticlib target/staticlib/libhost.a
     need_c
     if ((${#emulator[@]} == 0)); then
         need rustc rustc
-    elif ! rust_for_x86_64 >/dev/null || ! command -v qemu-x86_64 >/dev/null; then
-        ((EUID != 0)) || dpkg --add-architecture amd64
+    elif ! { rust_for_x86_64 && has qemu-x86_64 && has "$c_library"; } >/dev/null; then
+        # The lists of packages are to have those of the other processor too.
+        ((EUID != 0)) || { dpkg --add-architecture amd64 && has_lists=0; }
         need /usr/bin/rustc rustc
         need "/usr/lib/rustlib/$rust_target" libstd-rust-dev:amd64
-        need /usr/lib/x86_64-linux-gnu/libc.so libc6-dev:amd64
+        need "$c_library" libc6-dev:amd64
         need qemu-x86_64 qemu-user
     fi
     rust=$(rust_for_x86_64) || stop "there is no compiler of Rust for x86-64"

@@ -47,9 +47,7 @@ pub fn answer<C: Checker>(call: &Call) -> Answer {
         Kind::Slice => host_slice::<C>(&call.plan, &call.cursor, call.number, &mut out) & u64::from(u32::MAX),
         Kind::SliceFull => host_slice::<C>(&call.plan, &call.cursor, call.number, &mut out),
         Kind::Start => host_start::<C>(&call.plan, &mut out),
-        Kind::Move => {
-            host_move::<C>(&call.plan, &call.cursor, call.number, call.offset, &mut new_plan, &mut out)
-        }
+        Kind::Move => host_move::<C>(&call.plan, &call.cursor, call.number, call.offset, &mut new_plan, &mut out),
     };
     Answer { result, new_plan, out }
 }

@@ -1,8 +1,8 @@
 //! Start, slice and move, and the four calls for C. Plain code: one loop over the places in order.
 
 use crate::format::{
-    self, cursor_bytes, plan_bytes, read_cursor, read_plan, refused, Cursor, Leg, Link, Outcome, Plan, Refusal,
-    Stream, CURSOR_BYTES,
+    self, cursor_bytes, plan_bytes, read_cursor, read_plan, refused, Cursor, Leg, Link, Outcome, Plan, Refusal, Stream,
+    CURSOR_BYTES,
 };
 use crate::rules::{self, sent, Sent};
 use crate::shape;

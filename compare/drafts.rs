@@ -145,9 +145,8 @@ fn some_route(chance: &mut Chance, links: &[Link], hops: usize) -> Vec<u32> {
     let mut met = vec![links[first].from, links[first].to];
     while route.len() < hops {
         let here = met[met.len() - 1];
-        let ahead: Vec<usize> = (0..links.len())
-            .filter(|&at| links[at].from == here && !met.contains(&links[at].to))
-            .collect();
+        let ahead: Vec<usize> =
+            (0..links.len()).filter(|&at| links[at].from == here && !met.contains(&links[at].to)).collect();
         if ahead.is_empty() {
             break;
         }
@@ -254,8 +253,7 @@ pub fn to_an_edge(chance: &mut Chance, plan: &mut Plan) -> (u32, u32) {
             return ((first + count - 1) as u32, 2);
         }
         _ => {
-            let others: Vec<usize> =
-                (0..leg).filter(|&other| plan.legs[other].link == plan.legs[leg].link).collect();
+            let others: Vec<usize> = (0..leg).filter(|&other| plan.legs[other].link == plan.legs[leg].link).collect();
             if others.is_empty() {
                 return (leg as u32, 0);
             }

@@ -154,8 +154,7 @@ pub fn ends(at: usize, length: usize) -> Outcome<()> {
 
 pub fn read_cursor<C: Checker>(bytes: &[u8]) -> Outcome<Cursor> {
     let mut numbers = Numbers { bytes, at: 0 };
-    let cursor =
-        Cursor { revision: numbers.next::<C>()?, leg: numbers.next::<C>()?, place: numbers.next::<C>()? };
+    let cursor = Cursor { revision: numbers.next::<C>()?, leg: numbers.next::<C>()?, place: numbers.next::<C>()? };
     C::cursor_ends(numbers.at, bytes.len())?;
     Ok(cursor)
 }
