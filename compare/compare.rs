@@ -293,7 +293,8 @@ fn report(found: &Found, calls: u64, spoilers: &[&str]) -> bool {
         found.seen.iter().map(|((kind, result), times)| format!("{:?} {}: {}", kind, result, times)).collect();
     println!("seen: {}", seen.join(", "));
     println!(
-        "{} calls, {} differences, {} of {} wrong checkers and {} of {} spoiled drivers caught, {} pairs of legs laid out",
+        "{} calls, {} differences, {} of {} wrong checkers and {} of {} spoiled drivers caught, \
+         {} pairs of legs laid out",
         calls,
         found.differences,
         found.caught.iter().flatten().count(),

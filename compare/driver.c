@@ -1,11 +1,13 @@
 /* Makes the calls that come on standard input, and writes what each gave to standard output.
 
    A call comes as its kind and two numbers (4 bytes each), the lengths of its four buffers (4 bytes each), and the bytes of
-   the buffers: plan, cursor, new plan, out. What goes back is the call's whole result (8 bytes) and every byte of
-   the four buffers, with the margin that lies before each. Behind each buffer lies a page that may not be touched.
-   With an argument the program spoils something in each call, so that a comparison which misses that is seen: 0 to 3 change
-   the last byte of a buffer after the call, 4 to 7 the byte before one. Numbers have their lowest byte first. The kind FLUSH is no call: what was answered so far is written out.
-   The end of the input ends the program. */
+   the buffers: plan, cursor, new plan, out. What goes back is the call's whole result (8 bytes) and every byte of the four
+   buffers, with the margin that lies before each. Behind each buffer lies a page that may not be touched. Numbers have
+   their lowest byte first. The kind FLUSH is no call: what was answered so far is written out. The end of the input ends
+   the program.
+
+   With an argument the program spoils something in each call, so that a comparison which misses that is seen: 0 to 3
+   change the last byte of a buffer after the call, 4 to 7 the byte before one. */
 #define _GNU_SOURCE
 #include <stdint.h>
 #include <stdio.h>

@@ -147,7 +147,8 @@ wrong! {
     }
     NineLegs "a route of nine legs taken" {
         fn stream_in_range(stream: &Stream) -> bool {
-            shape::stream_in_range(&Stream { leg_count: if stream.leg_count == 9 { 8 } else { stream.leg_count }, ..*stream })
+            let leg_count = if stream.leg_count == 9 { 8 } else { stream.leg_count };
+            shape::stream_in_range(&Stream { leg_count, ..*stream })
         }
     }
     LegsUnused "counts below G taken" {
