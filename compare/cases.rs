@@ -247,7 +247,11 @@ impl Batch {
 
     /// Makes a move and gives the plan and the cursor after it. There is no cursor where the move was refused.
     fn any_move(&mut self, plan: &Plan, bytes: &Arc<[u8]>, cursor: Cursor) -> (Plan, Option<Cursor>) {
-        let leg = self.chance.below(plan.legs.len() + 1) as u32;
+        let leg = match plan.legs.len() {
+            0 => 0,
+            legs if self.chance.one_in(10) => legs as u32 + self.chance.below(2) as u32,
+            legs => self.chance.below(legs) as u32,
+        };
         let own = plan.legs.get(leg as usize).map_or(0, |leg| leg.offset);
         let offset = match self.chance.below(5) {
             0 => own,
@@ -325,14 +329,14 @@ impl Batch {
     }
 
     fn damaged_table(&mut self) {
-        let plan = match self.chance.below(6) {
+        let plan = match self.chance.below(5) {
             0 => medium(&mut self.chance),
             1 => row(&mut self.chance),
             _ => small(&mut self.chance),
         };
         for _ in 0..8 {
             let mut bent = plan.clone();
-            match self.chance.below(6) {
+            match self.chance.below(4) {
                 0 => bend_route(&mut self.chance, &mut bent),
                 1 => shift_legs(&mut self.chance, &mut bent),
                 _ => {}

@@ -98,16 +98,17 @@ pub fn shift_legs(chance: &mut Chance, plan: &mut Plan) {
     }
 }
 
-/// A route whose last leg goes back to a node that it has met, or starts anew somewhere else.
+/// A route with a leg that goes back to a node that was met, or that starts anew somewhere else.
 pub fn bend_route(chance: &mut Chance, plan: &mut Plan) {
     if plan.legs.is_empty() {
         return;
     }
     let leg = chance.below(plan.legs.len());
     let first = plan.streams[plan.legs[leg].stream as usize].first_leg as usize;
-    let here = plan.links[plan.legs[leg].link as usize].from;
-    let met: Vec<u32> = (first..leg).map(|earlier| plan.links[plan.legs[earlier].link as usize].from).collect();
-    let back = plan.links.iter().position(|link| link.from == here && met.contains(&link.to));
+    let from = |at: usize| plan.links[plan.legs[at].link as usize].from;
+    // The first node, or any that was met.
+    let met: Vec<u32> = (first..leg).map(from).take(if chance.one_in(2) { 1 } else { leg }).collect();
+    let back = plan.links.iter().position(|link| link.from == from(leg) && met.contains(&link.to));
     let any = chance.below(plan.links.len());
     plan.legs[leg].link = if chance.one_in(4) { any } else { back.unwrap_or(any) } as u32;
 }

@@ -42,16 +42,16 @@ pub fn one_link(chance: &mut Chance) -> Plan {
     drafted(chance, Size { nodes: 2, links: 1, streams })
 }
 
-/// Links in a row, and streams along them, now and then over one link more than a route may have.
+/// Links in a row, some links back to its first node, and streams along the row, now and then over one link too many.
 pub fn row(chance: &mut Chance) -> Plan {
     let mut plan = empty(chance);
-    let link = |from| Link { from, to: from + 1, ns_per_octet: 8, propagation: 500 };
-    plan.links = (0..ROUTE_MAX as u32 + 1).map(link).collect();
+    let link = |from, to| Link { from, to, ns_per_octet: 8, propagation: 500 };
+    let most = ROUTE_MAX as u32;
+    plan.links = (0..=most).map(|node| link(node, node + 1)).chain((1..=most).map(|node| link(node, 0))).collect();
     for _ in 0..1 + chance.below(4) {
-        let first = chance.below(3);
-        let hops = 1 + chance.below(plan.links.len() - first);
-        let route: Vec<u32> = (first..first + hops).map(|at| at as u32).collect();
-        add_stream(chance, &mut plan, 200_000, &route);
+        let first = chance.of(&[0, 0, 1]);
+        let last = if chance.one_in(3) { most } else { chance.from_to(first, most) };
+        add_stream(chance, &mut plan, 200_000, &(first..=last).collect::<Vec<_>>());
     }
     plan
 }
@@ -233,12 +233,19 @@ pub fn to_an_edge(chance: &mut Chance, plan: &mut Plan) -> (u32, u32) {
     if plan.legs.is_empty() {
         return (0, 0);
     }
-    let leg = chance.below(plan.legs.len());
+    let rule = chance.below(6);
+    let mut leg = chance.below(plan.legs.len());
+    if rule == 1 {
+        // The hop concerns a leg that has one before it in its stream.
+        let later: Vec<usize> =
+            (1..plan.legs.len()).filter(|&at| plan.legs[at].stream == plan.legs[at - 1].stream).collect();
+        leg = if later.is_empty() { leg } else { chance.of(&later) };
+    }
     let stream = plan.legs[leg].stream as usize;
     let (first, count) = (plan.streams[stream].first_leg as usize, plan.streams[stream].leg_count as usize);
     let now = sent(plan, leg);
     let beside = chance.of(&[0, 0, 1]);
-    let (place, offset) = match chance.below(6) {
+    let (place, offset) = match rule {
         0 => (0, i64::from(now.period) - now.wire as i64 + beside),
         1 if leg > first => {
             let before = sent(plan, leg - 1);

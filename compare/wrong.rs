@@ -155,6 +155,12 @@ wrong! {
         fn legs_used_up(_used: u32, _legs: u32, _streams: usize) -> Outcome<()> {
             Ok(())
         }
+        fn slice(plan: &Plan, from: Cursor, budget: u32) -> Sliced {
+            // The legs left over may name anything, so this checker has to leave them alone.
+            let mut used = plan.clone();
+            used.legs.truncate(plan.streams.iter().map(|stream| stream.leg_count as usize).sum());
+            slice::<Self>(&used, from, budget)
+        }
     }
     BackToTheStart "a route back to its first node taken" {
         fn goes_on(links: &[Link], earlier: &[Leg], leg: &Leg) -> bool {
