@@ -1,0 +1,79 @@
+# Builds the comparison and the benchmark in .built/compare. The command conepalhui reads this file and gives it its own
+# functions. Both need the archive of the calls for C, which is for x86-64: so is what is linked with it.
+
+rust_target=x86_64-unknown-linux-gnu
+
+# Sets $emulator to what has to stand before a linked program of the comparison: nothing on x86-64.
+set_emulator() {
+    local kit
+    case $(uname -m) in
+    x86_64) emulator=() ;;
+    aarch64)
+        kit=$(rt doc </dev/null) || stop "cannot find the kit"
+        emulator=("$(dirname "$(dirname "$kit")")/on/aarch64/toolchain/bin/qemu-x86_64")
+        ;;
+    *) stop "the calls for C run on x86_64 and aarch64, and this processor is $(uname -m)" ;;
+    esac
+}
+
+# Sets $c_compiler to a compiler of C for x86-64, and $emulator.
+find_c() {
+    set_emulator
+    need_c
+    if ((${#emulator[@]} == 0)); then c_compiler=cc; else c_compiler=x86_64-linux-gnu-gcc; fi
+}
+
+# Builds NAME from its sources unless it is newer than all of them. The command makes the file that is its last word.
+make_if_old() { # NAME SOURCES... -- COMMAND...
+    local made=.built/compare/$1 source old=0
+    shift
+    [[ -e $made ]] || old=1
+    while [[ $1 != -- ]]; do
+        source=$1
+        shift
+        [[ $source -ot $made ]] || old=1
+    done
+    shift
+    ((old == 0)) && return
+    mkdir -p .built/compare && "$@" "$made.new" && mv -f "$made.new" "$made" || stop "$made cannot be built (see above)"
+}
+
+build_comparison() {
+    build host staticlib target/staticlib/libhost.a
+    find_c
+    need rustc rustc
+    make_if_old driver .built/host compare/driver.c -- "$c_compiler" -O2 -static compare/driver.c .built/host -o
+    make_if_old compare compare/*.rs -- rustc --edition 2021 -O compare/compare.rs -o
+}
+
+# Prints a compiler of Rust that has the library of x86-64.
+rust_for_x86_64() {
+    local rust library
+    for rust in rustc /usr/bin/rustc; do
+        library=$("$rust" --print target-libdir --target "$rust_target" 2>/dev/null) || continue
+        compgen -G "$library/libstd-*.rlib" >/dev/null && printf '%s\n' "$rust" && return
+    done
+    return 1
+}
+
+# Both sides of the benchmark are for x86-64. On Arm that takes Debian's packages for two processors and its emulator.
+build_benchmark() {
+    local rust c_library=/usr/lib/x86_64-linux-gnu/libc.so
+    build host staticlib target/staticlib/libhost.a
+    find_c
+    if ((${#emulator[@]} == 0)); then
+        need rustc rustc
+    elif ! { rust_for_x86_64 && has qemu-x86_64 && has "$c_library"; } >/dev/null; then
+        # The lists of packages are to have those of the other processor too.
+        ((EUID != 0)) || { dpkg --add-architecture amd64 && has_lists=0; }
+        need /usr/bin/rustc rustc
+        need "/usr/lib/rustlib/$rust_target" libstd-rust-dev:amd64
+        need "$c_library" libc6-dev:amd64
+        need qemu-x86_64 qemu-user
+    fi
+    rust=$(rust_for_x86_64) || stop "there is no compiler of Rust for x86-64"
+    mkdir -p .built/compare && cp .built/host .built/compare/libhost.a || stop "cannot copy the archive"
+    make_if_old bench .built/host compare/*.rs -- "$rust" --edition 2021 -C opt-level=3 --target "$rust_target" \
+        -C linker="$c_compiler" -L native=.built/compare -l static=host compare/bench.rs -o
+    ((${#emulator[@]} == 0)) || emulator=(qemu-x86_64)
+}

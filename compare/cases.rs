@@ -1,0 +1,423 @@
+//! The calls of a run, in batches. A batch depends on the seed and its number alone.
+
+use crate::calls::{answer, Answer, Call, Kind};
+use crate::chance::Chance;
+use crate::check::{self, next, Checker, Plain, VIOLATED};
+use crate::damage::{any_bytes, bend_route, damage_bytes, damage_table, shift_legs};
+use crate::drafts::{beyond, large, medium, one_link, plan_a, row, small, to_an_edge};
+use crate::format::{cursor_bytes, encoded, plan_bytes, read_cursor, Cursor, Plan, CURSOR_BYTES};
+use std::sync::Arc;
+
+pub const BATCH: usize = 512;
+
+/// A call, and what the plain checker answers.
+pub struct Case {
+    pub call: Call,
+    pub expected: Answer,
+}
+
+struct Batch {
+    chance: Chance,
+    cases: Vec<Case>,
+}
+
+pub fn batch(seed: u64, number: u64) -> Vec<Case> {
+    let mut batch = Batch { chance: Chance::new(seed, number), cases: Vec::new() };
+    if number == 0 {
+        batch.of_the_paper();
+    }
+    batch.of_a_large_plan(number);
+    while batch.cases.len() < BATCH {
+        match batch.chance.below(14) {
+            0..=2 => batch.run(),
+            3..=5 => batch.at_an_edge(),
+            6 | 7 => batch.on_one_link(),
+            8 | 9 => batch.beyond_the_period(),
+            10 | 11 => batch.damaged_table(),
+            12 => batch.damaged_bytes(),
+            _ => batch.cursors(),
+        }
+    }
+    batch.cases.truncate(BATCH);
+    batch.cases
+}
+
+fn low(answer: u64) -> u32 {
+    answer as u32
+}
+
+/// The cursor in the first bytes of a buffer that a call wrote.
+fn given(out: &[u8]) -> Cursor {
+    let ends = |at: &usize| out[*at] < 0x80;
+    let behind = (0..out.len()).filter(ends).nth(2).expect("a cursor has three numbers") + 1;
+    read_cursor::<Plain>(&out[..behind]).expect("a call gives a cursor that reads")
+}
+
+fn places(plan: &Plan) -> u32 {
+    Plain::places(plan.legs.len() as u64) as u32
+}
+
+/// How many places lie before one.
+fn index(cursor: Cursor) -> u32 {
+    Plain::places(u64::from(cursor.leg)) as u32 + cursor.place
+}
+
+impl Batch {
+    // ---- Single calls
+
+    /// A lent buffer with something in it.
+    fn lent(&mut self, length: usize) -> Vec<u8> {
+        self.chance.bytes(length)
+    }
+
+    fn lent_out(&mut self) -> Vec<u8> {
+        let length = match self.chance.below(16) {
+            0 => self.chance.below(CURSOR_BYTES),
+            1 => CURSOR_BYTES - 1,
+            2 => CURSOR_BYTES + 1,
+            3 => CURSOR_BYTES + self.chance.below(40),
+            _ => CURSOR_BYTES,
+        };
+        self.lent(length)
+    }
+
+    fn make(&mut self, call: Call) -> &Answer {
+        let expected = answer::<Plain>(&call);
+        self.cases.push(Case { call, expected });
+        &self.cases[self.cases.len() - 1].expected
+    }
+
+    fn start(&mut self, plan: &Arc<[u8]>) -> &Answer {
+        let out = self.lent_out();
+        self.make(Call {
+            kind: Kind::Start,
+            plan: plan.clone(),
+            cursor: Vec::new(),
+            number: 0,
+            offset: 0,
+            new_plan: Vec::new(),
+            out,
+        })
+    }
+
+    fn slice(&mut self, plan: &Arc<[u8]>, cursor: Vec<u8>, budget: u32) -> &Answer {
+        let kind = if self.chance.one_in(3) { Kind::Slice } else { Kind::SliceFull };
+        let out = self.lent_out();
+        self.make(Call { kind, plan: plan.clone(), cursor, number: budget, offset: 0, new_plan: Vec::new(), out })
+    }
+
+    /// Moves a leg. The room for the new plan is a little more or less than what it needs, or just that.
+    fn move_leg(&mut self, plan: &Arc<[u8]>, cursor: Vec<u8>, leg: u32, offset: u32, needed: usize) -> &Answer {
+        let length = match self.chance.below(10) {
+            0 => self.chance.below(needed + 1),
+            1 => needed - 1,
+            2 => needed + 1,
+            3 => needed + self.chance.below(40),
+            4 => plan.len(),
+            _ => needed,
+        };
+        let (new_plan, out) = (self.lent(length), self.lent_out());
+        self.make(Call { kind: Kind::Move, plan: plan.clone(), cursor, number: leg, offset, new_plan, out })
+    }
+
+    /// Makes one of the calls, whatever is right or wrong with the bytes.
+    fn any_call(&mut self, plan: &Arc<[u8]>, cursor: Vec<u8>) {
+        let number = self.chance.any_size();
+        match self.chance.below(4) {
+            0 => self.start(plan),
+            1 => self.move_leg(plan, cursor, number % 8, number, plan.len() + 3),
+            _ => self.slice(plan, cursor, number),
+        };
+    }
+
+    // ---- Cursors and budgets
+
+    fn some_place(&mut self, plan: &Plan) -> Cursor {
+        let leg = self.chance.below(plan.legs.len() + 1) as u32;
+        let place = if (leg as usize) < plan.legs.len() { self.chance.below(3 + leg as usize) as u32 } else { 0 };
+        Cursor { revision: plan.revision, leg, place }
+    }
+
+    fn no_place(&mut self, plan: &Plan) -> Cursor {
+        let legs = plan.legs.len() as u32;
+        let leg = self.chance.below(plan.legs.len() + 1) as u32;
+        let (leg, place) = match self.chance.below(5) {
+            0 => (legs, 1 + self.chance.any_size() % (3 + legs)),
+            1 => (leg, 3 + leg),
+            2 => (legs + 1, 0),
+            3 => (leg, u32::MAX - leg),
+            _ => (self.chance.any_size(), self.chance.any_size()),
+        };
+        Cursor { revision: plan.revision, leg, place }
+    }
+
+    fn stale(&mut self, cursor: Cursor) -> Cursor {
+        let revision = match self.chance.below(4) {
+            0 => cursor.revision.wrapping_add(1),
+            1 => cursor.revision.wrapping_sub(1),
+            2 => 0,
+            _ => self.chance.word(),
+        };
+        Cursor { revision, ..cursor }
+    }
+
+    /// A budget near what is left from a cursor on, or any other.
+    fn budget(&mut self, plan: &Plan, cursor: Cursor) -> u32 {
+        let left = places(plan).saturating_sub(index(cursor));
+        match self.chance.below(10) {
+            0 => 0,
+            1 => 1,
+            2 => left,
+            3 => left.saturating_sub(1),
+            4 => left + 1,
+            5 => u32::MAX,
+            6 => self.chance.of(&[u32::MAX - 1, 1 << 31, (1 << 31) - 1]),
+            7 => self.chance.any_size(),
+            _ => self.chance.below(12) as u32,
+        }
+    }
+
+    // ---- Families
+
+    /// The runs of document 01, cases 11 to 14.
+    fn of_the_paper(&mut self) {
+        let mut plan = plan_a();
+        let bytes: Arc<[u8]> = plan_bytes(&plan).into();
+        let cursor = |revision, leg, place| cursor_bytes(Cursor { revision, leg, place });
+        self.start(&bytes);
+        for (leg, place) in [(0, 0), (1, 2), (2, 3)] {
+            self.slice(&bytes, cursor(0, leg, place), 5);
+        }
+        for (leg, offset) in [(2, 576), (0, 600)] {
+            self.move_leg(&bytes, cursor(0, 2, 3), leg, offset, bytes.len() + 1);
+            let mut after = plan.clone();
+            let moved = check::moved(&mut after, Cursor { revision: 0, leg: 2, place: 3 }, leg, offset);
+            let from = moved.expect("Plan A has this leg");
+            self.slice(&plan_bytes(&after).into(), cursor_bytes(from), 5);
+        }
+        for (leg, offset) in [(1, 1_175), (2, 575), (2, 49_424), (2, 49_425), (2, 50_000)] {
+            let before = plan.legs[leg].offset;
+            plan.legs[leg].offset = offset;
+            self.slice(&plan_bytes(&plan).into(), cursor(0, 0, 0), u32::MAX);
+            plan.legs[leg].offset = before;
+        }
+        for bytes in [&[0; 5][..], &[], &[0x80, 0]] {
+            self.slice(&bytes.to_vec().into(), cursor(0, 0, 0), 0);
+        }
+    }
+
+    /// Starts, slices and moves as they come, with cursors and plans of the past among them.
+    fn run(&mut self) {
+        let mut plan = if self.chance.one_in(8) { medium(&mut self.chance) } else { small(&mut self.chance) };
+        for _ in 0..self.chance.below(3) {
+            to_an_edge(&mut self.chance, &mut plan);
+        }
+        let mut bytes: Arc<[u8]> = plan_bytes(&plan).into();
+        let mut cursor = Cursor { revision: plan.revision, leg: 0, place: 0 };
+        let (mut old_bytes, mut old_cursor) = (bytes.clone(), cursor);
+        self.start(&bytes);
+        for _ in 0..4 + self.chance.below(14) {
+            match self.chance.below(10) {
+                0 => drop(self.slice(&bytes, cursor_bytes(old_cursor), 3)),
+                1 => drop(self.slice(&old_bytes, cursor_bytes(cursor), 3)),
+                2 => drop(self.any_move(&plan, &old_bytes, cursor)),
+                3 | 4 => {
+                    let (after, from) = self.any_move(&plan, &bytes, cursor);
+                    if let Some(from) = from {
+                        old_bytes = bytes;
+                        old_cursor = cursor;
+                        plan = after;
+                        bytes = plan_bytes(&plan).into();
+                        cursor = from;
+                    }
+                }
+                _ => {
+                    let budget = self.budget(&plan, cursor);
+                    let answered = self.slice(&bytes, cursor_bytes(cursor), budget);
+                    if low(answered.result) < check::REFUSED {
+                        cursor = given(&answered.out);
+                        if low(answered.result) >= VIOLATED && self.chance.one_in(2) {
+                            cursor = next(cursor);
+                        }
+                    }
+                }
+            }
+        }
+    }
+
+    /// Makes a move and gives the plan and the cursor after it. There is no cursor where the move was refused.
+    fn any_move(&mut self, plan: &Plan, bytes: &Arc<[u8]>, cursor: Cursor) -> (Plan, Option<Cursor>) {
+        let leg = match plan.legs.len() {
+            0 => 0,
+            legs if self.chance.one_in(10) => legs as u32 + self.chance.below(2) as u32,
+            legs => self.chance.below(legs) as u32,
+        };
+        let own = plan.legs.get(leg as usize).map_or(0, |leg| leg.offset);
+        let offset = match self.chance.below(5) {
+            0 => own,
+            1 => self.chance.any_size(),
+            2 => own.wrapping_add(self.chance.any_size() % 2_000),
+            _ => {
+                let mut edge = plan.clone();
+                let (at, _) = to_an_edge(&mut self.chance, &mut edge);
+                edge.legs.get(at as usize).map_or(1, |leg| leg.offset)
+            }
+        };
+        let mut after = plan.clone();
+        let needed = match check::moved(&mut after, cursor, leg, offset) {
+            Ok(_) => plan_bytes(&after).len(),
+            Err(_) => bytes.len(),
+        };
+        let answered = self.move_leg(bytes, cursor_bytes(cursor), leg, offset, needed);
+        let from = if low(answered.result) == check::GRANTED { Some(given(&answered.out)) } else { None };
+        (after, from)
+    }
+
+    /// Slices that look at a place whose rule just holds, or just does not, and at those behind it.
+    fn at_an_edge(&mut self) {
+        let mut plan = small(&mut self.chance);
+        for _ in 0..6 {
+            let (leg, place) = to_an_edge(&mut self.chance, &mut plan);
+            let revision = plan.revision;
+            let bytes: Arc<[u8]> = plan_bytes(&plan).into();
+            let budget = self.budget(&plan, Cursor { revision, leg, place });
+            self.slice(&bytes, cursor_bytes(Cursor { revision, leg, place }), budget.max(1));
+            if self.chance.one_in(2) {
+                self.slice(&bytes, cursor_bytes(Cursor { revision, leg: 0, place: 0 }), u32::MAX);
+            }
+            if self.chance.one_in(4) {
+                self.any_move(&plan, &bytes, Cursor { revision, leg, place });
+            }
+        }
+    }
+
+    /// Slices that look at one overlap whose frames just touch or just meet, in repeats near or far.
+    fn on_one_link(&mut self) {
+        for _ in 0..6 {
+            let mut plan = one_link(&mut self.chance);
+            if self.chance.one_in(2) {
+                beyond(&mut self.chance, &mut plan);
+            }
+            let (leg, place) = to_an_edge(&mut self.chance, &mut plan);
+            let budget = 1 + self.chance.below(2) as u32;
+            let cursor = cursor_bytes(Cursor { revision: plan.revision, leg, place });
+            self.slice(&plan_bytes(&plan).into(), cursor, budget);
+        }
+    }
+
+    /// Slices from behind each violated place to the next, so that all rules are judged for offsets of any size.
+    fn beyond_the_period(&mut self) {
+        let mut plan = small(&mut self.chance);
+        beyond(&mut self.chance, &mut plan);
+        if self.chance.one_in(2) {
+            to_an_edge(&mut self.chance, &mut plan);
+        }
+        let bytes: Arc<[u8]> = plan_bytes(&plan).into();
+        let mut cursor = Cursor { revision: plan.revision, leg: 0, place: 0 };
+        for _ in 0..30 {
+            let budget = if self.chance.one_in(4) { self.budget(&plan, cursor) } else { u32::MAX };
+            let answered = self.slice(&bytes, cursor_bytes(cursor), budget);
+            match low(answered.result) {
+                check::NOTHING_VIOLATED => break,
+                result if result >= check::REFUSED => continue,
+                result => {
+                    cursor = given(&answered.out);
+                    cursor = if result >= VIOLATED { next(cursor) } else { cursor };
+                }
+            }
+        }
+    }
+
+    fn damaged_table(&mut self) {
+        let plan = match self.chance.below(5) {
+            0 => medium(&mut self.chance),
+            1 => row(&mut self.chance),
+            _ => small(&mut self.chance),
+        };
+        for _ in 0..8 {
+            let mut bent = plan.clone();
+            match self.chance.below(4) {
+                0 => bend_route(&mut self.chance, &mut bent),
+                1 => shift_legs(&mut self.chance, &mut bent),
+                _ => {}
+            }
+            let mut words = bent.words();
+            for _ in 0..self.chance.of(&[0, 1, 1, 1, 2, 3]) {
+                // A header that no longer fits the rest is damaged enough.
+                if words.len() == 5 + 4 * words[1] as usize + 5 * words[2] as usize + 3 * words[3] as usize {
+                    damage_table(&mut self.chance, &mut words);
+                }
+            }
+            let cursor = self.some_place(&plan);
+            let cursor = if self.chance.one_in(6) { self.stale(cursor) } else { cursor };
+            self.any_call(&encoded(&words).into(), cursor_bytes(cursor));
+        }
+    }
+
+    fn damaged_bytes(&mut self) {
+        let plan = small(&mut self.chance);
+        let whole = plan_bytes(&plan);
+        for _ in 0..8 {
+            let mut bytes = if self.chance.one_in(8) { any_bytes(&mut self.chance) } else { whole.clone() };
+            let mut cursor = cursor_bytes(self.some_place(&plan));
+            match self.chance.below(4) {
+                0 => damage_bytes(&mut self.chance, &mut cursor),
+                1 => {
+                    damage_bytes(&mut self.chance, &mut cursor);
+                    damage_bytes(&mut self.chance, &mut bytes);
+                }
+                2 if self.chance.one_in(4) => cursor = any_bytes(&mut self.chance),
+                _ => damage_bytes(&mut self.chance, &mut bytes),
+            }
+            self.any_call(&bytes.into(), cursor);
+        }
+    }
+
+    /// Cursors of every kind on one plan.
+    fn cursors(&mut self) {
+        let plan = small(&mut self.chance);
+        let bytes: Arc<[u8]> = plan_bytes(&plan).into();
+        for _ in 0..10 {
+            let cursor = if self.chance.one_in(2) { self.some_place(&plan) } else { self.no_place(&plan) };
+            let cursor = if self.chance.one_in(4) { self.stale(cursor) } else { cursor };
+            if self.chance.one_in(5) {
+                self.any_move(&plan, &bytes, cursor);
+            } else {
+                let at = Cursor { leg: cursor.leg.min(plan.legs.len() as u32), place: 0, ..cursor };
+                let budget = self.budget(&plan, at);
+                self.slice(&bytes, cursor_bytes(cursor), budget);
+            }
+        }
+    }
+
+    /// A few calls on a plan near the limits. Every fourth batch looks at all of it.
+    fn of_a_large_plan(&mut self, number: u64) {
+        let mut plan = large(&mut self.chance);
+        if self.chance.one_in(2) {
+            to_an_edge(&mut self.chance, &mut plan);
+        }
+        let bytes: Arc<[u8]> = plan_bytes(&plan).into();
+        let start = Cursor { revision: plan.revision, leg: 0, place: 0 };
+        self.start(&bytes);
+        if number % 4 == 0 {
+            self.slice(&bytes, cursor_bytes(start), u32::MAX);
+        }
+        for _ in 0..4 {
+            let cursor = self.some_place(&plan);
+            let budget = self.chance.of(&[0, 1, 300, 5_000]);
+            self.slice(&bytes, cursor_bytes(cursor), budget);
+        }
+        let (after, from) = self.any_move(&plan, &bytes, start);
+        if let Some(from) = from {
+            self.slice(&plan_bytes(&after).into(), cursor_bytes(from), 300);
+        }
+        for _ in 0..4 {
+            let mut words = plan.words();
+            damage_table(&mut self.chance, &mut words);
+            self.any_call(&encoded(&words).into(), cursor_bytes(start));
+        }
+        let mut cut = bytes.to_vec();
+        damage_bytes(&mut self.chance, &mut cut);
+        self.any_call(&cut.into(), cursor_bytes(start));
+    }
+}

@@ -1,0 +1,307 @@
+//! Holds the proved calls against the plain checker, and shows that wrong checkers are caught.
+//! Usage: compare SEED CALLS DRIVER..., the driver being a command that makes the calls of driver.c.
+
+mod calls;
+mod cases;
+mod chance;
+mod check;
+mod damage;
+mod drafts;
+mod format;
+mod layout;
+mod rules;
+mod shape;
+mod wrong;
+
+use calls::{receive, send, send_flush, Answer, Call, Kind};
+use cases::{batch, Case, BATCH};
+use check::{GRANTED, OVERLAP, REFUSED};
+use std::collections::BTreeMap;
+use std::io::{BufReader, BufWriter};
+use std::process::{exit, Child, ChildStdin, ChildStdout, Command, Stdio};
+use std::sync::atomic::{AtomicU64, Ordering};
+use std::sync::Mutex;
+use std::thread;
+use wrong::WRONG;
+
+const SHOWN: usize = 5;
+/// Plans up to this length are given to the third opinion too.
+const LAID_OUT_BYTES: usize = 2_000;
+/// What a spoiled driver does, by the number that tells it to.
+const SPOILED: [&str; 8] = [
+    "changes the plan",
+    "changes the cursor",
+    "changes the last byte for the new plan",
+    "changes the last byte lent for the cursor",
+    "changes the byte before the plan",
+    "changes the byte before the cursor",
+    "changes the byte before the new plan",
+    "changes the byte before the lent cursor",
+];
+
+/// What a run has found so far.
+struct Found {
+    differences: u64,
+    shown: Vec<String>,
+    /// The number of the first call that catches each wrong checker: the proved call, and the third opinion.
+    caught: Vec<Option<u64>>,
+    caught_by_layout: Vec<Option<u64>>,
+    pairs_laid_out: u64,
+    /// How often each call gave each result.
+    seen: BTreeMap<(Kind, u32), u64>,
+}
+
+fn hex(bytes: &[u8]) -> String {
+    let shown: Vec<String> = bytes.iter().take(600).map(|byte| format!("{:02X}", byte)).collect();
+    format!("{}{}", shown.join(" "), if bytes.len() > 600 { " ..." } else { "" })
+}
+
+fn told(answer: &Answer) -> String {
+    let (result, number) = (answer.result as u32, answer.result >> 32);
+    format!("result {} number {} out [{}] new plan [{}]", result, number, hex(&answer.out), hex(&answer.new_plan))
+}
+
+fn described(number: u64, call: &Call) -> String {
+    format!(
+        "DIFFERENCE in call {}: {:?}, number {}, offset {}, cursor [{}], out [{}], plan [{}]",
+        number,
+        call.kind,
+        call.number,
+        call.offset,
+        hex(&call.cursor),
+        hex(&call.out),
+        hex(&call.plan)
+    )
+}
+
+struct Driver {
+    child: Child,
+    input: BufWriter<ChildStdin>,
+    output: BufReader<ChildStdout>,
+}
+
+impl Driver {
+    fn new(command: &[String]) -> Driver {
+        let mut child = Command::new(&command[0])
+            .args(&command[1..])
+            .stdin(Stdio::piped())
+            .stdout(Stdio::piped())
+            .spawn()
+            .unwrap_or_else(|fault| panic!("cannot run {}: {}", command[0], fault));
+        let input = BufWriter::with_capacity(1 << 16, child.stdin.take().expect("its input is a pipe"));
+        let output = BufReader::with_capacity(1 << 16, child.stdout.take().expect("its output is a pipe"));
+        Driver { child, input, output }
+    }
+
+    /// Makes all calls, and gives each answer with what no call may change and yet was changed.
+    fn answers(&mut self, cases: &[Case]) -> Vec<(Answer, Vec<String>)> {
+        let (input, output) = (&mut self.input, &mut self.output);
+        thread::scope(|scope| {
+            scope.spawn(move || {
+                for case in cases {
+                    send(input, &case.call).expect("the driver takes calls");
+                }
+                send_flush(input).expect("the driver takes calls");
+            });
+            cases.iter().map(|case| receive(output, &case.call).expect("the driver answers")).collect()
+        })
+    }
+
+    /// Ends the driver, which has to end well.
+    fn end(self) {
+        let Driver { mut child, input, output } = self;
+        drop((input, output));
+        let status = child.wait().expect("the driver ends");
+        assert!(status.success(), "the driver ended with {}", status);
+    }
+}
+
+/// Says how the proved call differs from the plain one, if it does.
+fn difference(number: u64, case: &Case, answered: &Answer, changed: &[String]) -> Option<String> {
+    if *answered == case.expected && changed.is_empty() {
+        return None;
+    }
+    Some(format!(
+        "{}\n    proved: {}\n    plain:  {}\n    {}",
+        described(number, &case.call),
+        told(answered),
+        told(&case.expected),
+        changed.join(", ")
+    ))
+}
+
+/// The wrong checkers that no call before this one has caught.
+fn at_large(caught: &[Option<u64>], first: u64) -> Vec<usize> {
+    (0..caught.len()).filter(|&at| caught[at].map_or(true, |call| call > first)).collect()
+}
+
+/// Whether a wrong checker is one that the third opinion has to catch too.
+fn judges_overlap(name: &str) -> bool {
+    name.starts_with("overlap")
+}
+
+/// Notes each wrong checker that answers something else.
+fn catch(at_large: &mut Vec<usize>, caught: &mut [Option<u64>], number: u64, call: &Call, right: &Answer) {
+    at_large.retain(|&at| {
+        let escapes = (WRONG[at].1)(call) == *right;
+        if !escapes {
+            caught[at] = Some(caught[at].map_or(number, |earlier| earlier.min(number)));
+        }
+        escapes
+    });
+}
+
+/// Compares one batch, whose first call has this number in the run.
+fn compare(first: u64, cases: &[Case], answers: &[(Answer, Vec<String>)], found: &Mutex<Found>) {
+    let (mut by_call, mut by_layout) = {
+        let found = found.lock().expect("no thread failed");
+        (at_large(&found.caught, first), at_large(&found.caught_by_layout, first))
+    };
+    by_layout.retain(|&at| judges_overlap(WRONG[at].0));
+    let (mut caught, mut caught_by_layout) = (vec![None; WRONG.len()], vec![None; WRONG.len()]);
+    let (mut faults, mut pairs_laid_out) = (Vec::new(), 0);
+    for (number, (case, (answered, changed))) in (first..).zip(cases.iter().zip(answers)) {
+        faults.extend(difference(number, case, answered, changed));
+        catch(&mut by_call, &mut caught, number, &case.call, answered);
+        let slices = matches!(case.call.kind, Kind::Slice | Kind::SliceFull);
+        if slices && case.call.plan.len() < LAID_OUT_BYTES {
+            let third = layout::opinion(&case.call);
+            pairs_laid_out += third.laid_out;
+            if third.answer != case.expected {
+                faults.push(format!("{}\n    laid out: {}", described(number, &case.call), told(&third.answer)));
+            }
+            if third.laid_out > 0 && third.left == 0 {
+                catch(&mut by_layout, &mut caught_by_layout, number, &case.call, &third.answer);
+            }
+        }
+    }
+    let mut found = found.lock().expect("no thread failed");
+    found.differences += faults.len() as u64;
+    found.pairs_laid_out += pairs_laid_out;
+    let room = SHOWN.saturating_sub(found.shown.len());
+    found.shown.extend(faults.into_iter().take(room));
+    merge(&mut found.caught, &caught);
+    merge(&mut found.caught_by_layout, &caught_by_layout);
+    for case in cases {
+        *found.seen.entry((case.call.kind, case.expected.result as u32)).or_default() += 1;
+    }
+}
+
+/// Keeps the earlier of two calls for each wrong checker.
+fn merge(known: &mut [Option<u64>], new: &[Option<u64>]) {
+    for (known, &new) in known.iter_mut().zip(new) {
+        *known = known.iter().copied().chain(new).min();
+    }
+}
+
+/// Runs drivers that spoil memory. Gives those that the comparison does not catch.
+fn spoilers_at_large(command: &[String]) -> Vec<&'static str> {
+    let cases = batch(1, 0);
+    let mut uncaught = Vec::new();
+    for (what, name) in SPOILED.iter().enumerate() {
+        let mut driver = Driver::new(&[command, &[what.to_string()]].concat());
+        let answers = driver.answers(&cases);
+        driver.end();
+        let differs = |(case, (answered, changed)): (&Case, &(Answer, Vec<String>))| {
+            difference(0, case, answered, changed).is_some()
+        };
+        if !cases.iter().zip(&answers).any(differs) {
+            uncaught.push(*name);
+        }
+    }
+    uncaught
+}
+
+/// Gives each result that a call can have and that was never seen. From a file, refusals 1 and 3 cannot come.
+fn unseen(seen: &BTreeMap<(Kind, u32), u64>) -> Vec<(Kind, u32)> {
+    let refusals = |numbers: &[u32]| numbers.iter().map(|number| REFUSED + number).collect::<Vec<_>>();
+    let start = [vec![GRANTED], refusals(&[2, 4, 5, 6, 7, 12, 13, 14, 15])].concat();
+    let slice = [start.clone(), (1..=OVERLAP).collect(), refusals(&[8, 9])].concat();
+    let moves = [start.clone(), refusals(&[8, 9, 10, 11])].concat();
+    let all = [(Kind::Slice, &slice), (Kind::SliceFull, &slice), (Kind::Start, &start), (Kind::Move, &moves)];
+    let each = all.iter().flat_map(|(kind, results)| results.iter().map(move |&result| (*kind, result)));
+    each.filter(|one| !seen.contains_key(one)).collect()
+}
+
+fn main() {
+    let arguments: Vec<String> = std::env::args().skip(1).collect();
+    let number = |at: usize, name: &str| -> u64 {
+        arguments.get(at).and_then(|text| text.parse().ok()).unwrap_or_else(|| {
+            eprintln!("compare: {} is no number; usage: compare SEED CALLS DRIVER...", name);
+            exit(4)
+        })
+    };
+    let (seed, wanted) = (number(0, "SEED"), number(1, "CALLS"));
+    let batches = (wanted + BATCH as u64 - 1) / BATCH as u64;
+    println!("seed {}, {} calls in batches of {}", seed, batches * BATCH as u64, BATCH);
+
+    let found = Mutex::new(Found {
+        differences: 0,
+        shown: Vec::new(),
+        caught: vec![None; WRONG.len()],
+        caught_by_layout: vec![None; WRONG.len()],
+        pairs_laid_out: 0,
+        seen: BTreeMap::new(),
+    });
+    let next = AtomicU64::new(0);
+    let workers = thread::available_parallelism().map_or(1, |count| count.get());
+    thread::scope(|scope| {
+        for _ in 0..workers {
+            scope.spawn(|| {
+                let mut driver = Driver::new(&arguments[2..]);
+                loop {
+                    let number = next.fetch_add(1, Ordering::Relaxed);
+                    if number >= batches {
+                        break;
+                    }
+                    let cases = batch(seed, number);
+                    let answers = driver.answers(&cases);
+                    compare(number * BATCH as u64, &cases, &answers, &found);
+                }
+                driver.end();
+            });
+        }
+    });
+
+    let found = found.into_inner().expect("no thread failed");
+    for fault in &found.shown {
+        println!("{}", fault);
+    }
+    exit(if report(&found, batches * BATCH as u64, &spoilers_at_large(&arguments[2..])) { 0 } else { 1 });
+}
+
+/// Prints what a run found, and says whether all is well.
+fn report(found: &Found, calls: u64, spoilers: &[&str]) -> bool {
+    let mut faults = Vec::new();
+    for (at, (name, _)) in WRONG.iter().enumerate() {
+        match found.caught[at] {
+            Some(call) => println!("caught in call {}: {}", call + 1, name),
+            None => faults.push(format!("NOT CAUGHT: {}", name)),
+        }
+        if judges_overlap(name) && found.caught_by_layout[at].is_none() {
+            faults.push(format!("NOT CAUGHT by layout: {}", name));
+        }
+    }
+    faults.extend(spoilers.iter().map(|name| format!("NOT CAUGHT: a driver that {}", name)));
+    for (kind, result) in unseen(&found.seen) {
+        faults.push(format!("NEVER SEEN: {:?} with the result {}", kind, result));
+    }
+    for fault in &faults {
+        println!("{}", fault);
+    }
+    let seen: Vec<String> =
+        found.seen.iter().map(|((kind, result), times)| format!("{:?} {}: {}", kind, result, times)).collect();
+    println!("seen: {}", seen.join(", "));
+    println!(
+        "{} calls, {} differences, {} of {} wrong checkers and {} of {} spoiled drivers caught, \
+         {} pairs of legs laid out",
+        calls,
+        found.differences,
+        found.caught.iter().flatten().count(),
+        WRONG.len(),
+        SPOILED.len() - spoilers.len(),
+        SPOILED.len(),
+        found.pairs_laid_out
+    );
+    found.differences == 0 && faults.is_empty() && found.pairs_laid_out > 0
+}

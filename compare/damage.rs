@@ -1,0 +1,175 @@
+//! Tables and byte strings that are damaged in some way.
+
+use crate::chance::Chance;
+use crate::format::{encoded, Plan};
+
+/// The words of a record of each part: links, streams, legs.
+const WIDTHS: [usize; 3] = [4, 5, 3];
+const HEADER: usize = 5;
+
+/// Where a part's records begin, and how many it has.
+fn part(words: &[u32], part: usize) -> (usize, usize) {
+    let start = HEADER + (0..part).map(|earlier| WIDTHS[earlier] * words[1 + earlier] as usize).sum::<usize>();
+    (start, words[1 + part] as usize)
+}
+
+/// The first or the last record of a part, or any other. The part is not empty.
+fn some_record(chance: &mut Chance, count: usize) -> usize {
+    match chance.below(4) {
+        0 => 0,
+        1 => count - 1,
+        _ => chance.below(count),
+    }
+}
+
+/// The values at the edges of a word's range, by its part and its place in the record.
+fn edges(words: &[u32], part: usize, field: usize, record: &[u32]) -> Vec<u32> {
+    let own = record[field];
+    let mut values = match (part, field) {
+        (0, 0) | (0, 1) => vec![0, 65_535, 65_536, record[1 - field]],
+        (0, 2) => vec![0, 7, 8, 9, 79, 80, 81, 100, 799, 800, 801],
+        (0, _) => vec![0, 100_000, 100_001],
+        (1, 0) => vec![0, 1, 1_000_000_000, 1_000_000_001, record[1], record[1].wrapping_sub(1)],
+        (1, 1) => vec![0, 1, record[0], record[0].wrapping_add(1)],
+        (1, 2) => vec![0, 63, 64, 1_522, 1_523],
+        (1, 3) => vec![0, words[3]],
+        (1, _) => vec![0, 1, 8, 9, words[3], words[3] + 1],
+        (_, 0) => vec![0, words[2], words[2].wrapping_sub(1)],
+        (_, 1) => vec![0, words[1], words[1].wrapping_sub(1)],
+        _ => vec![0],
+    };
+    values.extend([own.wrapping_add(1), own.wrapping_sub(1), u32::MAX, own ^ 0x1_0000]);
+    values
+}
+
+/// Damages the table of a plan once.
+pub fn damage_table(chance: &mut Chance, words: &mut Vec<u32>) {
+    let at = chance.below(3);
+    let (start, count) = part(words, at);
+    let width = WIDTHS[at];
+    if count == 0 || chance.one_in(12) {
+        return damage_header(chance, words);
+    }
+    let record = start + width * some_record(chance, count);
+    match chance.below(10) {
+        0 => {
+            // Another record, whole or in its first words, stands in this one's place.
+            let other = start + width * chance.below(count);
+            let length = if chance.one_in(2) { width } else { 2 };
+            words.copy_within(other..other + length, record);
+        }
+        1 => {
+            let other = start + width * chance.below(count);
+            for field in 0..width {
+                words.swap(record + field, other + field);
+            }
+        }
+        2 => {
+            words.drain(record..record + width);
+            words[1 + at] -= u32::from(chance.one_in(2));
+        }
+        3 => {
+            let copy = words[record..record + width].to_vec();
+            words.splice(record..record, copy);
+            words[1 + at] += u32::from(!chance.one_in(3));
+        }
+        _ => {
+            let field = chance.below(width);
+            let values = edges(words, at, field, &words[record..record + width]);
+            words[record + field] = chance.of(&values);
+        }
+    }
+}
+
+fn damage_header(chance: &mut Chance, words: &mut [u32]) {
+    let field = 1 + chance.below(4);
+    let limit = [256, 512, 2_048, 1_000_000][field - 1];
+    let own = words[field];
+    words[field] = chance.of(&[limit, limit + 1, own.wrapping_add(1), own.wrapping_sub(1), 0, u32::MAX]);
+}
+
+/// Another stream has the next leg, so that all counts still add up.
+pub fn shift_legs(chance: &mut Chance, plan: &mut Plan) {
+    if plan.streams.len() > 1 {
+        let at = 1 + chance.below(plan.streams.len() - 1);
+        plan.streams[at - 1].leg_count += 1;
+        plan.streams[at].first_leg += 1;
+        plan.streams[at].leg_count = plan.streams[at].leg_count.wrapping_sub(1);
+    }
+}
+
+/// A route with a leg that goes back to a node that was met, or that starts anew somewhere else.
+pub fn bend_route(chance: &mut Chance, plan: &mut Plan) {
+    if plan.legs.is_empty() {
+        return;
+    }
+    let leg = chance.below(plan.legs.len());
+    let first = plan.streams[plan.legs[leg].stream as usize].first_leg as usize;
+    let from = |at: usize| plan.links[plan.legs[at].link as usize].from;
+    // The first node, or any that was met.
+    let met: Vec<u32> = (first..leg).map(from).take(if chance.one_in(2) { 1 } else { leg }).collect();
+    let back = plan.links.iter().position(|link| link.from == from(leg) && met.contains(&link.to));
+    let any = chance.below(plan.links.len());
+    plan.legs[leg].link = if chance.one_in(4) { any } else { back.unwrap_or(any) } as u32;
+}
+
+/// Damages a byte string once.
+pub fn damage_bytes(chance: &mut Chance, bytes: &mut Vec<u8>) {
+    let at = match chance.below(4) {
+        0 => 0,
+        1 => bytes.len().saturating_sub(1 + chance.below(6)),
+        _ => chance.below(bytes.len() + 1),
+    };
+    match chance.below(9) {
+        0 => bytes.truncate(at),
+        1 => {
+            let more = 1 + chance.below(6);
+            bytes.extend(chance.bytes(more));
+        }
+        2 => bytes.extend(chance.of(&[&[0][..], &[0x80], &[0x80, 0], &[0x80; 4], &[0x80; 5], &[0xFF; 5]])),
+        3 => {
+            // A number gets one byte more than it needs.
+            if let Some(byte) = bytes.get_mut(at) {
+                let ended = *byte < 0x80;
+                *byte |= 0x80;
+                if ended {
+                    bytes.insert(at + 1, 0);
+                }
+            }
+        }
+        4 => {
+            let last = chance.of(&[0x00, 0x01, 0x0F, 0x10, 0x7F, 0x80, 0x8F, 0xFF]);
+            let number = [chance.next() as u8 | 0x80, 0x80, 0xFF, 0x80, last];
+            let behind = (at + chance.of(&[0, 1])).min(bytes.len());
+            bytes.splice(at.min(behind)..behind, number);
+        }
+        5 => {
+            bytes.truncate(at);
+            bytes.extend(vec![0xFF; chance.below(6)]);
+        }
+        6 if at < bytes.len() => {
+            bytes.remove(at);
+        }
+        7 => bytes.insert(at.min(bytes.len()), chance.of(&[0, 1, 0x7F, 0x80, 0xFF])),
+        _ => {
+            if let Some(byte) = bytes.get_mut(at) {
+                *byte ^= 1 << chance.below(8);
+            }
+        }
+    }
+}
+
+/// Bytes that were never a plan or a cursor.
+pub fn any_bytes(chance: &mut Chance) -> Vec<u8> {
+    match chance.below(3) {
+        0 => {
+            let count = chance.below(40);
+            chance.bytes(count)
+        }
+        1 => {
+            let words: Vec<u32> = (0..chance.below(12)).map(|_| chance.any_size()).collect();
+            encoded(&words)
+        }
+        _ => (0..chance.below(20)).map(|_| chance.of(&[0, 1, 2, 0x7F, 0x80, 0x81, 0xFF])).collect(),
+    }
+}

@@ -1,0 +1,300 @@
+//! Well-formed plans of many kinds, their legs near the edge of some rule.
+
+use crate::chance::Chance;
+use crate::format::{Leg, Link, Plan, Stream, LEGS_MAX, LINKS_MAX, STREAMS_MAX};
+use crate::rules::{apart, divisor, sent};
+
+/// How large a plan is to be.
+struct Size {
+    nodes: usize,
+    links: usize,
+    streams: usize,
+}
+
+const ROUTE_MAX: usize = 8;
+const PERIOD_MAX: u64 = 1_000_000_000;
+
+/// Plan A of document 01.
+pub fn plan_a() -> Plan {
+    let link = |from, to| Link { from, to, ns_per_octet: 8, propagation: 500 };
+    let leg = |stream, link, offset| Leg { stream, link, offset };
+    Plan {
+        revision: 0,
+        precision: 100,
+        links: vec![link(1, 2), link(2, 3)],
+        streams: vec![
+            Stream { period: 100_000, deadline: 2_352, octets: 64, first_leg: 0, leg_count: 2 },
+            Stream { period: 150_000, deadline: 2_000, octets: 64, first_leg: 2, leg_count: 1 },
+        ],
+        legs: vec![leg(0, 0, 0), leg(0, 1, 1_176), leg(1, 0, 0)],
+    }
+}
+
+/// A plan of a few records.
+pub fn small(chance: &mut Chance) -> Plan {
+    let size = Size { nodes: 2 + chance.below(7), links: chance.below(9), streams: chance.below(7) };
+    drafted(chance, size)
+}
+
+/// Two or three streams on one link.
+pub fn one_link(chance: &mut Chance) -> Plan {
+    let streams = 2 + chance.below(2);
+    drafted(chance, Size { nodes: 2, links: 1, streams })
+}
+
+/// Links in a row, some links back to its first node, and streams along the row, now and then over one link too many.
+pub fn row(chance: &mut Chance) -> Plan {
+    let mut plan = empty(chance);
+    let link = |from, to| Link { from, to, ns_per_octet: 8, propagation: 500 };
+    let most = ROUTE_MAX as u32;
+    plan.links = (0..=most).map(|node| link(node, node + 1)).chain((1..=most).map(|node| link(node, 0))).collect();
+    for _ in 0..1 + chance.below(4) {
+        let first = chance.of(&[0, 0, 1]);
+        let last = if chance.one_in(3) { most } else { chance.from_to(first, most) };
+        add_stream(chance, &mut plan, 200_000, &(first..=last).collect::<Vec<_>>());
+    }
+    plan
+}
+
+/// A plan of some dozens of records.
+pub fn medium(chance: &mut Chance) -> Plan {
+    let size = Size { nodes: 4 + chance.below(12), links: 10 + chance.below(40), streams: 5 + chance.below(40) };
+    drafted(chance, size)
+}
+
+/// A plan near or at the limits of links, streams and legs.
+pub fn large(chance: &mut Chance) -> Plan {
+    if chance.one_in(3) {
+        return full_line(chance);
+    }
+    let links = LINKS_MAX as usize - chance.below(2);
+    let streams = STREAMS_MAX as usize - chance.below(2);
+    let nodes = chance.of(&[17, 24, 40]);
+    drafted(chance, Size { nodes, links, streams })
+}
+
+/// Four links in a row that each of 512 streams takes. Nothing is violated.
+fn full_line(chance: &mut Chance) -> Plan {
+    let link = |from| Link { from, to: from + 1, ns_per_octet: 8, propagation: 500 };
+    let mut plan = Plan { links: (0..4).map(link).collect(), ..empty(chance) };
+    plan.precision = 100;
+    for number in 0..STREAMS_MAX {
+        let period = chance.of(&[1, 2, 3, 5, 8, 13]) * 1_000_000;
+        plan.streams.push(Stream { period, deadline: 10_000, octets: 64, first_leg: 4 * number, leg_count: 4 });
+        plan.legs.extend((0..4).map(|hop| Leg { stream: number, link: hop, offset: 576 * number + 1_176 * hop }));
+    }
+    plan
+}
+
+fn empty(chance: &mut Chance) -> Plan {
+    let precision = match chance.below(5) {
+        0 => 0,
+        1 => chance.from_to(999_999, 1_000_000),
+        2 => chance.from_to(0, 1_000_000),
+        _ => 100,
+    };
+    let revision = chance.of(&[0, 1, 127, 128, 16_384, u32::MAX - 1, u32::MAX, u32::MAX]);
+    let revision = if chance.one_in(3) { chance.word() } else { revision };
+    Plan { revision, precision, links: Vec::new(), streams: Vec::new(), legs: Vec::new() }
+}
+
+fn drafted(chance: &mut Chance, size: Size) -> Plan {
+    let mut plan = empty(chance);
+    add_links(chance, &mut plan, &size);
+    if plan.links.is_empty() {
+        return plan;
+    }
+    let rhythm = Rhythm::some(chance);
+    for _ in 0..size.streams {
+        let room = LEGS_MAX as usize - plan.legs.len();
+        if room == 0 {
+            break;
+        }
+        let hops = if chance.one_in(4) { ROUTE_MAX } else { 1 + chance.below(4) };
+        let route = some_route(chance, &plan.links, hops.min(room));
+        let period = rhythm.period(chance);
+        add_stream(chance, &mut plan, period, &route);
+    }
+    plan
+}
+
+fn add_links(chance: &mut Chance, plan: &mut Plan, size: &Size) {
+    let lowest = chance.of(&[0, 1, 100, 65_536 - size.nodes as u32]);
+    let one_rate = chance.one_in(2);
+    let mut pairs: Vec<(usize, usize)> = (0..size.nodes)
+        .flat_map(|from| (0..size.nodes).map(move |to| (from, to)))
+        .filter(|(from, to)| from != to)
+        .collect();
+    for _ in 0..size.links.min(pairs.len()) {
+        let (from, to) = pairs.swap_remove(chance.below(pairs.len()));
+        plan.links.push(Link {
+            from: lowest + from as u32,
+            to: lowest + to as u32,
+            ns_per_octet: if one_rate { 8 } else { chance.of(&[8, 8, 80, 800]) },
+            propagation: if chance.one_in(4) { chance.of(&[0, 99_999, 100_000]) } else { chance.from_to(0, 3_000) },
+        });
+    }
+}
+
+/// A way over links that meets no node twice, with at most so many hops.
+fn some_route(chance: &mut Chance, links: &[Link], hops: usize) -> Vec<u32> {
+    // Every second route begins on one of the first links, so that these are shared by many streams.
+    let choices = if chance.one_in(2) { links.len().min(2) } else { links.len() };
+    let first = chance.below(choices);
+    let mut route = vec![first as u32];
+    let mut met = vec![links[first].from, links[first].to];
+    while route.len() < hops {
+        let here = met[met.len() - 1];
+        let ahead: Vec<usize> =
+            (0..links.len()).filter(|&at| links[at].from == here && !met.contains(&links[at].to)).collect();
+        if ahead.is_empty() {
+            break;
+        }
+        let taken = chance.of(&ahead);
+        route.push(taken as u32);
+        met.push(links[taken].to);
+    }
+    route
+}
+
+/// How the periods of one plan go together.
+enum Rhythm {
+    Harmonic(u32),
+    Fibonacci(u32),
+    Coprime,
+    Any,
+    Edges,
+}
+
+impl Rhythm {
+    fn some(chance: &mut Chance) -> Rhythm {
+        match chance.below(8) {
+            0 | 1 => Rhythm::Harmonic(chance.of(&[100_000, 1_000_000, 2_000_000])),
+            2 | 3 => Rhythm::Harmonic(chance.from_to(577, 6_000)),
+            4 => Rhythm::Fibonacci(chance.of(&[1_152, 1_153, 10_000])),
+            5 => Rhythm::Coprime,
+            6 => Rhythm::Any,
+            _ => Rhythm::Edges,
+        }
+    }
+
+    fn period(&self, chance: &mut Chance) -> u32 {
+        match self {
+            Rhythm::Harmonic(base) => base * chance.of(&[1, 1, 2, 3, 4, 6]),
+            Rhythm::Fibonacci(base) => base * chance.of(&[1, 2, 3, 5, 8, 13, 21, 34, 55]),
+            Rhythm::Coprime => chance.of(&[100_000, 100_001, 50_000, 150_000]),
+            Rhythm::Any => chance.any_size().clamp(1, PERIOD_MAX as u32),
+            Rhythm::Edges => chance.of(&[1, 2, 575, 576, 577, 1_152, 999_999_999, 1_000_000_000]),
+        }
+    }
+}
+
+/// Adds a stream on a route. Where a few tries find room its legs violate nothing.
+fn add_stream(chance: &mut Chance, plan: &mut Plan, period: u32, route: &[u32]) {
+    let number = plan.streams.len() as u32;
+    let first_leg = plan.legs.len();
+    let octets = match chance.below(4) {
+        0 => chance.of(&[64, 65, 1_521, 1_522]),
+        1 => chance.from_to(64, 1_522),
+        _ => 64,
+    };
+    let leg_count = route.len() as u32;
+    plan.streams.push(Stream { period, deadline: period, octets, first_leg: first_leg as u32, leg_count });
+    plan.legs.extend(route.iter().map(|&link| Leg { stream: number, link, offset: 0 }));
+    // In a large plan few tries are made, which would take long there.
+    let tries = if first_leg < 200 { 12 } else { 1 };
+    for _ in 0..tries {
+        let mut due = u64::from(chance.from_to(0, period - 1)) / chance.of(&[1, 4, 64]);
+        for leg in first_leg..plan.legs.len() {
+            plan.legs[leg].offset = due.min(u64::from(u32::MAX)) as u32;
+            let now = sent(plan, leg);
+            due = now.offset + now.wire + now.propagation + u64::from(plan.precision);
+            due += chance.below(3) as u64 * chance.below(1_000) as u64;
+        }
+        let free = |leg| (0..first_leg).all(|other| fit(plan, leg, other));
+        if (first_leg..plan.legs.len()).all(free) {
+            break;
+        }
+    }
+    let last = sent(plan, plan.legs.len() - 1);
+    let needed = last.offset + last.wire + last.propagation + u64::from(plan.precision);
+    let exact = needed - u64::from(plan.legs[first_leg].offset);
+    if chance.one_in(2) {
+        plan.streams[number as usize].deadline = exact.clamp(1, u64::from(period)) as u32;
+    }
+}
+
+fn fit(plan: &Plan, leg: usize, other: usize) -> bool {
+    plan.legs[leg].link != plan.legs[other].link || apart(&sent(plan, leg), &sent(plan, other))
+}
+
+/// Brings one leg to the edge of a rule, on its right side or its wrong one. Gives the place of that rule.
+pub fn to_an_edge(chance: &mut Chance, plan: &mut Plan) -> (u32, u32) {
+    if plan.legs.is_empty() {
+        return (0, 0);
+    }
+    let rule = chance.below(6);
+    let mut leg = chance.below(plan.legs.len());
+    if rule == 1 {
+        // The hop concerns a leg that has one before it in its stream.
+        let later: Vec<usize> =
+            (1..plan.legs.len()).filter(|&at| plan.legs[at].stream == plan.legs[at - 1].stream).collect();
+        leg = if later.is_empty() { leg } else { chance.of(&later) };
+    }
+    let stream = plan.legs[leg].stream as usize;
+    let (first, count) = (plan.streams[stream].first_leg as usize, plan.streams[stream].leg_count as usize);
+    let now = sent(plan, leg);
+    let beside = chance.of(&[0, 0, 1]);
+    let (place, offset) = match rule {
+        0 => (0, i64::from(now.period) - now.wire as i64 + beside),
+        1 if leg > first => {
+            let before = sent(plan, leg - 1);
+            let due = before.offset + before.wire + before.propagation + u64::from(plan.precision);
+            (1, due as i64 - beside)
+        }
+        2 => {
+            let last = sent(plan, first + count - 1);
+            let needed = last.offset + last.wire + last.propagation + u64::from(plan.precision);
+            let exact = needed as i64 - i64::from(plan.legs[first].offset) - beside;
+            plan.streams[stream].deadline = exact.clamp(1, i64::from(now.period)) as u32;
+            return ((first + count - 1) as u32, 2);
+        }
+        _ => {
+            let others: Vec<usize> = (0..leg).filter(|&other| plan.legs[other].link == plan.legs[leg].link).collect();
+            if others.is_empty() {
+                return (leg as u32, 0);
+            }
+            let at = chance.of(&others);
+            let other = sent(plan, at);
+            let common = i64::from(divisor(now.period, other.period));
+            // The frames touch, or share one ns, in repeats that may lie far beyond the period.
+            let times = match chance.below(3) {
+                0 => 0,
+                1 => chance.below(50) as i64,
+                _ => i64::from(u32::MAX - now.period) / common,
+            };
+            let touching = if chance.one_in(2) {
+                other.offset as i64 + other.wire as i64 - beside
+            } else {
+                other.offset as i64 - now.wire as i64 + beside
+            };
+            let once = touching.rem_euclid(common) + times * common;
+            (3 + at as u32, if once > i64::from(u32::MAX) { touching.rem_euclid(common) } else { once })
+        }
+    };
+    plan.legs[leg].offset = offset.clamp(0, i64::from(u32::MAX)) as u32;
+    (leg as u32, place)
+}
+
+/// Sets some offsets far beyond the period, so that windows are violated and sums pass 32 bits.
+pub fn beyond(chance: &mut Chance, plan: &mut Plan) {
+    for leg in 0..plan.legs.len() {
+        if chance.one_in(3) {
+            plan.legs[leg].offset = match chance.below(3) {
+                0 => u32::MAX - chance.any_size() % 200_000,
+                1 => chance.word(),
+                _ => chance.any_size(),
+            };
+        }
+    }
+}

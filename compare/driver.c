@@ -1,0 +1,96 @@
+/* Makes the calls that come on standard input, and writes what each gave to standard output.
+
+   A call comes as its kind and two numbers (4 bytes each), the lengths of its four buffers (4 bytes each), and the bytes of
+   the buffers: plan, cursor, new plan, out. What goes back is the call's whole result (8 bytes) and every byte of the four
+   buffers, with the margin that lies before each. Behind each buffer lies a page that may not be touched. Numbers have
+   their lowest byte first. The kind FLUSH is no call: what was answered so far is written out. The end of the input ends
+   the program.
+
+   With an argument the program spoils something in each call, so that a comparison which misses that is seen: 0 to 3
+   change the last byte of a buffer after the call, 4 to 7 the byte before one. */
+#define _GNU_SOURCE
+#include <stdint.h>
+#include <stdio.h>
+#include <stdlib.h>
+#include <string.h>
+#include <sys/mman.h>
+#include <unistd.h>
+
+uint32_t conepalhui_slice(const uint8_t *plan, size_t plan_len, const uint8_t *cursor, size_t cursor_len,
+                          uint32_t budget, uint8_t *out, size_t out_len);
+uint64_t conepalhui_slice_full(const uint8_t *plan, size_t plan_len, const uint8_t *cursor, size_t cursor_len,
+                               uint32_t budget, uint8_t *out, size_t out_len);
+uint64_t conepalhui_start(const uint8_t *plan, size_t plan_len, uint8_t *out, size_t out_len);
+uint64_t conepalhui_move(const uint8_t *plan, size_t plan_len, const uint8_t *cursor, size_t cursor_len, uint32_t leg,
+                         uint32_t offset, uint8_t *new_plan, size_t new_plan_len, uint8_t *out, size_t out_len);
+
+enum { SLICE, SLICE_FULL, START, MOVE, FLUSH };
+enum { PLAN, CURSOR, NEW_PLAN, OUT, BUFFERS };
+enum { MARGIN = 32, MOST = 1 << 17 };
+
+static void fail(const char *what) {
+    fprintf(stderr, "driver: %s\n", what);
+    _exit(3);
+}
+
+/* Gives the end of MOST writable bytes, behind which nothing may be touched. */
+static uint8_t *lent_end(void) {
+    size_t page = (size_t)sysconf(_SC_PAGESIZE);
+    uint8_t *at = mmap(NULL, MOST + page, PROT_READ | PROT_WRITE, MAP_PRIVATE | MAP_ANONYMOUS, -1, 0);
+    if (at == MAP_FAILED || mprotect(at + MOST, page, PROT_NONE) != 0) fail("no memory");
+    return at + MOST;
+}
+
+static uint64_t made(const uint32_t *head, uint8_t *const *at, const uint32_t *length) {
+    switch (head[0]) {
+    case SLICE:
+        return conepalhui_slice(at[PLAN], length[PLAN], at[CURSOR], length[CURSOR], head[1], at[OUT], length[OUT]);
+    case SLICE_FULL:
+        return conepalhui_slice_full(at[PLAN], length[PLAN], at[CURSOR], length[CURSOR], head[1], at[OUT], length[OUT]);
+    case START:
+        return conepalhui_start(at[PLAN], length[PLAN], at[OUT], length[OUT]);
+    case MOVE:
+        return conepalhui_move(at[PLAN], length[PLAN], at[CURSOR], length[CURSOR], head[1], head[2], at[NEW_PLAN],
+                               length[NEW_PLAN], at[OUT], length[OUT]);
+    }
+    fail("no such call");
+    return 0;
+}
+
+/* Changes a byte of the buffer or before it. An empty buffer has no last byte. */
+static void spoil(int what, uint8_t *const *at, const uint32_t *length) {
+    int buffer = what % BUFFERS;
+    if (what >= BUFFERS)
+        at[buffer][-1] ^= 1;
+    else if (length[buffer] > 0)
+        at[buffer][length[buffer] - 1] ^= 1;
+}
+
+static void put(const void *bytes, size_t length) {
+    if (fwrite(bytes, 1, length, stdout) != length) fail("cannot write");
+}
+
+int main(int count, char **arguments) {
+    uint8_t *end[BUFFERS], *at[BUFFERS];
+    uint32_t head[3 + BUFFERS];
+    const uint32_t *length = head + 3;
+    for (int i = 0; i < BUFFERS; i++) end[i] = lent_end();
+    while (fread(head, sizeof head, 1, stdin) == 1) {
+        if (head[0] == FLUSH) {
+            if (fflush(stdout) != 0) fail("cannot write");
+            continue;
+        }
+        for (int i = 0; i < BUFFERS; i++) {
+            if (length[i] > MOST - MARGIN) fail("a buffer is too long");
+            at[i] = end[i] - length[i];
+            memset(at[i] - MARGIN, 0xA5, MARGIN);
+            if (fread(at[i], 1, length[i], stdin) != length[i]) fail("the input ends in a call");
+        }
+        uint64_t result = made(head, at, length);
+        if (count > 1) spoil(atoi(arguments[1]), at, length);
+        put(&result, sizeof result);
+        for (int i = 0; i < BUFFERS; i++) put(at[i] - MARGIN, MARGIN + length[i]);
+    }
+    if (ferror(stdin) || fflush(stdout) != 0) fail("cannot read or write");
+    return 0;
+}
