@@ -158,7 +158,8 @@ uint32_t conepalhui_slice(const uint8_t *plan, size_t plan_len, const uint8_t *c
  * already is a move like any other.
  *
  * plan_len + CONEPALHUI_MOVE_BYTES bytes are room enough for the new plan, and so are CONEPALHUI_PLAN_BYTES. Whoever
- * saves both saves the new plan before the new cursor: then a saved cursor is never newer than the saved plan.
+ * saves both saves the new plan before the new cursor: then a saved cursor is never newer than the saved plan. Whoever
+ * drops the new plan drops the new cursor too: it is of that plan alone.
  *
  * Low 32 bits: 0 granted, or 100 + refusal. High 32 bits: how many bytes the new plan file has, or the position.
  */

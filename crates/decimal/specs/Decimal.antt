@@ -43,7 +43,7 @@ pub record Typed (s : List ℕ) : Type 0 where
   pub some : 0 < length s
   pub digits : AllDigits s
 
--- Reading a number: the word that its digits are worth; no byte at all; the first byte that is no digit; or digits worth more than a word.
+-- Reading a number: the word that its digits are worth; no byte at all; the first byte that is no digit; or digits worth more than the largest word.
 abbrev pub ReadsDecimal : List ℕ → Decimal → Type 0
 ReadsDecimal s (decimal.Value v) = Typed s × (worthOf s ≡ v) × (v ≤ maxWord)
 ReadsDecimal s decimal.Empty = length s ≡ 0

@@ -123,7 +123,7 @@ runs-are-sound (call ∷ earlier) t c b r v (run, out, s) g =
     verdict-right t c b (answer.Refused l p d) v k s g = absurd g
 
 -- The cursor of a start or of a granted move is right.
-renewed : (last : Call) (earlier : List Call) (t : List ℕ) → Run (last ∷ earlier) t → Renews last → CursorRight t (cursorOf last)
+pub renewed : (last : Call) (earlier : List Call) (t : List ℕ) → Run (last ∷ earlier) t → Renews last → CursorRight t (cursorOf last)
 renewed (start (Granted d)) [] t r n = start-right r
 renewed (start (Refused k p d)) [] t r n = absurd r
 renewed (slice c b a) [] t r n = absurd r

@@ -25,7 +25,7 @@ use Rattle.demands.specs.Verdicts.{Verdict, violated, Gives}
 use Rattle.demands.specs.Runs.{Call, cursorOfAnswer, cursorOf, HandedOut, Run}
 use Rattle.demands.specs.Runs as runs
 use Rattle.demands.specs.HostRuns.{savedIn, HostCall, start, slice, move-leg, leftBy, LeftBy, NotRefused, SliceMade, HostRun}
-use Rattle.demands.specs.DemandThreeForC.{HostGives, HostSince, HostRenews, newestLeft, hostBudgets, HostHasVerdict, HostRunsAreSound, HostRunsEndInTime, DemandThreeForC}
+use Rattle.demands.specs.DemandThreeForC.{HostGives, HostSince, HostRenews, newestLeft, hostBudgets, HostHasVerdict, HostRunsAreSound, HostRunsEndInTime}
 use Rattle.host.proofs.OneAnswer.{saved-one}
 use Rattle.demands.proofs.HostCalls.{start-carried, slice-carried, move-carried, slices-of, moves-of}
 use Rattle.demands.proofs.DemandThree.{runs-are-sound, runs-end-in-time}
@@ -39,7 +39,7 @@ pub record SliceMirrored (s : List ℕ) (n : ℕ) (a : Answer) (out : List ℕ) 
   pub left : ReadsCursor (savedIn out) (read.Saved (cursorOfAnswer x))
 
 -- A call for C is a call of the run: it was given the same cursor and left the one that was handed out.
-abbrev Mirrors : HostCall → Call → Type 0
+abbrev pub Mirrors : HostCall → Call → Type 0
 Mirrors (start a out) (runs.start (grant.Granted d)) = ReadsCursor (savedIn out) (read.Saved d)
 Mirrors (start a out) (runs.start (grant.Refused k p d)) = ⊥
 Mirrors (start a out) (runs.slice c b x) = ⊥
@@ -52,14 +52,14 @@ Mirrors (move-leg s l o a m) (runs.slice c b x) = ⊥
 Mirrors (move-leg s l o a m) (runs.move-leg c k p (grant.Granted d)) = ReadsCursor (savedIn (m .out)) (read.Saved d)
 Mirrors (move-leg s l o a m) (runs.move-leg c k p (grant.Refused i j d)) = ⊥
 
-abbrev AllMirror : List HostCall → List Call → Type 0
+abbrev pub AllMirror : List HostCall → List Call → Type 0
 AllMirror [] [] = Unit {0}
 AllMirror [] (c ∷ cs) = ⊥
 AllMirror (h ∷ hs) [] = ⊥
 AllMirror (h ∷ hs) (c ∷ cs) = Mirrors h c × AllMirror hs cs
 
 -- What a call left reads as the cursor that its mirror handed out.
-left-is : (h : HostCall) (c : Call) → Mirrors h c → ReadsCursor (savedIn (leftBy h)) (read.Saved (cursorOf c))
+pub left-is : (h : HostCall) (c : Call) → Mirrors h c → ReadsCursor (savedIn (leftBy h)) (read.Saved (cursorOf c))
 left-is (start a out) (runs.start (grant.Granted d)) m = m
 left-is (start a out) (runs.start (grant.Refused k p d)) m = absurd m
 left-is (start a out) (runs.slice c b x) m = absurd m
@@ -101,7 +101,7 @@ carry-slice call calls plan cursor budget a out i l y =
       mirrored = (record { given = c .1; budget = refl; not-refused = y .not-refused; answer = s .answer; left = s .left }, i .mirrored);
     }
 
-carried : (calls : List HostCall) (plan : List ℕ) → HostRun calls plan → Carried calls plan
+pub carried : (calls : List HostCall) (plan : List ℕ) → HostRun calls plan → Carried calls plan
 carried [] plan x = absurd x
 carried (start a out ∷ []) plan x =
     let s = start-carried plan (x .out) a out (x .not-refused) (x .starts) in
@@ -219,7 +219,7 @@ pub record PartIs (hs : List HostCall) (cs : List Call) (c : Call) : Type 0 wher
   pub budgets : runs.budgets cs ≡ hostBudgets hs
   pub verdict : runs.HasVerdict cs → HostHasVerdict hs
 
-told-to-c : (x : SliceAnswer) (a : Answer) (out : List ℕ) (v : Verdict) → a ≡ sliceAnswered x → ReadsCursor (savedIn out) (read.Saved (cursorOfAnswer x)) → Gives x v
+pub told-to-c : (x : SliceAnswer) (a : Answer) (out : List ℕ) (v : Verdict) → a ≡ sliceAnswered x → ReadsCursor (savedIn out) (read.Saved (cursorOfAnswer x)) → Gives x v
     → HostGives a out v
 told-to-c (answer.Violated d n r) a out v e l g = inr (record { rule = r; cursor = d; result = ap resultAlone e; saved = l; is = g })
 told-to-c (answer.NothingViolated d n) a out v e l g = inl (ap resultAlone e, g)
@@ -267,6 +267,3 @@ host-runs-end-in-time first part last earlier plan t run r s f b =
     let e = same-file (i .file) f in
     let again = subst (λ (cs : List Call). Run cs t) (p .is) (subst (Run (i .latest ∷ i .earlier)) e (i .run)) in
     in-time-of first part last earlier t (p .front) (p .back) (p .front-mirrors) (p .back-mirrors) again r s b
-
-pub demand-three-for-c : DemandThreeForC
-demand-three-for-c = record { sound = host-runs-are-sound; in-time = host-runs-end-in-time }

@@ -6,4 +6,5 @@ pub mod DemandThree
 pub mod SavedCursors
 pub mod HostCalls
 pub mod HostRuns
+pub mod HostGoOn
 pub mod AtNumbers

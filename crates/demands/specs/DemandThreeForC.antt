@@ -3,20 +3,23 @@ use Prim.Native.Nat.{ℕ, _+_, _≤_}
 use mathlib.Core.Path.{_≡_}
 use mathlib.Core.List.{List, [], _∷_, _++_}
 use mathlib.Core.Logic.{_⊎_}
+use lib.ListN.{length}
 use Rattle.table.specs.Layout.{Sized}
 use Rattle.files.specs.Reading.{IsFile}
 use Rattle.files.specs.Cursors.{ReadsCursor}
+use Rattle.files.specs.Theorems.{maxCursorBytes}
 use Rattle.files.specs.declared.Cursor.{Cursor}
 use Rattle.files.specs.declared.CursorRead.the-variants as read
 use Rattle.rules.specs.declared.Rule.{Rule}
 use Rattle.places.specs.Order.{placeCount}
 use Rattle.host.specs.Answers.{ruleResult}
+use Rattle.host.specs.Calls.{HostStarts, HostSlices}
 use Rattle.host.specs.declared.Answer.{Answer}
 use Rattle.demands.specs.Verdicts.{Verdict, violated, nothing-violated}
 use Rattle.demands.specs.DemandThree.{Sound}
-use Rattle.demands.specs.HostRuns.{savedIn, HostCall, start, slice, move-leg, leftBy, HostRun}
+use Rattle.demands.specs.HostRuns.{savedIn, HostCall, start, slice, move-leg, leftBy, NotRefused, SliceMade, HostRun}
 
--- The verdict that C is given by a slice: 0, or a rule, whose place is in the cursor that it left.
+-- A rule is violated, at the place of the cursor that the slice left.
 pub record TellsPlace (a : Answer) (out : List ℕ) (v : Verdict) : Type 0 where
   pub rule : Rule
   pub cursor : Cursor
@@ -24,6 +27,7 @@ pub record TellsPlace (a : Answer) (out : List ℕ) (v : Verdict) : Type 0 where
   pub saved : ReadsCursor (savedIn out) (read.Saved cursor)
   pub is : v ≡ violated (cursor .leg) (cursor .place) rule
 
+-- The verdict that C is given by a slice: 0, or a rule with its place.
 abbrev pub HostGives : Answer → List ℕ → Verdict → Type 0
 HostGives a out v = ((a .result ≡ 0) × (v ≡ nothing-violated)) ⊎ TellsPlace a out v
 
@@ -71,10 +75,20 @@ HostHasVerdict (move-leg cursor leg offset a m ∷ part) = HostHasVerdict part
 -- Some slice of such a part gave a verdict, if a slice ran in it and the budgets add up to at least the number of places.
 abbrev pub HostRunsEndInTime : Type 0
 HostRunsEndInTime =
-    (first : HostCall) (part : List HostCall) (last : HostCall) (earlier : List HostCall) (plan t : List ℕ)
-    → HostRun ((first ∷ part) ++ last ∷ earlier) plan → HostRenews last → HostSince (first ∷ part) last
-    → IsFile Sized plan t → placeCount t ≤ hostBudgets (first ∷ part) → HostHasVerdict (first ∷ part)
+    (latest : HostCall) (part : List HostCall) (last : HostCall) (earlier : List HostCall) (plan t : List ℕ)
+    → HostRun ((latest ∷ part) ++ last ∷ earlier) plan → HostRenews last → HostSince (latest ∷ part) last
+    → IsFile Sized plan t → placeCount t ≤ hostBudgets (latest ∷ part) → HostHasVerdict (latest ∷ part)
+
+-- The calls go on: in a run no start is refused, nor a slice that is given the newest cursor, where 15 bytes are lent; and a slice that did not pause gave a verdict.
+pub record HostRunsGoOn : Type 0 where
+  pub start : (calls : List HostCall) (plan out : List ℕ) (a : Answer) (out′ : List ℕ)
+      → HostRun calls plan → maxCursorBytes ≤ length out → HostStarts plan out a out′ → NotRefused a
+  pub slice : (latest : HostCall) (earlier : List HostCall) (plan : List ℕ) (budget : ℕ) (out : List ℕ) (a : Answer) (out′ : List ℕ)
+      → HostRun (latest ∷ earlier) plan → maxCursorBytes ≤ length out → HostSlices plan (savedIn (leftBy latest)) budget out a out′ → NotRefused a
+  pub verdict : (plan cursor : List ℕ) (budget : ℕ) (a : Answer) (out : List ℕ)
+      → SliceMade plan cursor budget a out → (a .result ≡ 1 → ⊥) → (v : Verdict) × HostGives a out v
 
 pub record DemandThreeForC : Type 0 where
   pub sound : HostRunsAreSound
   pub in-time : HostRunsEndInTime
+  pub go-on : HostRunsGoOn

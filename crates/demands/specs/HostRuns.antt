@@ -23,7 +23,7 @@ upToClosing (suc n) (b ∷ bs) = b ∷ pick (ltb b groupValues) (upToClosing n b
 abbrev pub savedIn : List ℕ → List ℕ
 savedIn out = upToClosing cursorNumbers out
 
--- A call that was not refused: what it was handed besides the plan, its answer, and the bytes that it left.
+-- A call: what it was handed besides the plan, its answer, and the bytes that it left. In a run none was refused.
 pub data HostCall : Type 0 where
   start : Answer → List ℕ → HostCall
   slice : List ℕ → ℕ → Answer → List ℕ → HostCall

@@ -52,7 +52,7 @@ pub saved-one : (s : List ℕ) (c d : Cursor) → ReadsCursor s (read.Saved c) �
 unfolding cursor-of
 saved-one s c d f g = ap cursor-of (read-cursor-one-answer s (read.Saved c) (read.Saved d) f g)
 
-saved-not-unread : (s : List ℕ) (c : Cursor) (k p : ℕ) → ReadsCursor s (read.Saved c) → CursorUnread s k p → ⊥
+pub saved-not-unread : (s : List ℕ) (c : Cursor) (k p : ℕ) → ReadsCursor s (read.Saved c) → CursorUnread s k p → ⊥
 unfolding is-saved
 saved-not-unread s c k p f g = let e : _≡_ {A = ℕ} 1 0 = ap is-saved (read-cursor-one-answer s (read.Saved c) (read.Refused k p) f g) in omega arith
 

@@ -11,13 +11,13 @@ pub record Kept (s first other : List ℕ) : Type 0 where
   pub size : length first ≤ maxWord
   pub whole : s ≡ bytesOf (length first) ++ (first ++ other)
 
--- The plan p is one of those that were seen.
+-- The plan p is one of those that were seen. (Where there is no other one, an empty plan counts as seen; it is no plan, and refused with 12 before this is asked.)
 pub record Known (s p : List ℕ) : Type 0 where
   pub first : List ℕ
   pub other : List ℕ
   pub kept : Kept s first other
   pub is : (first ≡ p) ⊎ (other ≡ p)
 
--- The plan p stands in front of a position, or behind it.
+-- Of two plans one behind the other, the first of which has so many bytes, p is the one or the other.
 abbrev pub KnownParts : List ℕ → ℕ → List ℕ → Type 0
 KnownParts s at p = (take at s ≡ p) ⊎ (drop at s ≡ p)
