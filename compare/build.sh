@@ -42,7 +42,8 @@ build_comparison() {
     build host staticlib target/staticlib/libhost.a
     find_c
     need rustc rustc
-    make_if_old driver .built/host compare/driver.c -- "$c_compiler" -O2 -static compare/driver.c .built/host -o
+    make_if_old driver .built/libhost.a include/conepalhui.h compare/driver.c -- \
+        "$c_compiler" -O2 -static -Iinclude compare/driver.c .built/libhost.a -o
     make_if_old compare compare/*.rs -- rustc --edition 2021 -O compare/compare.rs -o
 }
 
@@ -72,8 +73,7 @@ build_benchmark() {
         need qemu-x86_64 qemu-user
     fi
     rust=$(rust_for_x86_64) || stop "there is no compiler of Rust for x86-64"
-    mkdir -p .built/compare && cp .built/host .built/compare/libhost.a || stop "cannot copy the archive"
-    make_if_old bench .built/host compare/*.rs -- "$rust" --edition 2021 -C opt-level=3 --target "$rust_target" \
-        -C linker="$c_compiler" -L native=.built/compare -l static=host compare/bench.rs -o
+    make_if_old bench .built/libhost.a compare/*.rs -- "$rust" --edition 2021 -C opt-level=3 --target "$rust_target" \
+        -C linker="$c_compiler" -L native=.built -l static=host compare/bench.rs -o
     ((${#emulator[@]} == 0)) || emulator=(qemu-x86_64)
 }

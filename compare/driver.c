@@ -16,13 +16,7 @@
 #include <sys/mman.h>
 #include <unistd.h>
 
-uint32_t conepalhui_slice(const uint8_t *plan, size_t plan_len, const uint8_t *cursor, size_t cursor_len,
-                          uint32_t budget, uint8_t *out, size_t out_len);
-uint64_t conepalhui_slice_full(const uint8_t *plan, size_t plan_len, const uint8_t *cursor, size_t cursor_len,
-                               uint32_t budget, uint8_t *out, size_t out_len);
-uint64_t conepalhui_start(const uint8_t *plan, size_t plan_len, uint8_t *out, size_t out_len);
-uint64_t conepalhui_move(const uint8_t *plan, size_t plan_len, const uint8_t *cursor, size_t cursor_len, uint32_t leg,
-                         uint32_t offset, uint8_t *new_plan, size_t new_plan_len, uint8_t *out, size_t out_len);
+#include "conepalhui.h"
 
 enum { SLICE, SLICE_FULL, START, MOVE, FLUSH };
 enum { PLAN, CURSOR, NEW_PLAN, OUT, BUFFERS };
