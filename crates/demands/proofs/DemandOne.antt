@@ -3,7 +3,8 @@ use Rattle.numbers.proofs.OneNumber.{read-number-one-answer, write-number-one-a
 use Rattle.decimal.proofs.OneAnswer.{read-decimal-one-answer}
 use Rattle.files.proofs.OneAnswer.{read-plan-one-answer, write-plan-one-answer, read-cursor-one-answer, write-cursor-one-answer}
 use Rattle.checker.proofs.OneAnswer.{start-one-answer, slice-one-answer, move-one-answer}
-use Rattle.host.proofs.OneAnswer.{host-slice-one-answer, host-refusal-writes-nothing}
+use Rattle.host.proofs.OneAnswer.{host-start-one-answer, host-slice-one-answer, host-slice-full-one-answer, host-move-one-answer}
+use Rattle.host.proofs.Outcomes.{host-refusals-write-nothing}
 use Rattle.demands.specs.DemandOne.{DemandOne}
 
 pub demand-one : DemandOne
@@ -19,7 +20,10 @@ demand-one = record {
     start = start-one-answer;
     slice = slice-one-answer;
     move-leg = move-one-answer;
+    host-start = host-start-one-answer;
     host-slice = host-slice-one-answer;
+    host-slice-full = host-slice-full-one-answer;
+    host-move = host-move-one-answer;
   };
   nothing-lost = record {
     write-number = λ x at k p b b′ w. w .kept;
@@ -29,6 +33,6 @@ demand-one = record {
     start = λ t d k p w. w .1;
     slice = λ t c d b k p w. w .1;
     move-leg = λ t t′ c d leg offset k p w. (w .2, w .1);
-    host-slice = host-refusal-writes-nothing;
+    host = host-refusals-write-nothing;
   };
 }

@@ -3,4 +3,7 @@ pub mod Verdicts
 pub mod DemandTwo
 pub mod Runs
 pub mod DemandThree
+pub mod SavedCursors
+pub mod HostCalls
+pub mod HostRuns
 pub mod AtNumbers

@@ -16,7 +16,7 @@ use Rattle.files.specs.declared.CursorWritten.the-variants as saved
 use Rattle.checker.specs.Slices.{noCursor, Starts, Slices}
 use Rattle.checker.specs.Moves.{Moves}
 use Rattle.checker.specs.Theorems.{StartOneAnswer, SliceOneAnswer, MoveOneAnswer}
-use Rattle.host.specs.Theorems.{HostSliceOneAnswer, HostRefusalWritesNothing}
+use Rattle.host.specs.Theorems.{HostStartOneAnswer, HostSliceOneAnswer, HostSliceFullOneAnswer, HostMoveOneAnswer, HostRefusalsWriteNothing}
 use Rattle.checker.specs.declared.Grant.the-variants as grant
 use Rattle.checker.specs.declared.SliceAnswer.the-variants as answer
 
@@ -32,7 +32,10 @@ pub record OneAnswerEach : Type 0 where
   pub start : StartOneAnswer
   pub slice : SliceOneAnswer
   pub move-leg : MoveOneAnswer
+  pub host-start : HostStartOneAnswer
   pub host-slice : HostSliceOneAnswer
+  pub host-slice-full : HostSliceFullOneAnswer
+  pub host-move : HostMoveOneAnswer
 
 -- A refused call leaves the lent memory b, or the table t, as it was, and gives back the cursor c. A start is given none, and gives 0, 0, 0. The calls
 -- that are not named here are lent nothing to write and are given no cursor.
@@ -44,7 +47,7 @@ pub record RefusalsLoseNothing : Type 0 where
   pub start : (t : List ℕ) (d : Cursor) (k p : ℕ) → Starts t (grant.Refused k p d) → d ≡ noCursor
   pub slice : (t : List ℕ) (c d : Cursor) (budget k p : ℕ) → Slices t c budget (answer.Refused k p d) → d ≡ c
   pub move-leg : (t t′ : List ℕ) (c d : Cursor) (leg offset k p : ℕ) → Moves t c leg offset (grant.Refused k p d) t′ → (t′ ≡ t) × (d ≡ c)
-  pub host-slice : HostRefusalWritesNothing
+  pub host : HostRefusalsWriteNothing
 
 pub record DemandOne : Type 0 where
   pub one-answer : OneAnswerEach

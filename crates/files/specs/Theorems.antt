@@ -69,7 +69,7 @@ abbrev pub maxCursorBytes : ℕ
 maxCursorBytes = maxNumberBytes * cursorNumbers
 
 abbrev pub FileBytesAtMost : Type 0
-FileBytesAtMost = (maxFileBytes ≡ 48665) × ((t : List ℕ) → Sized t → Words t → length (fileOf t) ≤ maxFileBytes)
+FileBytesAtMost = (maxFileBytes ≡ 48665) × ((t : List ℕ) → Sized t → length (fileOf t) ≤ maxFileBytes)
 
 abbrev pub CursorBytesAtMost : Type 0
-CursorBytesAtMost = (maxCursorBytes ≡ 15) × ((c : Cursor) → Words (cursorWords c) → length (cursorFile c) ≤ maxCursorBytes)
+CursorBytesAtMost = (maxCursorBytes ≡ 15) × ((c : Cursor) → length (cursorFile c) ≤ maxCursorBytes)

@@ -1,2 +1,5 @@
 pub mod Laws
+pub mod Steps
 pub mod OneAnswer
+pub mod Outcomes
+pub mod MoveRoom

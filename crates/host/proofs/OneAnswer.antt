@@ -1,27 +1,40 @@
--- The host's slice has one result and leaves one memory, since each stage has one answer. Assumes nothing.
-use Prim.Native.Nat.{ℕ, _≤_}
-use mathlib.Core.Path.{_≡_, refl, _∙_, sym, ap, subst}
+-- Each call for C has one answer and leaves one memory, since each stage has one. Assumes nothing.
+use Prim.Native.Nat.{ℕ}
+use mathlib.Core.Path.{_≡_, _∙_, sym, ap, subst}
 use mathlib.Core.List.{List}
 use mathlib.Core.Logic.{inl, inr}
 use native.Mathlib.Omega.{arith}
+use lib.ListN.{length}
+use Rattle.numbers.specs.Series.{fileOf}
 use Rattle.files.specs.Cursors.{ReadsCursor}
+use Rattle.files.specs.Plan.{PlanFault}
+use Rattle.files.specs.Theorems.{maxCursorBytes}
 use Rattle.files.specs.declared.Cursor.{Cursor}
 use Rattle.files.specs.declared.CursorRead.{CursorRead}
 use Rattle.files.specs.declared.CursorRead.the-variants as read
 use Rattle.files.proofs.OneAnswer.{plan-fault-one, file-no-fault, same-file, read-cursor-one-answer}
-use Rattle.rules.specs.declared.Rule.{Rule}
-use Rattle.rules.specs.declared.Rule.the-variants as rule
-use Rattle.checker.specs.declared.SliceAnswer.{SliceAnswer}
-use Rattle.checker.specs.declared.SliceAnswer.the-variants as answer
-use Rattle.checker.proofs.OneAnswer.{slice-one-answer}
-use Rattle.host.specs.Results.{refusedResult, ruleResult, resultOf, bytesAfter}
-use Rattle.host.specs.Slice.{SlicesFrom, SlicesTable}
-use Rattle.host.specs.Theorems.{HostSliceOneAnswer, HostRefusalWritesNothing, ResultsOfThePaper}
+use Rattle.places.specs.Order.{placeCount}
+use Rattle.checker.specs.declared.Grant.{Grant}
+use Rattle.checker.specs.declared.Grant.the-variants as grant
+use Rattle.checker.proofs.OneAnswer.{start-one-answer, slice-one-answer, move-one-answer}
+use Rattle.host.specs.declared.Answer.{Answer}
+use Rattle.host.specs.Answers.{refusal, sliceAnswered, startAnswered, bytesAfterSlice, bytesAfterStart, inHalves, resultAlone}
+use Rattle.host.specs.Refusals.{RefusedFor, CursorUnread, TooFew, AfterPlan, AfterCursor, AfterRoom}
+use Rattle.host.specs.Calls.{Lent, AfterMove, BothWritten, Started, Sliced, MoveMade, StartsTable, SlicesTable, MovesTable, HostStarts, HostSlices, HostMoves, Returns}
+use Rattle.host.specs.Theorems.{OneNumber, HostStartOneAnswer, HostSliceFullOneAnswer, HostSliceOneAnswer, HostMoveOneAnswer}
+
+-- Whatever Does says of a call has one answer and leaves one memory.
+abbrev pub One : (M : Type 0) → (Answer → M → Type 0) → Type 0
+One M Does = (a b : Answer) (m n : M) → Does a m → Does b n → (a ≡ b) × (m ≡ n)
 
 -- What was read of a cursor, as numbers and a cursor.
-refused? : CursorRead → ℕ
-refused? (read.Saved c) = 0
-refused? (read.Refused k p) = k
+number-of : CursorRead → ℕ
+number-of (read.Saved c) = 0
+number-of (read.Refused k p) = k
+
+position-of : CursorRead → ℕ
+position-of (read.Saved c) = 0
+position-of (read.Refused k p) = p
 
 cursor-of : CursorRead → Cursor
 cursor-of (read.Saved c) = c
@@ -31,73 +44,107 @@ is-saved : CursorRead → ℕ
 is-saved (read.Saved c) = 1
 is-saved (read.Refused k p) = 0
 
-number-one : (s : List ℕ) (k p l q : ℕ) → ReadsCursor s (read.Refused k p) → ReadsCursor s (read.Refused l q) → k ≡ l
-unfolding refused?
-number-one s k p l q f g = ap refused? (read-cursor-one-answer s (read.Refused k p) (read.Refused l q) f g)
+unread-one : (s : List ℕ) (k p l q : ℕ) → CursorUnread s k p → CursorUnread s l q → (k ≡ l) × (p ≡ q)
+unfolding number-of position-of
+unread-one s k p l q f g = let e = read-cursor-one-answer s (read.Refused k p) (read.Refused l q) f g in (ap number-of e, ap position-of e)
 
-saved-one : (s : List ℕ) (c d : Cursor) → ReadsCursor s (read.Saved c) → ReadsCursor s (read.Saved d) → c ≡ d
+pub saved-one : (s : List ℕ) (c d : Cursor) → ReadsCursor s (read.Saved c) → ReadsCursor s (read.Saved d) → c ≡ d
 unfolding cursor-of
 saved-one s c d f g = ap cursor-of (read-cursor-one-answer s (read.Saved c) (read.Saved d) f g)
 
-not-both : (s : List ℕ) (c : Cursor) (k p : ℕ) → ReadsCursor s (read.Saved c) → ReadsCursor s (read.Refused k p) → ⊥
+saved-not-unread : (s : List ℕ) (c : Cursor) (k p : ℕ) → ReadsCursor s (read.Saved c) → CursorUnread s k p → ⊥
 unfolding is-saved
-not-both s c k p f g = let e : _≡_ {A = ℕ} 1 0 = ap is-saved (read-cursor-one-answer s (read.Saved c) (read.Refused k p) f g) in omega arith
+saved-not-unread s c k p f g = let e : _≡_ {A = ℕ} 1 0 = ap is-saved (read-cursor-one-answer s (read.Saved c) (read.Refused k p) f g) in omega arith
 
-from-one : (t : List ℕ) (c : Cursor) (budget : ℕ) (out out′ out″ : List ℕ) (r r′ : ℕ)
-    → SlicesFrom t c budget out r out′ → SlicesFrom t c budget out r′ out″ → (r ≡ r′) × (out′ ≡ out″)
-from-one t c b out out′ out″ r r′ (inl x) (inl y) = (x .result ∙ sym (y .result), x .kept ∙ sym (y .kept))
-from-one t c b out out′ out″ r r′ (inl x) (inr y) = absurd (omega (arith, x .small, y .room))
-from-one t c b out out′ out″ r r′ (inr x) (inl y) = absurd (omega (arith, x .room, y .small))
-from-one t c b out out′ out″ r r′ (inr x) (inr y) =
-    let e = slice-one-answer t c b (x .answer) (y .answer) (x .slices) (y .slices) in
-    (x .result ∙ ap resultOf e ∙ sym (y .result), x .after ∙ ap (bytesAfter out) e ∙ sym (y .after))
+too-few-one : (lent needed k p l q : ℕ) → TooFew lent needed k p → TooFew lent needed l q → (k ≡ l) × (p ≡ q)
+too-few-one lent needed k p l q x y = (x .number ∙ sym (y .number), x .position ∙ sym (y .position))
 
-table-one : (t cursor : List ℕ) (budget : ℕ) (out out′ out″ : List ℕ) (r r′ : ℕ)
-    → SlicesTable t cursor budget out r out′ → SlicesTable t cursor budget out r′ out″ → (r ≡ r′) × (out′ ≡ out″)
-table-one t s b out out′ out″ r r′ (inl x) (inl y) =
-    let e = number-one s (x .number) (x .at) (y .number) (y .at) (x .fault) (y .fault) in
-    (x .result ∙ ap refusedResult e ∙ sym (y .result), x .kept ∙ sym (y .kept))
-table-one t s b out out′ out″ r r′ (inl x) (inr (d, g, y)) = absurd (not-both s d (x .number) (x .at) g (x .fault))
-table-one t s b out out′ out″ r r′ (inr (c, f, x)) (inl y) = absurd (not-both s c (y .number) (y .at) f (y .fault))
-table-one t s b out out′ out″ r r′ (inr (c, f, x)) (inr (d, g, y)) =
-    from-one t c b out out′ out″ r r′ x (subst (λ (e : Cursor). SlicesFrom t e b out r′ out″) (saved-one s d c g f) y)
+-- The stages.
+module _ (M : Type 0) (m : M) where
+  refused-one : (Fault : ℕ → ℕ → Type 0) → ((k p l q : ℕ) → Fault k p → Fault l q → (k ≡ l) × (p ≡ q)) → One M (RefusedFor M Fault m)
+  refused-one Fault one a b x y u v =
+      let e = one (u .number) (u .at) (v .number) (v .at) (u .fault) (v .fault) in (
+        u .answer ∙ ap (λ (k : ℕ). refusal k (u .at)) (e .0) ∙ ap (refusal (v .number)) (e .1) ∙ sym (v .answer),
+        u .kept ∙ sym (v .kept),
+      )
+
+  after-plan-one : (s : List ℕ) (Then : List ℕ → Answer → M → Type 0) → ((t : List ℕ) → One M (Then t)) → One M (AfterPlan M s m Then)
+  after-plan-one s Then one a b x y (inl u) (inl v) = refused-one (PlanFault s) (plan-fault-one s) a b x y u v
+  after-plan-one s Then one a b x y (inl u) (inr (t, f, v)) = absurd (file-no-fault f (u .fault))
+  after-plan-one s Then one a b x y (inr (t, f, u)) (inl v) = absurd (file-no-fault f (v .fault))
+  after-plan-one s Then one a b x y (inr (t, f, u)) (inr (w, g, v)) = one t a b x y u (subst (λ (z : List ℕ). Then z b y) (same-file g f) v)
+
+  after-cursor-one : (s : List ℕ) (Then : Cursor → Answer → M → Type 0) → ((c : Cursor) → One M (Then c)) → One M (AfterCursor M s m Then)
+  after-cursor-one s Then one a b x y (inl u) (inl v) = refused-one (CursorUnread s) (unread-one s) a b x y u v
+  after-cursor-one s Then one a b x y (inl u) (inr (c, f, v)) = absurd (saved-not-unread s c (u .number) (u .at) f (u .fault))
+  after-cursor-one s Then one a b x y (inr (c, f, u)) (inl v) = absurd (saved-not-unread s c (v .number) (v .at) f (v .fault))
+  after-cursor-one s Then one a b x y (inr (c, f, u)) (inr (d, g, v)) = one c a b x y u (subst (λ (z : Cursor). Then z b y) (saved-one s d c g f) v)
+
+  after-room-one : (lent needed : ℕ) (Then : Answer → M → Type 0) → One M Then → One M (AfterRoom M lent needed m Then)
+  after-room-one lent needed Then one a b x y (inl u) (inl v) = refused-one (TooFew lent needed) (too-few-one lent needed) a b x y u v
+  after-room-one lent needed Then one a b x y (inl u) (inr v) = absurd (omega (arith, u .fault .fewer, v .0))
+  after-room-one lent needed Then one a b x y (inr u) (inl v) = absurd (omega (arith, u .0, v .fault .fewer))
+  after-room-one lent needed Then one a b x y (inr u) (inr v) = one a b x y (u .1) (v .1)
+
+-- The calls.
+started-one : (t out : List ℕ) → One (List ℕ) (Started t out)
+started-one t out a b x y u v =
+    let e = start-one-answer t (u .given) (v .given) (u .starts) (v .starts) in
+    (u .answer ∙ ap (startAnswered (placeCount t)) e ∙ sym (v .answer), u .after ∙ ap (bytesAfterStart out) e ∙ sym (v .after))
+
+sliced-one : (t : List ℕ) (c : Cursor) (budget : ℕ) (out : List ℕ) → One (List ℕ) (Sliced t c budget out)
+sliced-one t c budget out a b x y u v =
+    let e = slice-one-answer t c budget (u .given) (v .given) (u .slices) (v .slices) in
+    (u .answer ∙ ap sliceAnswered e ∙ sym (v .answer), u .after ∙ ap (bytesAfterSlice out) e ∙ sym (v .after))
+
+written-one : (u : List ℕ) (d : Cursor) (m : Lent) → One Lent (BothWritten u d m)
+written-one u d m a b x y v w = (v .answer ∙ sym (w .answer), v .after ∙ sym (w .after))
+
+after-move-one : (g : Grant) (u : List ℕ) (m : Lent) → One Lent (AfterMove g u m)
+after-move-one (grant.Granted d) u m a b x y v w =
+    after-room-one Lent m (length (m .file)) (length (fileOf u)) (BothWritten u d m) (written-one u d m) a b x y v w
+after-move-one (grant.Refused k p d) u m a b x y v w = (v .0 ∙ sym (w .0), v .1 ∙ sym (w .1))
+
+move-made-one : (t : List ℕ) (c : Cursor) (leg offset : ℕ) (m : Lent) → One Lent (MoveMade t c leg offset m)
+move-made-one t c leg offset m a b x y u v =
+    let e = move-one-answer t c leg offset (v .given) (u .given) (v .table) (u .table) (v .moves) (u .moves) in
+    let w = subst (λ (g : Grant). AfterMove g (v .table) m b y) (e .0) (v .after) in
+    after-move-one (u .given) (u .table) m a b x y (u .after) (subst (λ (z : List ℕ). AfterMove (u .given) z m b y) (e .1) w)
+
+starts-one : (plan out : List ℕ) → One (List ℕ) (HostStarts plan out)
+starts-one plan out =
+    after-plan-one (List ℕ) out plan (λ (t : List ℕ). StartsTable t out)
+    (λ t. after-room-one (List ℕ) out (length out) maxCursorBytes (Started t out) (started-one t out))
+
+pub slices-one : (plan cursor : List ℕ) (budget : ℕ) (out : List ℕ) → One (List ℕ) (HostSlices plan cursor budget out)
+slices-one plan cursor budget out =
+    after-plan-one (List ℕ) out plan (λ (t : List ℕ). AfterCursor (List ℕ) cursor out (λ (c : Cursor). SlicesTable t c budget out))
+    (λ t. after-cursor-one (List ℕ) out cursor (λ (c : Cursor). SlicesTable t c budget out)
+    (λ c. after-room-one (List ℕ) out (length out) maxCursorBytes (Sliced t c budget out) (sliced-one t c budget out)))
+
+moves-one : (plan cursor : List ℕ) (leg offset : ℕ) (m : Lent) → One Lent (HostMoves plan cursor leg offset m)
+moves-one plan cursor leg offset m =
+    after-plan-one Lent m plan (λ (t : List ℕ). AfterCursor Lent cursor m (λ (c : Cursor). MovesTable t c leg offset m))
+    (λ t. after-cursor-one Lent m cursor (λ (c : Cursor). MovesTable t c leg offset m)
+    (λ c. after-room-one Lent m (length (m .out)) maxCursorBytes (MoveMade t c leg offset m) (move-made-one t c leg offset m)))
+
+-- The number that C gets.
+returns-one : (M : Type 0) (tell : Answer → ℕ) (Does : Answer → M → Type 0) → One M Does → OneNumber M (Returns M tell Does)
+returns-one M tell Does one r s x y u v =
+    let e = one (u .answer) (v .answer) x y (u .does) (v .does) in
+    (u .is ∙ ap tell (e .0) ∙ sym (v .is), e .1)
+
+pub host-start-one-answer : HostStartOneAnswer
+host-start-one-answer plan out = returns-one (List ℕ) inHalves (HostStarts plan out) (starts-one plan out)
+
+pub host-slice-full-one-answer : HostSliceFullOneAnswer
+host-slice-full-one-answer plan cursor budget out =
+    returns-one (List ℕ) inHalves (HostSlices plan cursor budget out) (slices-one plan cursor budget out)
 
 pub host-slice-one-answer : HostSliceOneAnswer
-host-slice-one-answer plan s b out out′ out″ r r′ (inl x) (inl y) =
-    let e = plan-fault-one plan (x .number) (x .at) (y .number) (y .at) (x .fault) (y .fault) .0 in
-    (x .result ∙ ap refusedResult e ∙ sym (y .result), x .kept ∙ sym (y .kept))
-host-slice-one-answer plan s b out out′ out″ r r′ (inl x) (inr (u, g, y)) = absurd (file-no-fault g (x .fault))
-host-slice-one-answer plan s b out out′ out″ r r′ (inr (t, f, x)) (inl y) = absurd (file-no-fault f (y .fault))
-host-slice-one-answer plan s b out out′ out″ r r′ (inr (t, f, x)) (inr (u, g, y)) =
-    table-one t s b out out′ out″ r r′ x (subst (λ (v : List ℕ). SlicesTable v s b out r′ out″) (same-file g f) y)
+host-slice-one-answer plan cursor budget out =
+    returns-one (List ℕ) resultAlone (HostSlices plan cursor budget out) (slices-one plan cursor budget out)
 
--- A rule's result is below a refusal's.
-rule-small : (x : Rule) → ruleResult x ≤ 5
-rule-small rule.Window = omega arith
-rule-small rule.Hop = omega arith
-rule-small rule.Deadline = omega arith
-rule-small rule.Overlap = omega arith
-
-kept-of : (out out′ : List ℕ) (r : ℕ) (a : SliceAnswer) → r ≡ resultOf a → out′ ≡ bytesAfter out a → refusedResult 0 ≤ r → out′ ≡ out
-kept-of out out′ r (answer.Violated d n x) e f h = absurd (omega (arith, e, rule-small x))
-kept-of out out′ r (answer.NothingViolated d n) e f h = absurd (omega (arith, e))
-kept-of out out′ r (answer.Paused d n) e f h = absurd (omega (arith, e))
-kept-of out out′ r (answer.Refused k p d) e f h = f
-
-pub host-refusal-writes-nothing : HostRefusalWritesNothing
-host-refusal-writes-nothing plan s b out out′ r (inl x) h = x .kept
-host-refusal-writes-nothing plan s b out out′ r (inr (t, f, inl x)) h = x .kept
-host-refusal-writes-nothing plan s b out out′ r (inr (t, f, inr (c, g, inl x))) h = x .kept
-host-refusal-writes-nothing plan s b out out′ r (inr (t, f, inr (c, g, inr x))) h = kept-of out out′ r (x .answer) (x .result) (x .after) h
-
-pub results-of-the-paper : ResultsOfThePaper
-results-of-the-paper = record {
-  nothing-violated = λ d n. refl;
-  paused = λ d n. refl;
-  window = λ d n. refl;
-  hop = λ d n. refl;
-  deadline = λ d n. refl;
-  overlap = λ d n. refl;
-  refused = λ k p d. refl;
-  room = refl;
-}
+pub host-move-one-answer : HostMoveOneAnswer
+host-move-one-answer plan cursor leg offset m =
+    returns-one Lent inHalves (HostMoves plan cursor leg offset m) (moves-one plan cursor leg offset m)

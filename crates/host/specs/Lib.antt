@@ -1,3 +1,5 @@
-pub mod Results
-pub mod Slice
+pub mod Answers
+pub mod Refusals
+pub mod Calls
+pub mod Steps
 pub mod Theorems

@@ -1,33 +1,94 @@
 -- What is proved of the calls for C.
-use Prim.Native.Nat.{ℕ, _+_, _≤_}
+use Prim.Native.Nat.{ℕ, _+_, _≤_, _/_, _%_}
 use mathlib.Core.Path.{_≡_}
 use mathlib.Core.List.{List}
+use lib.ListN.{length}
+use Rattle.numbers.specs.Number.{noRoom}
+use Rattle.files.specs.Plan.{PlanFault}
 use Rattle.files.specs.Theorems.{maxCursorBytes}
 use Rattle.files.specs.declared.Cursor.{Cursor}
 use Rattle.rules.specs.declared.Rule.the-variants as rule
+use Rattle.checker.specs.declared.Grant.the-variants as grant
 use Rattle.checker.specs.declared.SliceAnswer.the-variants as answer
-use Rattle.host.specs.Results.{refusedResult, resultOf}
-use Rattle.host.specs.Slice.{HostSlices}
+use Rattle.host.specs.declared.Answer.{Answer}
+use Rattle.host.specs.Answers.{refusedResult, answered, refusal, sliceAnswered, startAnswered, halfValues, inHalves, resultAlone}
+use Rattle.host.specs.Calls.{Lent, HostStarts, HostSlices, HostMoves, Returns}
 
--- The host's slice has one result and leaves one memory.
+-- Whatever Does says of a call: C gets one number, and one memory is left.
+abbrev pub OneNumber : (M : Type 0) → (ℕ → M → Type 0) → Type 0
+OneNumber M Does = (r s : ℕ) (m n : M) → Does r m → Does s n → (r ≡ s) × (m ≡ n)
+
+abbrev pub HostStartOneAnswer : Type 0
+HostStartOneAnswer = (plan out : List ℕ) → OneNumber (List ℕ) (Returns (List ℕ) inHalves (HostStarts plan out))
+
+-- The slice in full, and its result alone.
+abbrev pub HostSliceFullOneAnswer : Type 0
+HostSliceFullOneAnswer =
+    (plan cursor : List ℕ) (budget : ℕ) (out : List ℕ) → OneNumber (List ℕ) (Returns (List ℕ) inHalves (HostSlices plan cursor budget out))
+
 abbrev pub HostSliceOneAnswer : Type 0
 HostSliceOneAnswer =
-    (plan cursor : List ℕ) (budget : ℕ) (out out′ out″ : List ℕ) (r r′ : ℕ)
-    → HostSlices plan cursor budget out r out′ → HostSlices plan cursor budget out r′ out″ → (r ≡ r′) × (out′ ≡ out″)
+    (plan cursor : List ℕ) (budget : ℕ) (out : List ℕ) → OneNumber (List ℕ) (Returns (List ℕ) resultAlone (HostSlices plan cursor budget out))
 
--- A refusal, which is a result of 100 or more, writes nothing.
-abbrev pub HostRefusalWritesNothing : Type 0
-HostRefusalWritesNothing =
-    (plan cursor : List ℕ) (budget : ℕ) (out out′ : List ℕ) (r : ℕ)
-    → HostSlices plan cursor budget out r out′ → refusedResult 0 ≤ r → out′ ≡ out
+abbrev pub HostMoveOneAnswer : Type 0
+HostMoveOneAnswer = (plan cursor : List ℕ) (leg offset : ℕ) (m : Lent) → OneNumber Lent (Returns Lent inHalves (HostMoves plan cursor leg offset m))
 
--- The paper's results: 0 nothing violated, 1 paused, 2 to 5 violated (window, hop, deadline, overlap), 100 plus the refusal number; and 15 bytes.
+-- A refusal, which is a result of 100 or more, writes nothing to the memory m.
+abbrev pub Keeps : (M : Type 0) → M → (Answer → M → Type 0) → Type 0
+Keeps M m Does = (a : Answer) (m′ : M) → Does a m′ → refusedResult 0 ≤ a .result → m′ ≡ m
+
+pub record HostRefusalsWriteNothing : Type 0 where
+  pub start : (plan out : List ℕ) → Keeps (List ℕ) out (HostStarts plan out)
+  pub slice : (plan cursor : List ℕ) (budget : ℕ) (out : List ℕ) → Keeps (List ℕ) out (HostSlices plan cursor budget out)
+  pub move-leg : (plan cursor : List ℕ) (leg offset : ℕ) (m : Lent) → Keeps Lent m (HostMoves plan cursor leg offset m)
+
+-- C finds both numbers again in the one that it gets: the remainder and the quotient by 4,294,967,296.
+pub record HalvesTellBoth : Type 0 where
+  pub start : (plan out : List ℕ) (r : ℕ) (out′ : List ℕ)
+      → Returns (List ℕ) inHalves (HostStarts plan out) r out′ → HostStarts plan out (answered (r % halfValues) (r / halfValues)) out′
+  pub slice : (plan cursor : List ℕ) (budget : ℕ) (out : List ℕ) (r : ℕ) (out′ : List ℕ)
+      → Returns (List ℕ) inHalves (HostSlices plan cursor budget out) r out′ → HostSlices plan cursor budget out (answered (r % halfValues) (r / halfValues)) out′
+  pub move-leg : (plan cursor : List ℕ) (leg offset : ℕ) (m : Lent) (r : ℕ) (m′ : Lent)
+      → Returns Lent inHalves (HostMoves plan cursor leg offset m) r m′ → HostMoves plan cursor leg offset m (answered (r % halfValues) (r / halfValues)) m′
+
+-- The slice that gives its result alone gives the low half of the slice in full, and writes the same.
+abbrev pub SliceIsTheLowHalf : Type 0
+SliceIsTheLowHalf =
+    (plan cursor : List ℕ) (budget : ℕ) (out : List ℕ) (r s : ℕ) (out′ out″ : List ℕ)
+    → Returns (List ℕ) resultAlone (HostSlices plan cursor budget out) r out′
+    → Returns (List ℕ) inHalves (HostSlices plan cursor budget out) s out″
+    → (r ≡ s % halfValues) × (out′ ≡ out″)
+
+-- Which file a refusal 12, 13 or 14 lies in: a fault of the plan file comes before all else, in every call, and a start gives these numbers for no other.
+pub record PlanFaultsComeFirst : Type 0 where
+  pub start : (plan out : List ℕ) (k p : ℕ) (a : Answer) (out′ : List ℕ) → PlanFault plan k p → HostStarts plan out a out′ → a ≡ refusal k p
+  pub slice : (plan cursor : List ℕ) (budget : ℕ) (out : List ℕ) (k p : ℕ) (a : Answer) (out′ : List ℕ)
+      → PlanFault plan k p → HostSlices plan cursor budget out a out′ → a ≡ refusal k p
+  pub move-leg : (plan cursor : List ℕ) (leg offset : ℕ) (m : Lent) (k p : ℕ) (a : Answer) (m′ : Lent)
+      → PlanFault plan k p → HostMoves plan cursor leg offset m a m′ → a ≡ refusal k p
+  pub no-other : (plan out : List ℕ) (k p : ℕ) (out′ : List ℕ) → 12 ≤ k → k ≤ 14 → HostStarts plan out (refusal k p) out′ → PlanFault plan k p
+
+-- A move makes a plan file longer by 5 bytes at the most: 4 for the offset and 1 for the revision. So whoever lends that much more than the plan has for the new
+-- file, and 15 bytes for the cursor, is not refused with 15.
+abbrev pub moveBytes : ℕ
+moveBytes = 5
+
+abbrev pub MoveRoomIsEnough : Type 0
+MoveRoomIsEnough =
+    (plan cursor : List ℕ) (leg offset : ℕ) (m : Lent) (a : Answer) (m′ : Lent)
+    → maxCursorBytes ≤ length (m .out) → length plan + moveBytes ≤ length (m .file)
+    → HostMoves plan cursor leg offset m a m′ → a .result ≡ refusedResult noRoom → ⊥
+
+-- The answers at the paper's numbers: 0 nothing violated, 1 paused, 2 to 5 violated (window, hop, deadline, overlap), each with the steps; 100 plus the refusal
+-- number, with the position; and 15 bytes.
 pub record ResultsOfThePaper : Type 0 where
-  pub nothing-violated : (d : Cursor) (n : ℕ) → resultOf (answer.NothingViolated d n) ≡ 0
-  pub paused : (d : Cursor) (n : ℕ) → resultOf (answer.Paused d n) ≡ 1
-  pub window : (d : Cursor) (n : ℕ) → resultOf (answer.Violated d n rule.Window) ≡ 2
-  pub hop : (d : Cursor) (n : ℕ) → resultOf (answer.Violated d n rule.Hop) ≡ 3
-  pub deadline : (d : Cursor) (n : ℕ) → resultOf (answer.Violated d n rule.Deadline) ≡ 4
-  pub overlap : (d : Cursor) (n : ℕ) → resultOf (answer.Violated d n rule.Overlap) ≡ 5
-  pub refused : (k p : ℕ) (d : Cursor) → resultOf (answer.Refused k p d) ≡ 100 + k
+  pub nothing-violated : (d : Cursor) (n : ℕ) → sliceAnswered (answer.NothingViolated d n) ≡ answered 0 n
+  pub paused : (d : Cursor) (n : ℕ) → sliceAnswered (answer.Paused d n) ≡ answered 1 n
+  pub window : (d : Cursor) (n : ℕ) → sliceAnswered (answer.Violated d n rule.Window) ≡ answered 2 n
+  pub hop : (d : Cursor) (n : ℕ) → sliceAnswered (answer.Violated d n rule.Hop) ≡ answered 3 n
+  pub deadline : (d : Cursor) (n : ℕ) → sliceAnswered (answer.Violated d n rule.Deadline) ≡ answered 4 n
+  pub overlap : (d : Cursor) (n : ℕ) → sliceAnswered (answer.Violated d n rule.Overlap) ≡ answered 5 n
+  pub refused : (k p : ℕ) (d : Cursor) → sliceAnswered (answer.Refused k p d) ≡ answered (100 + k) p
+  pub started : (n : ℕ) (d : Cursor) → startAnswered n (grant.Granted d) ≡ answered 0 n
+  pub not-started : (n k p : ℕ) (d : Cursor) → startAnswered n (grant.Refused k p d) ≡ answered (100 + k) p
   pub room : maxCursorBytes ≡ 15

@@ -1,102 +1,136 @@
-// The calls for C, on bytes and numbers.
-ghost use mathlib.Core.Path.{_≡_};
-ghost use Prim.Native.Nat.{_≤_};
+// The calls for C, on bytes and numbers. Where a call returns 64 bits, the low 32 are the result and the high 32 the number beside it. What is lent to one call
+// may not overlap (include/conepalhui.h).
+ghost use Prim.Native.Nat.{ℕ, _≤_};
+ghost use mathlib.Core.List.{List};
 ghost use lib.ListN.{length};
-ghost use Rattle.numbers.specs.Series.{Words, overlaid};
 ghost use Rattle.table.specs.Layout.{maxTableWords};
-ghost use Rattle.files.specs.Cursors.{cursorWords, cursorFile};
-ghost use Rattle.files.specs.Theorems.{maxCursorBytes};
-ghost use Rattle.host.specs.Results.{refusedResult, ruleResult};
-ghost use Rattle.host.specs.Slice.{SlicesFrom, SlicesTable, HostSlices};
-use checker::SliceAnswer;
+ghost use Rattle.host.specs.Answers.{inHalves, resultAlone};
+ghost use Rattle.host.specs.Calls.{Lent, lent, HostStarts, HostSlices, HostMoves, Returns};
+ghost use Rattle.host.specs.Steps.{Opens};
 use files::Cursor;
 use files::CursorRead;
 use files::PlanRead;
-use rules::Rule;
 
-// What is added to a refusal's number.
-const REFUSED: u32 = 100;
+mod answers;
+mod tables;
 
-fn refused_result(number: u32) -> u32
-    requires { ⌜ number ≤ 15 ⌝ }
-    ensures { λ r. ⌜ r ≡ refusedResult number ⌝ }
-{
-    REFUSED + number
+// What C is told: a result (0 is nothing violated after a slice, and granted after a start or a move) and a number beside it. Refused, that is the position;
+// after a slice the steps, after a start the number of places, after a move the size of the new plan file.
+pub struct Answer {
+    pub result: u32,
+    pub beside: u32,
 }
 
-fn rule_result(rule: Rule) -> u32
-    ensures { λ r. ⌜ r ≡ ruleResult rule ⌝ }
-{
-    match rule {
-        Rule::Window => 2,
-        Rule::Hop => 3,
-        Rule::Deadline => 4,
-        Rule::Overlap => 5,
-    }
+// A plan file and a saved cursor read: how many words the table has and the cursor, or a refusal's number and position.
+pub enum Opened {
+    Both(usize, Cursor),
+    Refused(u32, usize),
 }
 
-// Writes a cursor to bytes that have room for any.
-fn put_back(cursor: Cursor, out: &mut [u8])
-    requires { ⌜ Words (cursorWords cursor) ⌝ }
-    requires { ⌜ maxCursorBytes ≤ length (now out) ⌝ }
-    ensures { λ r. ⌜ now (out .exit) ≡ overlaid (now (out .entry)) 0 (cursorFile cursor) ⌝ }
-{
-    files::write_cursor(cursor, out);
-}
-
-// The slice from a cursor, where there is room for the one that comes back.
-fn slice_from(t: &[u32], cursor: Cursor, budget: u32, out: &mut [u8]) -> u32
-    ensures { λ r. ⌜ SlicesFrom (now (t .entry)) cursor budget (now (out .entry)) r (now (out .exit)) ⌝ }
-{
-    if out.len() < files::MAX_CURSOR_BYTES {
-        return refused_result(numbers::NO_ROOM);
-    }
-    let told = checker::slice(t, cursor, budget);
-    match told {
-        SliceAnswer::Violated(at, steps, rule) => {
-            put_back(at, out);
-            rule_result(rule)
-        }
-        SliceAnswer::NothingViolated(end, steps) => {
-            put_back(end, out);
-            0
-        }
-        SliceAnswer::Paused(at, steps) => {
-            put_back(at, out);
-            1
-        }
-        SliceAnswer::Refused(number, at, given) => refused_result(number),
-    }
-}
-
-// The slice from the bytes of a cursor.
-fn slice_table(t: &[u32], cursor: &[u8], budget: u32, out: &mut [u8]) -> u32
-    ensures { λ r. ⌜ SlicesTable (now (t .entry)) (now (cursor .entry)) budget (now (out .entry)) r (now (out .exit)) ⌝ }
-{
-    let saved = files::read_cursor(cursor);
-    match saved {
-        CursorRead::Refused(number, at) => refused_result(number),
-        CursorRead::Saved(c) => slice_from(t, c, budget, out),
-    }
-}
-
-// The slice from the bytes of a plan, with lent words that have room for any table.
-fn slice_plan(plan: &[u8], cursor: &[u8], budget: u32, out: &mut [u8], words: &mut [u32]) -> u32
+// Reads a plan file into lent words that have room for any table, and a saved cursor.
+fn open_both(plan: &[u8], cursor: &[u8], words: &mut [u32]) -> Opened
     requires { ⌜ maxTableWords ≤ length (now words) ⌝ }
-    ensures { λ r. ⌜ HostSlices (now (plan .entry)) (now (cursor .entry)) budget (now (out .entry)) r (now (out .exit)) ⌝ }
+    ensures { λ r. ⌜ Opens (now (plan .entry)) (now (cursor .entry)) r (now (words .exit)) ⌝ }
 {
     let read = files::read_plan(plan, words);
     match read {
-        PlanRead::Refused(number, at) => refused_result(number),
-        PlanRead::Words(n) => slice_table(&words[..n], cursor, budget, out),
+        PlanRead::Refused(number, at) => Opened::Refused(number, at),
+        PlanRead::Words(n) => {
+            let saved = files::read_cursor(cursor);
+            match saved {
+                CursorRead::Refused(number, at) => Opened::Refused(number, at),
+                CursorRead::Saved(c) => Opened::Both(n, c),
+            }
+        }
     }
 }
 
-// The slice over a plan file and a saved cursor.
-#[no_mangle]
-pub extern "C" fn conepalhui_slice(plan: &[u8], cursor: &[u8], budget: u32, out: &mut [u8]) -> u32
+fn start_plan(plan: &[u8], out: &mut [u8], words: &mut [u32]) -> Answer
+    requires { ⌜ maxTableWords ≤ length (now words) ⌝ }
+    ensures { λ r. ⌜ HostStarts (now (plan .entry)) (now (out .entry)) r (now (out .exit)) ⌝ }
+{
+    let read = files::read_plan(plan, words);
+    match read {
+        PlanRead::Refused(number, at) => answers::refused(number, at),
+        PlanRead::Words(n) => tables::start_table(&words[..n], out),
+    }
+}
+
+fn slice_plan(plan: &[u8], cursor: &[u8], budget: u32, out: &mut [u8], words: &mut [u32]) -> Answer
+    requires { ⌜ maxTableWords ≤ length (now words) ⌝ }
     ensures { λ r. ⌜ HostSlices (now (plan .entry)) (now (cursor .entry)) budget (now (out .entry)) r (now (out .exit)) ⌝ }
 {
+    let read = open_both(plan, cursor, words);
+    match read {
+        Opened::Refused(number, at) => answers::refused(number, at),
+        Opened::Both(n, c) => tables::slice_table(&words[..n], c, budget, out),
+    }
+}
+
+fn move_plan(
+    plan: &[u8],
+    cursor: &[u8],
+    leg: u32,
+    offset: u32,
+    file: &mut [u8],
+    out: &mut [u8],
+    words: &mut [u32],
+) -> Answer
+    requires { ⌜ maxTableWords ≤ length (now words) ⌝ }
+    ensures { λ r. ⌜ HostMoves (now (plan .entry)) (now (cursor .entry)) leg offset (lent (now (file .entry)) (now (out .entry))) r (lent (now (file .exit)) (now (out .exit))) ⌝ }
+{
+    let read = open_both(plan, cursor, words);
+    match read {
+        Opened::Refused(number, at) => answers::refused(number, at),
+        Opened::Both(n, c) => tables::move_table(&mut words[..n], c, leg, offset, file, out),
+    }
+}
+
+// Starts a check of a plan file, and writes its first cursor.
+#[no_mangle]
+pub extern "C" fn conepalhui_start(plan: &[u8], out: &mut [u8]) -> u64
+    ensures { λ r. ⌜ Returns (List ℕ) inHalves (HostStarts (now (plan .entry)) (now (out .entry))) r (now (out .exit)) ⌝ }
+{
     let mut words = [0u32; table::MAX_TABLE_WORDS];
-    slice_plan(plan, cursor, budget, out, &mut words)
+    answers::in_halves(start_plan(plan, out, &mut words))
+}
+
+// The slice over a plan file and a saved cursor: the result alone.
+#[no_mangle]
+pub extern "C" fn conepalhui_slice(plan: &[u8], cursor: &[u8], budget: u32, out: &mut [u8]) -> u32
+    ensures { λ r. ⌜ Returns (List ℕ) resultAlone (HostSlices (now (plan .entry)) (now (cursor .entry)) budget (now (out .entry))) r (now (out .exit)) ⌝ }
+{
+    let mut words = [0u32; table::MAX_TABLE_WORDS];
+    let told = slice_plan(plan, cursor, budget, out, &mut words);
+    told.result
+}
+
+// The same slice, with the steps or the position beside the result.
+#[no_mangle]
+pub extern "C" fn conepalhui_slice_full(
+    plan: &[u8],
+    cursor: &[u8],
+    budget: u32,
+    out: &mut [u8],
+) -> u64
+    ensures { λ r. ⌜ Returns (List ℕ) inHalves (HostSlices (now (plan .entry)) (now (cursor .entry)) budget (now (out .entry))) r (now (out .exit)) ⌝ }
+{
+    let mut words = [0u32; table::MAX_TABLE_WORDS];
+    answers::in_halves(slice_plan(plan, cursor, budget, out, &mut words))
+}
+
+// Moves one leg of a plan file, and writes the new plan file and the new cursor.
+#[no_mangle]
+pub extern "C" fn conepalhui_move(
+    plan: &[u8],
+    cursor: &[u8],
+    leg: u32,
+    offset: u32,
+    file: &mut [u8],
+    out: &mut [u8],
+) -> u64
+    ensures { λ r. ⌜ Returns Lent inHalves (HostMoves (now (plan .entry)) (now (cursor .entry)) leg offset (lent (now (file .entry)) (now (out .entry)))) r (lent (now (file .exit)) (now (out .exit))) ⌝ }
+{
+    let mut words = [0u32; table::MAX_TABLE_WORDS];
+    answers::in_halves(move_plan(plan, cursor, leg, offset, file, out, &mut words))
 }

@@ -3,7 +3,7 @@
 use Prim.Native.Nat.{ℕ, zero, suc, _+_, _*_, _/_, _%_, _≤_, _<_}
 use mathlib.Core.Path.{_≡_, refl, _∙_, ap}
 use mathlib.Core.List.{List, [], _∷_, _++_}
-use mathlib.Core.Logic.{⊎-elim}
+use mathlib.Core.Logic.{_⊎_, inl, inr, ⊎-elim}
 use lib.ListN.{length}
 use native.Mathlib.Nat.{pow-suc}
 use native.Mathlib.Omega.{arith}
@@ -21,6 +21,52 @@ one-group (suc n) x h = rw (lt-ltb x groupValues h)
 pub more-groups : (n x : ℕ) → groupValues ≤ x → groupsOf (suc n) x ≡ (groupValues + x % groupValues) ∷ groupsOf n (x / groupValues)
 unfolding groupsOf
 more-groups n x h = rw (le-ltb x groupValues h)
+
+few-none : (x : ℕ) → (1 ≤ length (groupsOf zero x)) × (length (groupsOf zero x) ≤ 1)
+unfolding groupsOf
+few-none x = (omega arith, omega arith)
+
+-- One group for each that goes on and one more are the most.
+pub groups-few : (n x : ℕ) → (1 ≤ length (groupsOf n x)) × (length (groupsOf n x) ≤ suc n)
+groups-few zero x = few-none x
+groups-few (suc n) x =
+    ⊎-elim
+    (λ (h : x < groupValues). let e = ap length (one-group (suc n) x h) in (omega arith, omega arith))
+    (λ (h : groupValues ≤ x). let e = ap length (more-groups n x h) in let i = groups-few n (x / groupValues) in (omega arith, omega (arith, e, i .1)))
+    (lt-or-ge x groupValues)
+
+quotient-next : (x : ℕ) → ((x + 1) / groupValues ≡ x / groupValues) ⊎ ((x + 1) / groupValues ≡ x / groupValues + 1)
+quotient-next x =
+    ⊎-elim
+    (λ (h : x % groupValues + 1 < groupValues). inl (omega arith))
+    (λ (h : groupValues ≤ x % groupValues + 1). inr (omega arith))
+    (lt-or-ge (x % groupValues + 1) groupValues)
+
+-- The next number has one group more at the most.
+pub groups-next : (n x : ℕ) → length (groupsOf n (x + 1)) ≤ length (groupsOf n x) + 1
+groups-next zero x = omega (arith, few-none (x + 1) .1, few-none x .0)
+groups-next (suc n) x =
+    ⊎-elim
+    (λ (h : x + 1 < groupValues). let e = ap length (one-group (suc n) (x + 1) h) in let m = groups-few (suc n) x .0 in omega arith)
+    (λ (h : groupValues ≤ x + 1). ⊎-elim
+    (λ (k : x < groupValues).
+        let y : x ≡ 127 = omega (arith, h, k) in
+        let e = ap length (more-groups n (x + 1) h) in
+        let q : (x + 1) / groupValues ≡ 1 = ap (λ (z : ℕ). (z + 1) / groupValues) y in
+        let o = ap length (one-group n ((x + 1) / groupValues) (omega (arith, q))) in
+        let m = groups-few (suc n) x .0 in
+        omega (arith, e, o, m))
+    (λ (k : groupValues ≤ x).
+        let e = ap length (more-groups n (x + 1) h) in
+        let f = ap length (more-groups n x k) in
+        let i = groups-next n (x / groupValues) in
+        let j : ((x + 1) / groupValues ≡ x / groupValues) ⊎ ((x + 1) / groupValues ≡ x / groupValues + 1) = quotient-next x in
+        ⊎-elim
+        (λ (g : (x + 1) / groupValues ≡ x / groupValues). let o = ap (λ (z : ℕ). length (groupsOf n z)) g in omega (arith, e, f, o))
+        (λ (g : (x + 1) / groupValues ≡ x / groupValues + 1). let o = ap (λ (z : ℕ). length (groupsOf n z)) g in omega (arith, e, f, o, i))
+        j)
+    (lt-or-ge x groupValues))
+    (lt-or-ge (x + 1) groupValues)
 
 worth-one : (x : ℕ) → x < groupValues → worth (x ∷ []) ≡ x
 unfolding worth

@@ -1,0 +1,158 @@
+-- A call for C that was not refused is a call of start, slice or move over the table whose file the plan is, and the bytes that it left read as the cursor that it
+-- handed out and the table that it made. Assumes nothing.
+use Prim.Native.Nat.{ℕ, _≤_, _<_}
+use mathlib.Core.Path.{_≡_, _∙_, sym, ap, subst}
+use mathlib.Core.List.{List}
+use mathlib.Core.Logic.{inl, inr, ⊎-elim}
+use lib.ListN.{length, take, getD}
+use native.Mathlib.Omega.{arith}
+use Rattle.basics.proofs.Splits.{eq-or-ne}
+use Rattle.numbers.specs.Number.{maxWord}
+use Rattle.numbers.specs.Series.{Words, fileOf}
+use Rattle.numbers.proofs.Overlay.{overlaid-taken}
+use Rattle.numbers.proofs.Rows.{words-of}
+use Rattle.table.specs.Layout.{revisionOf, legCount, Sized}
+use Rattle.table.specs.Records.{revisionAt, offsetAt, moved}
+use Rattle.table.proofs.Moved.{moved-word, moved-revision, offset-word}
+use Rattle.shape.proofs.Moved.{moves-keep-shape, moved-same}
+use Rattle.files.specs.Reading.{IsFile}
+use Rattle.files.specs.Cursors.{cursorWords, ReadsCursor}
+use Rattle.files.specs.declared.Cursor.{Cursor}
+use Rattle.files.specs.declared.CursorRead.the-variants as read
+use Rattle.places.specs.Order.{Stands}
+use Rattle.checker.specs.Slices.{Starts, Slices, startCursor, Went}
+use Rattle.checker.specs.Moves.{Moves}
+use Rattle.checker.specs.declared.Grant.{Grant}
+use Rattle.checker.specs.declared.Grant.the-variants as grant
+use Rattle.checker.specs.declared.SliceAnswer.{SliceAnswer}
+use Rattle.checker.specs.declared.SliceAnswer.the-variants as answer
+use Rattle.checker.proofs.OneAnswer.{lesser-stands}
+use Rattle.host.specs.Answers.{sliceAnswered, startAnswered, bytesAfterSlice, bytesAfterStart, resultAlone}
+use Rattle.host.specs.Calls.{Lent, AfterMove, HostStarts, HostSlices, HostMoves}
+use Rattle.host.specs.declared.Answer.{Answer}
+use Rattle.demands.specs.Runs.{cursorOfAnswer}
+use Rattle.demands.specs.HostRuns.{savedIn, NotRefused}
+use Rattle.demands.proofs.SavedCursors.{holds-cursor, word-at, cursor-words}
+
+-- A start that was not refused.
+pub record StartCarried (plan out′ : List ℕ) : Type 0 where
+  pub table : List ℕ
+  pub file : IsFile Sized plan table
+  pub cursor : Cursor
+  pub starts : Starts table (grant.Granted cursor)
+  pub left : ReadsCursor (savedIn out′) (read.Saved cursor)
+
+start-of : (plan t out out′ : List ℕ) (n : ℕ) (g : Grant) (a : Answer) → IsFile Sized plan t → Starts t g → NotRefused a → a ≡ startAnswered n g
+    → out′ ≡ bytesAfterStart out g → StartCarried plan out′
+start-of plan t out out′ n (grant.Granted d) a f s h e k =
+    let w : Words (cursorWords (startCursor t)) = (word-at t (f .words) 0, (omega arith, (omega arith, tt))) in
+    record { table = t; file = f; cursor = d; starts = s; left = holds-cursor out out′ d (subst (λ (c : Cursor). Words (cursorWords c)) (sym (s .1)) w) k }
+start-of plan t out out′ n (grant.Refused l q d) a f s h e k = absurd (omega (arith, ap resultAlone e, h))
+
+pub start-carried : (plan out : List ℕ) (a : Answer) (out′ : List ℕ) → NotRefused a → HostStarts plan out a out′ → StartCarried plan out′
+start-carried plan out a out′ h (inl r) = absurd (omega (arith, ap resultAlone (r .answer), h))
+start-carried plan out a out′ h (inr (t, f, inl r)) = absurd (omega (arith, ap resultAlone (r .answer), h))
+start-carried plan out a out′ h (inr (t, f, inr x)) = let s = x .1 in start-of plan t out out′ _ (s .given) a f (s .starts) h (s .answer) (s .after)
+
+-- A slice that was not refused.
+pub record SliceCarried (plan cursor : List ℕ) (budget : ℕ) (a : Answer) (out′ : List ℕ) : Type 0 where
+  pub table : List ℕ
+  pub file : IsFile Sized plan table
+  pub from : Cursor
+  pub given : ReadsCursor cursor (read.Saved from)
+  pub told : SliceAnswer
+  pub slices : Slices table from budget told
+  pub answer : a ≡ sliceAnswered told
+  pub left : ReadsCursor (savedIn out′) (read.Saved (cursorOfAnswer told))
+
+went-words : (t : List ℕ) (c d : Cursor) (n : ℕ) → Sized t → Words t → Went t c d n → Stands t (d .leg) (d .place) → Words (cursorWords d)
+went-words t c d n z w x s = cursor-words t d z (omega (arith, x .revision, word-at t w 0)) s
+
+slice-left : (t out out′ : List ℕ) (c : Cursor) (budget : ℕ) (x : SliceAnswer) (a : Answer) → Sized t → Words t → Slices t c budget x → NotRefused a
+    → a ≡ sliceAnswered x → out′ ≡ bytesAfterSlice out x → ReadsCursor (savedIn out′) (read.Saved (cursorOfAnswer x))
+slice-left t out out′ c b (answer.Violated d n r) a z w s h e k = holds-cursor out out′ d (went-words t c d _ z w (s .1 .went) (inl (s .1 .place))) k
+slice-left t out out′ c b (answer.NothingViolated d n) a z w s h e k = holds-cursor out out′ d (went-words t c d _ z w (s .1 .went) (inr (s .1 .end))) k
+slice-left t out out′ c b (answer.Paused d n) a z w s h e k = holds-cursor out out′ d (went-words t c d _ z w (s .1 .went) (inl (s .1 .place))) k
+slice-left t out out′ c b (answer.Refused l q d) a z w s h e k = absurd (omega (arith, ap resultAlone e, h))
+
+pub slice-carried : (plan cursor : List ℕ) (budget : ℕ) (out : List ℕ) (a : Answer) (out′ : List ℕ) → NotRefused a → HostSlices plan cursor budget out a out′
+    → SliceCarried plan cursor budget a out′
+slice-carried plan cursor b out a out′ h (inl r) = absurd (omega (arith, ap resultAlone (r .answer), h))
+slice-carried plan cursor b out a out′ h (inr (t, f, inl r)) = absurd (omega (arith, ap resultAlone (r .answer), h))
+slice-carried plan cursor b out a out′ h (inr (t, f, inr (c, g, inl r))) = absurd (omega (arith, ap resultAlone (r .answer), h))
+slice-carried plan cursor b out a out′ h (inr (t, f, inr (c, g, inr x))) =
+    let s = x .1 in
+    record {
+      table = t;
+      file = f;
+      from = c;
+      given = g;
+      told = s .given;
+      slices = s .slices;
+      answer = s .answer;
+      left = slice-left t out out′ c b (s .given) a (f .complete) (f .words) (s .slices) h (s .answer) (s .after);
+    }
+
+-- A move that was not refused.
+pub record MoveCarried (old cursor : List ℕ) (leg offset : ℕ) (m′ : Lent) (plan : List ℕ) : Type 0 where
+  pub before : List ℕ
+  pub before-file : IsFile Sized old before
+  pub from : Cursor
+  pub given : ReadsCursor cursor (read.Saved from)
+  pub to : Cursor
+  pub table : List ℕ
+  pub moves : Moves before from leg offset (grant.Granted to) table
+  pub file : IsFile Sized plan table
+  pub left : ReadsCursor (savedIn (m′ .out)) (read.Saved to)
+
+moved-words : (t : List ℕ) (leg offset : ℕ) (z : Sized t) (below : leg < legCount t) → Words t → offset ≤ maxWord → revisionOf t < maxWord → Words (moved t leg offset)
+moved-words t leg offset z below w o r =
+    words-of (moved t leg offset)
+    (λ i. ⊎-elim
+    (λ (e : i ≡ revisionAt). subst (λ (j : ℕ). getD (moved t leg offset) j 0 ≤ maxWord) (sym e) (omega (arith, moved-revision t z leg offset below, r)))
+    (λ (n : i ≡ revisionAt → ⊥). ⊎-elim
+    (λ (e : i ≡ offsetAt t leg). subst (λ (j : ℕ). getD (moved t leg offset) j 0 ≤ maxWord) (sym e) (omega (arith, offset-word t z leg offset below, o)))
+    (λ (k : i ≡ offsetAt t leg → ⊥). omega (arith, moved-word t z leg offset below i n k, word-at t w i))
+    (eq-or-ne i (offsetAt t leg)))
+    (eq-or-ne i revisionAt))
+
+move-of : (old plan cursor t : List ℕ) (c : Cursor) (leg offset : ℕ) (m m′ : Lent) (g : Grant) (u : List ℕ) (a : Answer)
+    → IsFile Sized old t → ReadsCursor cursor (read.Saved c) → offset ≤ maxWord → Moves t c leg offset g u → NotRefused a → AfterMove g u m a m′
+    → plan ≡ take (a .beside) (m′ .file) → MoveCarried old cursor leg offset m′ plan
+move-of old plan cursor t c leg offset m m′ (grant.Granted d) u a f q o r h (inl x) e = absurd (omega (arith, ap resultAlone (x .answer), h))
+move-of old plan cursor t c leg offset m m′ (grant.Granted d) u a f q o r h (inr x) e =
+    let y = x .1 in
+    let w = r .cursor .shape in
+    let z : Sized u = subst Sized (sym (r .table)) (moves-keep-shape t _ (moved-same t (w .sized) leg offset (r .below)) w .sized) in
+    let ws : Words u = subst Words (sym (r .table)) (moved-words t leg offset (w .sized) (r .below) (f .words) o (r .rises)) in
+    let size : a .beside ≡ length (fileOf u) = ap (λ (b : Answer). b .beside) (y .answer) in
+    let bytes : plan ≡ fileOf u
+    = e ∙ ap (λ (n : ℕ). take n (m′ .file)) size ∙ ap (λ (l : Lent). take (length (fileOf u)) (l .file)) (y .after) ∙ overlaid-taken (m .file) (fileOf u) in
+    let stands : Stands t (d .leg) (d .place) = lesser-stands (r .cursor) (r .below) (r .lesser) in
+    let dw = cursor-words t d (w .sized) (omega (arith, r .revision, r .rises)) stands in
+    record {
+      before = t;
+      before-file = f;
+      from = c;
+      given = q;
+      to = d;
+      table = u;
+      moves = r;
+      file = record { complete = z; words = ws; bytes = bytes };
+      left = holds-cursor (m .out) (m′ .out) d dw (ap (λ (l : Lent). l .out) (y .after));
+    }
+move-of old plan cursor t c leg offset m m′ (grant.Refused l p d) u a f q o r h x e = absurd (omega (arith, ap resultAlone (x .0), h))
+
+pub move-carried : (old plan cursor : List ℕ) (leg offset : ℕ) (m m′ : Lent) (a : Answer) → offset ≤ maxWord → NotRefused a → HostMoves old cursor leg offset m a m′
+    → plan ≡ take (a .beside) (m′ .file) → MoveCarried old cursor leg offset m′ plan
+move-carried old plan cursor leg offset m m′ a o h (inl r) e = absurd (omega (arith, ap resultAlone (r .answer), h))
+move-carried old plan cursor leg offset m m′ a o h (inr (t, f, inl r)) e = absurd (omega (arith, ap resultAlone (r .answer), h))
+move-carried old plan cursor leg offset m m′ a o h (inr (t, f, inr (c, g, inl r))) e = absurd (omega (arith, ap resultAlone (r .answer), h))
+move-carried old plan cursor leg offset m m′ a o h (inr (t, f, inr (c, g, inr x))) e =
+    let s = x .1 in move-of old plan cursor t c leg offset m m′ (s .given) (s .table) a f g o (s .moves) h (s .after) e
+
+pub slices-of : (t u : List ℕ) (c d : Cursor) (budget : ℕ) (x : SliceAnswer) → u ≡ t → d ≡ c → Slices u d budget x → Slices t c budget x
+slices-of t u c d b x e f s = subst (λ (v : List ℕ). Slices v c b x) e (subst (λ (k : Cursor). Slices u k b x) f s)
+
+pub moves-of : (t u : List ℕ) (c d : Cursor) (leg offset : ℕ) (g : Grant) (v : List ℕ) → u ≡ t → d ≡ c → Moves u d leg offset g v → Moves t c leg offset g v
+moves-of t u c d leg offset g v e f s = subst (λ (w : List ℕ). Moves w c leg offset g v) e (subst (λ (k : Cursor). Moves u k leg offset g v) f s)

@@ -1,0 +1,80 @@
+-- Demand 3 for C: in every run of the calls on bytes each verdict is that of a whole check of the plan as it stands then, and a verdict comes in time.
+use Prim.Native.Nat.{ℕ, _+_, _≤_}
+use mathlib.Core.Path.{_≡_}
+use mathlib.Core.List.{List, [], _∷_, _++_}
+use mathlib.Core.Logic.{_⊎_}
+use Rattle.table.specs.Layout.{Sized}
+use Rattle.files.specs.Reading.{IsFile}
+use Rattle.files.specs.Cursors.{ReadsCursor}
+use Rattle.files.specs.declared.Cursor.{Cursor}
+use Rattle.files.specs.declared.CursorRead.the-variants as read
+use Rattle.rules.specs.declared.Rule.{Rule}
+use Rattle.places.specs.Order.{placeCount}
+use Rattle.host.specs.Answers.{ruleResult}
+use Rattle.host.specs.declared.Answer.{Answer}
+use Rattle.demands.specs.Verdicts.{Verdict, violated, nothing-violated}
+use Rattle.demands.specs.DemandThree.{Sound}
+use Rattle.demands.specs.HostRuns.{savedIn, HostCall, start, slice, move-leg, leftBy, HostRun}
+
+-- The verdict that C is given by a slice: 0, or a rule, whose place is in the cursor that it left.
+pub record TellsPlace (a : Answer) (out : List ℕ) (v : Verdict) : Type 0 where
+  pub rule : Rule
+  pub cursor : Cursor
+  pub result : a .result ≡ ruleResult rule
+  pub saved : ReadsCursor (savedIn out) (read.Saved cursor)
+  pub is : v ≡ violated (cursor .leg) (cursor .place) rule
+
+abbrev pub HostGives : Answer → List ℕ → Verdict → Type 0
+HostGives a out v = ((a .result ≡ 0) × (v ≡ nothing-violated)) ⊎ TellsPlace a out v
+
+-- Sound: the plan file is that of a table, and the verdict is that of a whole check of it.
+pub record SoundFile (plan : List ℕ) (v : Verdict) : Type 0 where
+  pub table : List ℕ
+  pub file : IsFile Sized plan table
+  pub sound : Sound table v
+
+abbrev pub HostRunsAreSound : Type 0
+HostRunsAreSound =
+    (calls : List HostCall) (plan cursor : List ℕ) (budget : ℕ) (a : Answer) (out : List ℕ) (v : Verdict)
+    → HostRun (slice cursor budget a out ∷ calls) plan → HostGives a out v → SoundFile plan v
+
+-- In time: the part of a run since the call last has slices alone, each given the saved cursor that the call before it left.
+abbrev pub newestLeft : List HostCall → HostCall → List ℕ
+newestLeft [] last = savedIn (leftBy last)
+newestLeft (call ∷ part) last = savedIn (leftBy call)
+
+abbrev pub HostSince : List HostCall → HostCall → Type 0
+HostSince [] last = Unit {0}
+HostSince (start a out ∷ part) last = ⊥
+HostSince (slice cursor budget a out ∷ part) last = (cursor ≡ newestLeft part last) × HostSince part last
+HostSince (move-leg cursor leg offset a m ∷ part) last = ⊥
+
+-- The call last is a start or a move.
+abbrev pub HostRenews : HostCall → Type 0
+HostRenews (start a out) = Unit {0}
+HostRenews (slice cursor budget a out) = ⊥
+HostRenews (move-leg cursor leg offset a m) = Unit {0}
+
+abbrev pub hostBudgets : List HostCall → ℕ
+hostBudgets [] = 0
+hostBudgets (start a out ∷ part) = hostBudgets part
+hostBudgets (slice cursor budget a out ∷ part) = budget + hostBudgets part
+hostBudgets (move-leg cursor leg offset a m ∷ part) = hostBudgets part
+
+-- A slice that gave a verdict is in the part.
+abbrev pub HostHasVerdict : List HostCall → Type 0
+HostHasVerdict [] = ⊥
+HostHasVerdict (start a out ∷ part) = HostHasVerdict part
+HostHasVerdict (slice cursor budget a out ∷ part) = ((v : Verdict) × HostGives a out v) ⊎ HostHasVerdict part
+HostHasVerdict (move-leg cursor leg offset a m ∷ part) = HostHasVerdict part
+
+-- Some slice of such a part gave a verdict, if a slice ran in it and the budgets add up to at least the number of places.
+abbrev pub HostRunsEndInTime : Type 0
+HostRunsEndInTime =
+    (first : HostCall) (part : List HostCall) (last : HostCall) (earlier : List HostCall) (plan t : List ℕ)
+    → HostRun ((first ∷ part) ++ last ∷ earlier) plan → HostRenews last → HostSince (first ∷ part) last
+    → IsFile Sized plan t → placeCount t ≤ hostBudgets (first ∷ part) → HostHasVerdict (first ∷ part)
+
+pub record DemandThreeForC : Type 0 where
+  pub sound : HostRunsAreSound
+  pub in-time : HostRunsEndInTime

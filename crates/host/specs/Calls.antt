@@ -1,0 +1,88 @@
+-- What the calls for C promise: the answer, and every lent byte.
+use Prim.Native.Nat.{ℕ}
+use mathlib.Core.Path.{_≡_}
+use mathlib.Core.List.{List}
+use lib.ListN.{length}
+use Rattle.numbers.specs.Series.{fileOf, overlaid}
+use Rattle.files.specs.Theorems.{maxCursorBytes}
+use Rattle.files.specs.declared.Cursor.{Cursor}
+use Rattle.places.specs.Order.{placeCount}
+use Rattle.checker.specs.Slices.{Starts, Slices}
+use Rattle.checker.specs.Moves.{Moves}
+use Rattle.checker.specs.declared.Grant.{Grant}
+use Rattle.checker.specs.declared.Grant.the-variants as grant
+use Rattle.checker.specs.declared.SliceAnswer.{SliceAnswer}
+use Rattle.host.specs.declared.Answer.{Answer}
+use Rattle.host.specs.Answers.{answered, refusal, sliceAnswered, startAnswered, withCursor, bytesAfterSlice, bytesAfterStart}
+use Rattle.host.specs.Refusals.{AfterPlan, AfterCursor, AfterRoom}
+
+-- A start of a table: granted, the number of places stands beside the result.
+pub record Started (t : List ℕ) (out : List ℕ) (a : Answer) (out′ : List ℕ) : Type 0 where
+  pub given : Grant
+  pub starts : Starts t given
+  pub answer : a ≡ startAnswered (placeCount t) given
+  pub after : out′ ≡ bytesAfterStart out given
+
+-- A slice of a table from a cursor.
+pub record Sliced (t : List ℕ) (c : Cursor) (budget : ℕ) (out : List ℕ) (a : Answer) (out′ : List ℕ) : Type 0 where
+  pub given : SliceAnswer
+  pub slices : Slices t c budget given
+  pub answer : a ≡ sliceAnswered given
+  pub after : out′ ≡ bytesAfterSlice out given
+
+-- What is lent to a move: bytes for the new plan file, and for the cursor.
+pub record Lent : Type 0 where
+  pub file : List ℕ
+  pub out : List ℕ
+
+abbrev pub lent : List ℕ → List ℕ → Lent
+lent file out = record { file = file; out = out }
+
+-- Granted, the file of the new table u lies in front of the one and the cursor d in front of the other, and the rest is as it was. How many bytes the file has
+-- stands beside the result.
+pub record BothWritten (u : List ℕ) (d : Cursor) (m : Lent) (a : Answer) (m′ : Lent) : Type 0 where
+  pub answer : a ≡ answered 0 (length (fileOf u))
+  pub after : m′ ≡ lent (overlaid (m .file) 0 (fileOf u)) (withCursor (m .out) d)
+
+abbrev pub WritesBoth : List ℕ → Cursor → Lent → Answer → Lent → Type 0
+WritesBoth u d m = AfterRoom Lent (length (m .file)) (length (fileOf u)) m (BothWritten u d m)
+
+-- After a granted move both are written where the file has room; after a refused one nothing is.
+abbrev pub AfterMove : Grant → List ℕ → Lent → Answer → Lent → Type 0
+AfterMove (grant.Granted d) u m a m′ = WritesBoth u d m a m′
+AfterMove (grant.Refused k p d) u m a m′ = (a ≡ refusal k p) × (m′ ≡ m)
+
+-- A move of one leg of a table.
+pub record MoveMade (t : List ℕ) (c : Cursor) (leg offset : ℕ) (m : Lent) (a : Answer) (m′ : Lent) : Type 0 where
+  pub given : Grant
+  pub table : List ℕ
+  pub moves : Moves t c leg offset given table
+  pub after : AfterMove given table m a m′
+
+-- From a table on, and for slice and move a cursor: 15 where fewer than 15 bytes are lent for the cursor, then as the call. (A move has a second 15 at its
+-- end, for the file.)
+abbrev pub StartsTable : List ℕ → List ℕ → Answer → List ℕ → Type 0
+StartsTable t out = AfterRoom (List ℕ) (length out) maxCursorBytes out (Started t out)
+
+abbrev pub SlicesTable : List ℕ → Cursor → ℕ → List ℕ → Answer → List ℕ → Type 0
+SlicesTable t c budget out = AfterRoom (List ℕ) (length out) maxCursorBytes out (Sliced t c budget out)
+
+abbrev pub MovesTable : List ℕ → Cursor → ℕ → ℕ → Lent → Answer → Lent → Type 0
+MovesTable t c leg offset m = AfterRoom Lent (length (m .out)) maxCursorBytes m (MoveMade t c leg offset m)
+
+-- From the bytes of a plan file, and of a saved cursor.
+abbrev pub HostStarts : List ℕ → List ℕ → Answer → List ℕ → Type 0
+HostStarts plan out = AfterPlan (List ℕ) plan out (λ (t : List ℕ). StartsTable t out)
+
+abbrev pub HostSlices : List ℕ → List ℕ → ℕ → List ℕ → Answer → List ℕ → Type 0
+HostSlices plan cursor budget out =
+    AfterPlan (List ℕ) plan out (λ (t : List ℕ). AfterCursor (List ℕ) cursor out (λ (c : Cursor). SlicesTable t c budget out))
+
+abbrev pub HostMoves : List ℕ → List ℕ → ℕ → ℕ → Lent → Answer → Lent → Type 0
+HostMoves plan cursor leg offset m = AfterPlan Lent plan m (λ (t : List ℕ). AfterCursor Lent cursor m (λ (c : Cursor). MovesTable t c leg offset m))
+
+-- What C gets is one number r, which tells the answer in a given way: inHalves or resultAlone.
+pub record Returns (M : Type 0) (tell : Answer → ℕ) (Does : Answer → M → Type 0) (r : ℕ) (m′ : M) : Type 0 where
+  pub answer : Answer
+  pub does : Does answer m′
+  pub is : r ≡ tell answer

@@ -1,0 +1,32 @@
+-- What the inner functions of this crate tell.
+use Prim.Native.Nat.{ℕ, _≤_}
+use mathlib.Core.Path.{_≡_}
+use mathlib.Core.List.{List}
+use mathlib.Core.Logic.{_⊎_}
+use lib.ListN.{length, take}
+use Rattle.table.specs.Layout.{Sized}
+use Rattle.files.specs.Reading.{IsFile}
+use Rattle.files.specs.Plan.{PlanFault}
+use Rattle.files.specs.Cursors.{ReadsCursor}
+use Rattle.files.specs.Theorems.{maxFileBytes}
+use Rattle.files.specs.declared.CursorRead.the-variants as read
+use Rattle.host.specs.declared.Opened.{Opened}
+use Rattle.host.specs.declared.Opened.the-variants as opened
+use Rattle.host.specs.Refusals.{CursorUnread}
+
+-- A refusal's number and position are small enough to be told.
+pub record Small (k p : ℕ) : Type 0 where
+  pub number : k ≤ 15
+  pub position : p ≤ maxFileBytes
+
+-- The first n words are a table whose file is the plan.
+pub record InFront (plan : List ℕ) (n : ℕ) (words : List ℕ) : Type 0 where
+  pub table : List ℕ
+  pub file : IsFile Sized plan table
+  pub is : take n words ≡ table
+  pub inside : n ≤ length words
+
+-- A plan file and a saved cursor: both read, or the first refusal.
+abbrev pub Opens : List ℕ → List ℕ → Opened → List ℕ → Type 0
+Opens plan cursor (opened.Both n c) words = InFront plan n words × ReadsCursor cursor (read.Saved c)
+Opens plan cursor (opened.Refused k p) words = PlanFault plan k p ⊎ ((t : List ℕ) × IsFile Sized plan t × CursorUnread cursor k p)

@@ -1,0 +1,107 @@
+// The calls from a table and a cursor on: 15, then start, slice or move.
+ghost use Prim.Native.Nat.{_≤_};
+ghost use lib.ListN.{length};
+ghost use Rattle.table.specs.Layout.{Sized};
+ghost use Rattle.files.specs.Theorems.{maxCursorBytes};
+ghost use Rattle.host.specs.Calls.{lent, WritesBoth, StartsTable, SlicesTable, MovesTable};
+use crate::Answer;
+use crate::answers;
+use checker::Grant;
+use checker::SliceAnswer;
+use files::Cursor;
+use numbers::Written;
+
+// How many bytes the caller has to lend for the cursor: any cursor fits.
+const CURSOR_ROOM: usize = files::MAX_CURSOR_BYTES;
+
+pub(crate) fn start_table(t: &[u32], out: &mut [u8]) -> Answer
+    ensures { λ r. ⌜ StartsTable (now (t .entry)) (now (out .entry)) r (now (out .exit)) ⌝ }
+{
+    if out.len() < CURSOR_ROOM {
+        return answers::refused(numbers::NO_ROOM, 0);
+    }
+    let told = checker::start(t);
+    match told {
+        Grant::Refused(number, at, none) => answers::refused(number, at),
+        Grant::Granted(first) => {
+            answers::put_back(first, out);
+            Answer {
+                result: 0,
+                beside: places::place_count(table::wide(t[table::LEGS_AT])) as u32,
+            }
+        }
+    }
+}
+
+pub(crate) fn slice_table(t: &[u32], cursor: Cursor, budget: u32, out: &mut [u8]) -> Answer
+    ensures { λ r. ⌜ SlicesTable (now (t .entry)) cursor budget (now (out .entry)) r (now (out .exit)) ⌝ }
+{
+    if out.len() < CURSOR_ROOM {
+        return answers::refused(numbers::NO_ROOM, 0);
+    }
+    let told = checker::slice(t, cursor, budget);
+    match told {
+        SliceAnswer::Refused(number, at, given) => answers::refused(number, at),
+        SliceAnswer::Violated(at, steps, rule) => {
+            answers::put_back(at, out);
+            Answer {
+                result: answers::rule_result(rule),
+                beside: steps,
+            }
+        }
+        SliceAnswer::NothingViolated(end, steps) => {
+            answers::put_back(end, out);
+            Answer {
+                result: 0,
+                beside: steps,
+            }
+        }
+        SliceAnswer::Paused(at, steps) => {
+            answers::put_back(at, out);
+            Answer {
+                result: 1,
+                beside: steps,
+            }
+        }
+    }
+}
+
+// Writes the file of a table and a cursor, or nothing where the file has no room.
+fn write_both(t: &[u32], cursor: Cursor, file: &mut [u8], out: &mut [u8]) -> Answer
+    requires { ⌜ Sized (now t) ⌝ }
+    requires { ⌜ maxCursorBytes ≤ length (now out) ⌝ }
+    ensures { λ r. ⌜ WritesBoth (now (t .entry)) cursor (lent (now (file .entry)) (now (out .entry))) r (lent (now (file .exit)) (now (out .exit))) ⌝ }
+{
+    let written = files::write_plan(t, file);
+    match written {
+        Written::Refused(number, at) => answers::refused(number, at),
+        Written::Bytes(n) => {
+            answers::put_back(cursor, out);
+            Answer {
+                result: 0,
+                beside: n as u32,
+            }
+        }
+    }
+}
+
+// The table is left as the move leaves it.
+pub(crate) fn move_table(
+    t: &mut [u32],
+    cursor: Cursor,
+    leg: u32,
+    offset: u32,
+    file: &mut [u8],
+    out: &mut [u8],
+) -> Answer
+    ensures { λ r. ⌜ MovesTable (now (t .entry)) cursor leg offset (lent (now (file .entry)) (now (out .entry))) r (lent (now (file .exit)) (now (out .exit))) ⌝ }
+{
+    if out.len() < CURSOR_ROOM {
+        return answers::refused(numbers::NO_ROOM, 0);
+    }
+    let told = checker::move_leg(t, cursor, leg, offset);
+    match told {
+        Grant::Refused(number, at, given) => answers::refused(number, at),
+        Grant::Granted(next) => write_both(t, next, file, out),
+    }
+}

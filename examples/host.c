@@ -1,0 +1,300 @@
+/*
+ * host.c: checks a plan in slices, keeps plan and cursor in files, and takes moves while the check is paused.
+ *
+ *     host FOLDER BUDGET
+ *
+ * FOLDER/plan is the plan file. FOLDER/cursor is the saved cursor: where there is none, a new check begins. Each
+ * slice looks at BUDGET places at most. Standard input gives the moves, a line 'LEG OFFSET' each. They are taken
+ * between two slices, and also after a verdict, until standard input ends; then the exit status tells the last
+ * verdict: 0 accepted, 1 violated. It is 2 where the plan is refused, and 4 for bad arguments and for files that
+ * cannot be read or written.
+ *
+ * Every answer is a line. It is printed when all that it tells is on the disk: a move that is told as moved is in the
+ * plan for good. Whoever misses the answer to a move makes it again, which does no harm.
+ *
+ * The program may be killed at any moment, and is then called again. A move saves the plan before the cursor, so a
+ * saved cursor is never newer than the saved plan. Killed between the two, it leaves a cursor that is older than the
+ * plan. The library refuses that one with 8, and the next run begins a new check: this costs time, and never a wrong
+ * verdict.
+ */
+#define _DEFAULT_SOURCE
+
+#include "conepalhui.h"
+#include "durable.h"
+
+#include <errno.h>
+#include <fcntl.h>
+#include <poll.h>
+#include <stdarg.h>
+#include <stdbool.h>
+#include <stdio.h>
+#include <stdlib.h>
+#include <string.h>
+#include <unistd.h>
+
+enum { ACCEPTED = 0, VIOLATED = 1, REFUSED = 2, FAILED = 4 }; /* the exit status */
+
+/* The check. Each buffer has room for one byte more than is allowed: a file that is too long is refused as such. */
+static int folder;
+static uint8_t plan[CONEPALHUI_PLAN_BYTES + 1];
+static size_t plan_len;
+static uint8_t cursor[CONEPALHUI_CURSOR_BYTES + 1];
+static size_t cursor_len;
+
+/* ---- Messages */
+
+/* Prints the line of one answer, at once. */
+static void tell(const char *format, ...)
+{
+    va_list values;
+    va_start(values, format);
+    bool told = vprintf(format, values) >= 0;
+    va_end(values);
+    if (!told || putchar('\n') == EOF || fflush(stdout) == EOF) {
+        fprintf(stderr, "host: cannot write to standard output: %s\n", strerror(errno));
+        exit(FAILED);
+    }
+}
+
+_Noreturn static void fail(const char *doing, const char *what)
+{
+    fprintf(stderr, "host: cannot %s %s: %s\n", doing, what, strerror(errno));
+    exit(FAILED);
+}
+
+/* ---- Plan and cursor, in memory and on the disk */
+
+static void save(const char *name, const uint8_t *bytes, size_t length)
+{
+    if (durable_replace(folder, name, bytes, length) == -1)
+        fail("save the", name);
+}
+
+/* Goes on from the cursor that a call wrote. */
+static void save_cursor(const uint8_t *out)
+{
+    cursor_len = conepalhui_cursor_length(out);
+    memcpy(cursor, out, cursor_len);
+    save("cursor", cursor, cursor_len);
+}
+
+static void read_plan(void)
+{
+    ssize_t length = durable_read(folder, "plan", plan, sizeof plan);
+    if (length == -1)
+        fail("read the", "plan");
+    plan_len = (size_t)length;
+}
+
+/* Reads the saved cursor. Says whether there is one. */
+static bool read_cursor(void)
+{
+    ssize_t length = durable_read(folder, "cursor", cursor, sizeof cursor);
+    if (length == -1 && errno == ENOENT)
+        return false;
+    if (length == -1)
+        fail("read the", "cursor");
+    cursor_len = (size_t)length;
+    return true;
+}
+
+/* ---- The check */
+
+/* Says whether the saved cursor is one of the plan. A slice with a budget of 0 looks at nothing, and tells. */
+static bool cursor_fits(void)
+{
+    uint8_t out[CONEPALHUI_CURSOR_BYTES];
+    uint64_t answer = conepalhui_slice_full(plan, plan_len, cursor, cursor_len, 0, out, sizeof out);
+    uint32_t refusal = conepalhui_refusal(conepalhui_result(answer));
+    if (refusal == 0)
+        return true;
+    tell("cursor refused %u %u", (unsigned)refusal, (unsigned)conepalhui_number(answer));
+    return false;
+}
+
+/* Takes the check up, or begins a new one. The plan is tried first, so a refusal behind that is the cursor's. */
+static void begin(void)
+{
+    uint8_t out[CONEPALHUI_CURSOR_BYTES];
+    uint64_t answer = conepalhui_start(plan, plan_len, out, sizeof out);
+    uint32_t refusal = conepalhui_refusal(conepalhui_result(answer));
+    if (refusal != 0) {
+        tell("plan refused %u %u", (unsigned)refusal, (unsigned)conepalhui_number(answer));
+        exit(REFUSED);
+    }
+    const char *how = "resumed";
+    if (!read_cursor() || !cursor_fits()) {
+        how = "started";
+        save_cursor(out);
+    }
+    struct conepalhui_place at = conepalhui_cursor_place(cursor);
+    tell("%s revision %u at %u %u of %u places", how, (unsigned)at.revision, (unsigned)at.leg, (unsigned)at.place,
+         (unsigned)conepalhui_number(answer));
+}
+
+/* Makes one slice. Gives its result: 0 or 2 to 5 is a verdict, 1 is none. */
+static uint32_t slice(uint32_t budget)
+{
+    static const char *const rules[] = {"window", "hop", "deadline", "overlap"};
+    uint8_t out[CONEPALHUI_CURSOR_BYTES];
+    uint64_t answer = conepalhui_slice_full(plan, plan_len, cursor, cursor_len, budget, out, sizeof out);
+    uint32_t result = conepalhui_result(answer);
+    unsigned number = conepalhui_number(answer);
+    if (conepalhui_refusal(result) != 0) {
+        tell("slice refused %u %u", (unsigned)conepalhui_refusal(result), number);
+        exit(REFUSED);
+    }
+    save_cursor(out);
+    struct conepalhui_place at = conepalhui_cursor_place(out);
+    if (result == CONEPALHUI_NOTHING_VIOLATED)
+        tell("accepted steps %u", number);
+    else if (result == CONEPALHUI_PAUSED)
+        tell("paused %u %u steps %u", (unsigned)at.leg, (unsigned)at.place, number);
+    else
+        tell("violated %u %u %s steps %u", (unsigned)at.leg, (unsigned)at.place, rules[result - CONEPALHUI_WINDOW],
+             number);
+    return result;
+}
+
+/* Moves a leg. Says whether the plan has changed. */
+static bool move(uint32_t leg, uint32_t offset)
+{
+    static uint8_t new_plan[CONEPALHUI_PLAN_BYTES];
+    uint8_t out[CONEPALHUI_CURSOR_BYTES];
+    uint64_t answer = conepalhui_move(plan, plan_len, cursor, cursor_len, leg, offset, new_plan, sizeof new_plan,
+                                      out, sizeof out);
+    uint32_t refusal = conepalhui_refusal(conepalhui_result(answer));
+    if (refusal != 0) {
+        tell("move refused %u %u", (unsigned)refusal, (unsigned)conepalhui_number(answer));
+        return false;
+    }
+    plan_len = conepalhui_number(answer);
+    memcpy(plan, new_plan, plan_len);
+    save("plan", plan, plan_len);
+    save_cursor(out); /* Behind the plan: see above. */
+    struct conepalhui_place at = conepalhui_cursor_place(out);
+    tell("moved %u %u revision %u at %u %u", (unsigned)leg, (unsigned)offset, (unsigned)at.revision,
+         (unsigned)at.leg, (unsigned)at.place);
+    return true;
+}
+
+/* ---- The moves on standard input */
+
+/* What has been read and not been taken yet. No move is longer than 21 characters. */
+static char input[64];
+static size_t input_len;
+static bool input_ended;
+
+/* Reads more of standard input where some is there, or waits for it if told so. Says whether there was some. */
+static bool read_input(bool wait)
+{
+    struct pollfd ready = {.fd = STDIN_FILENO, .events = POLLIN};
+    int count = poll(&ready, 1, wait ? -1 : 0);
+    if (count == 0 || (count == -1 && errno == EINTR))
+        return false;
+    if (count == -1)
+        fail("wait for", "standard input");
+    ssize_t got = read(STDIN_FILENO, input + input_len, sizeof input - input_len);
+    if (got == -1 && (errno == EINTR || errno == EAGAIN || errno == EWOULDBLOCK))
+        return false;
+    if (got == -1)
+        fail("read", "standard input");
+    input_ended = got == 0;
+    input_len += (size_t)got;
+    return got > 0;
+}
+
+/*
+ * Gives the next line with its end, or null where no whole line is there yet. What stands behind the last end of line
+ * may be a part of a move, and is never taken. A line that is too long for a move is given as an empty one.
+ */
+static const char *next_line(bool wait)
+{
+    static char line[sizeof input + 1];
+    static bool too_long;
+    const char *end;
+    while ((end = memchr(input, '\n', input_len)) == NULL) {
+        if (input_len == sizeof input) {
+            too_long = true;
+            input_len = 0;
+        }
+        if (input_ended || !read_input(wait))
+            return NULL;
+    }
+    size_t length = (size_t)(end - input) + 1;
+    memcpy(line, input, length);
+    line[too_long ? 0 : length] = '\0';
+    too_long = false;
+    input_len -= length;
+    memmove(input, input + length, input_len);
+    return line;
+}
+
+/* Reads digits up to a mark. Gives what stands behind the mark, or null where it is no number of 32 bits. */
+static const char *read_number(const char *text, char mark, uint32_t *number)
+{
+    uint64_t value = 0;
+    const char *at = text;
+    for (; *at >= '0' && *at <= '9' && value <= UINT32_MAX; at++)
+        value = 10 * value + (uint64_t)(*at - '0');
+    if (at == text || *at != mark || value > UINT32_MAX)
+        return NULL;
+    *number = (uint32_t)value;
+    return at + 1;
+}
+
+/* Takes the moves that are there, and waits for the first one if told so. Says whether the plan has changed. */
+static bool take_moves(bool wait)
+{
+    bool changed = false;
+    const char *line;
+    while ((line = next_line(wait && !changed)) != NULL) {
+        uint32_t leg, offset;
+        const char *rest = read_number(line, ' ', &leg);
+        if (rest != NULL && read_number(rest, '\n', &offset) != NULL)
+            changed = move(leg, offset) || changed;
+        else
+            tell("no move: a move is LEG OFFSET, two numbers from 0 to 4294967295");
+    }
+    return changed;
+}
+
+/* ---- The start */
+
+/* Slices until there is a verdict, again after each move, until no move can come any more. Gives the exit status. */
+static int check(uint32_t budget)
+{
+    for (;;) {
+        uint32_t result;
+        do {
+            take_moves(false); /* Here the controller would do its own work, and go on when it is idle. */
+            result = slice(budget);
+        } while (result == CONEPALHUI_PAUSED);
+        while (!take_moves(true))
+            if (input_ended)
+                return result == CONEPALHUI_NOTHING_VIOLATED ? ACCEPTED : VIOLATED;
+    }
+}
+
+int main(int count, char **words)
+{
+    uint32_t budget;
+    /* A file of ours must not become standard input, output or error. */
+    for (int fd = STDIN_FILENO; fd <= STDERR_FILENO; fd++)
+        if (fcntl(fd, F_GETFD) == -1)
+            return FAILED;
+    if (count != 3 || read_number(words[2], '\0', &budget) == NULL || budget == 0) {
+        fprintf(stderr, "usage: host FOLDER BUDGET, a budget from 1 to 4294967295\n");
+        return FAILED;
+    }
+    folder = durable_open(words[1]);
+    if (folder == -1 && errno == EWOULDBLOCK) {
+        fprintf(stderr, "host: another process works on the folder %s\n", words[1]);
+        return FAILED;
+    }
+    if (folder == -1)
+        fail("open the folder", words[1]);
+    read_plan();
+    begin();
+    return check(budget);
+}

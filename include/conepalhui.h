@@ -1,0 +1,227 @@
+/*
+ * conepalhui.h: the calls of Conepalhui, for C (C99 or later) and C++.
+ *
+ * Conepalhui checks a network timetable (IEEE 802.1Qbv): whether every frame keeps its window, its hops and its
+ * deadline, and whether two frames ever want one wire. The check is done in slices as small as one likes. Between two
+ * slices all that is known of it is a cursor of at most 15 bytes, which the caller saves where it likes.
+ *
+ *     uint8_t cursor[CONEPALHUI_CURSOR_BYTES], next[CONEPALHUI_CURSOR_BYTES];
+ *     uint64_t answer = conepalhui_start(plan, plan_len, cursor, sizeof cursor);
+ *     if (conepalhui_result(answer) != CONEPALHUI_GRANTED)
+ *         return refused(answer);
+ *     do {
+ *         wait_until_idle();
+ *         answer = conepalhui_slice_full(plan, plan_len, cursor, conepalhui_cursor_length(cursor), 200,
+ *                                        next, sizeof next);
+ *         if (conepalhui_refusal(conepalhui_result(answer)) != 0)
+ *             return refused(answer);
+ *         memcpy(cursor, next, conepalhui_cursor_length(next));
+ *     } while (conepalhui_result(answer) == CONEPALHUI_PAUSED);
+ *
+ * A frame may be given another slot while the check is paused: conepalhui_move gives the new plan file and the cursor
+ * to go on with, and the verdict will be that of a whole check of the new plan. This holds for any mix of slices and
+ * moves after a start, as long as cursors are not altered and the plan is changed by moves alone. A plan that was
+ * changed in any other way needs a new start: a cursor knows its plan by the revision, and is taken at its word.
+ *
+ * examples/host.c is a whole program that keeps plan and cursor in files and may be killed at any moment.
+ */
+#ifndef CONEPALHUI_H
+#define CONEPALHUI_H
+
+#include <stddef.h>
+#include <stdint.h>
+
+/*
+ * What holds of every call
+ *
+ * Any bytes and any numbers may be handed in. Each call ends, with an answer or a numbered refusal.
+ *
+ * Memory. A pointer and the length behind it lend that many bytes to the call, until it returns. A pointer may be
+ * null where its length is 0. plan and cursor are only read, and may overlap one another. out and new_plan are
+ * written to: neither may overlap any other memory that is lent to the same call. While a call runs, nobody else may
+ * write to the lent memory, nor read out and new_plan.
+ *
+ * A refusal writes nothing. So whoever keeps the cursor's bytes apart from out still has them. Otherwise the answer
+ * lies in the first bytes of out (and of new_plan), and every byte behind it is what it was.
+ *
+ * Nothing is kept between calls. There is no memory from the heap, no global state, no file and no lock: calls from
+ * several threads at once do not concern each other. No call uses more than CONEPALHUI_STACK_BYTES of the stack.
+ *
+ * Linking. The archive is for x86-64 and the System V calling convention (Linux), in programs and in shared libraries.
+ * Of other libraries it needs memset alone. 'rt staticlib host' proves it and writes target/staticlib/libhost.a.
+ */
+
+#define CONEPALHUI_CURSOR_BYTES 15   /* room for every cursor; out must have this many bytes or more */
+#define CONEPALHUI_PLAN_BYTES 48665  /* no plan file is longer; room for every new plan */
+#define CONEPALHUI_MOVE_BYTES 5      /* a move makes a plan file longer by this many bytes at most */
+#define CONEPALHUI_STACK_BYTES 98304 /* a thread that calls needs this much stack beyond its own */
+
+/* The results. Each call tells one of them: conepalhui_slice returns it, the others have it in the low 32 bits. */
+enum {
+    CONEPALHUI_NOTHING_VIOLATED = 0, /* a slice: nothing is violated from its cursor on, and the check is done */
+    CONEPALHUI_GRANTED = 0,          /* start and move: done */
+    CONEPALHUI_PAUSED = 1,           /* a slice: the budget is used up, and all that was looked at holds */
+    CONEPALHUI_WINDOW = 2,           /* violated: the frame is not through at the end of its period */
+    CONEPALHUI_HOP = 3,              /* violated: it is sent on before it has arrived from its previous link */
+    CONEPALHUI_DEADLINE = 4,         /* violated: it arrives at its last node after its deadline */
+    CONEPALHUI_OVERLAP = 5,          /* violated: two frames want one link at some time */
+    CONEPALHUI_REFUSED = 100         /* plus the number of the refusal, 101 to 115 */
+};
+
+/*
+ * Plans, places and cursors
+ *
+ * A number is 0 to 4,294,967,295, written in groups of seven bits, the lowest group first, the top bit set on all bytes
+ * but the last, in as few bytes as possible: 300 is AC 02. A plan file is these numbers and nothing else, times in ns:
+ *
+ *   the header    revision, links (0 to 256), streams (0 to 512), legs (0 to 2,048), clock precision (0 to 1,000,000)
+ *   each link     from node, to node (0 to 65,535), ns per octet (8, 80 or 800), propagation (0 to 100,000)
+ *   each stream   period (1 to 1,000,000,000), deadline (1 to the period), octets of its frame (64 to 1,522), the
+ *                 number of its first leg, how many legs it has (1 to 8)
+ *   each leg      stream, link, offset (any)
+ *
+ * A link joins two different nodes, and no other link joins the same two in this direction. The legs stand in the order
+ * of their streams. The legs of a stream are a route: each link begins where the previous one ended, and no node is met
+ * twice.
+ *
+ * Leg a has the places 0 (window), 1 (hop), 2 (deadline) and 3 + b (overlap with leg b) for each leg b below a. A check
+ * looks at them by leg, and then by place. G legs have G(G - 1)/2 + 3G places. The end is leg G, place 0.
+ *
+ * A cursor is three numbers: the plan's revision, a leg, and a place of that leg. It ends with the third byte below
+ * 0x80.
+ */
+
+/*
+ * The refusals, with the position that is told beside each. docs/REFUSALS.md has examples, and what to do.
+ *
+ *   no.   cause                                                                     position
+ *    2    more links, streams or legs than are allowed, or too high a precision     0
+ *    4    a link out of range, or from a node to itself                             the lowest such link
+ *    5    a link from and to the same nodes as an earlier one                       the lowest later link
+ *    6    a stream out of range, or its first leg or leg count is wrong             the lowest such stream
+ *         all streams are right, and have fewer legs than the header says           the number of streams
+ *    7    a leg's stream, its link or its route is wrong                            the lowest such leg
+ *    8    the cursor is of another revision than the plan                           0
+ *    9    the cursor is at no place of the plan, nor at its end                     0
+ *   10    no such leg                                                               0
+ *   11    a move at revision 4,294,967,295                                          0
+ *   12    the bytes end before the numbers do                                       the start of that number
+ *   13    a number in more bytes than it needs, or above 4,294,967,295              the start of that number
+ *   14    bytes left over behind the last number                                    the first such byte
+ *   15    out has fewer than 15 bytes, or new_plan has no room for the new plan     0
+ *
+ * 1 (fewer than five words) and 3 (another length than the header says) are of tables in memory, and no call here gives
+ * them: a plan file that is too short or too long is refused with 12 or 14.
+ *
+ * Where several are due the first is told: of the plan 12 and 13 from left to right, 2 behind the fifth number, 14;
+ * of the cursor 12, 13, 14; 15 for out; then 4 to 11 in their order; and last 15 for new_plan. A 12, 13 or 14 of a
+ * slice or a move lies in the plan exactly when conepalhui_start refuses that plan with it too, and otherwise in the
+ * cursor.
+ */
+
+#ifdef __cplusplus
+extern "C" {
+#endif
+
+/*
+ * Begins a check. out gets the first cursor: the plan's revision, leg 0, place 0.
+ *
+ * Low 32 bits: 0 granted, or 100 + refusal. High 32 bits: how many places the plan has, or the refusal's position.
+ */
+uint64_t conepalhui_start(const uint8_t *plan, size_t plan_len, uint8_t *out, size_t out_len);
+
+/*
+ * Looks at the plan's places in order from the cursor on, at no more than budget of them, and stops sooner only at a
+ * violated place or at the end. Any budget will do, 0 too. out gets the cursor to go on with:
+ *
+ *   0  nothing violated from the cursor on: the end. This is told as soon as the end is reached, not a slice later
+ *   1  paused: the first place that was not looked at
+ *   2 to 5  violated: that very place. Another slice from there tells it again
+ *
+ * The call reads the whole plan whatever the budget is, so a slice of a few hundred places costs less for each of
+ * them than a slice of one.
+ *
+ * Low 32 bits: the result, or 100 + refusal. High 32 bits: the steps, which are the places that were looked at, or
+ * the refusal's position.
+ */
+uint64_t conepalhui_slice_full(const uint8_t *plan, size_t plan_len, const uint8_t *cursor, size_t cursor_len,
+                               uint32_t budget, uint8_t *out, size_t out_len);
+
+/* The same slice. It returns the result alone, without the steps or the position. */
+uint32_t conepalhui_slice(const uint8_t *plan, size_t plan_len, const uint8_t *cursor, size_t cursor_len,
+                          uint32_t budget, uint8_t *out, size_t out_len);
+
+/*
+ * Sets the offset of one leg to any number of nanoseconds and raises the plan's revision by one. new_plan gets the
+ * whole new plan file, out the cursor to go on with: of the new revision, at the given place or at (leg, 0),
+ * whichever comes first. Cursors of the old plan are refused with 8 from then on. To set the offset that the leg has
+ * already is a move like any other.
+ *
+ * plan_len + CONEPALHUI_MOVE_BYTES bytes are room enough for the new plan, and so are CONEPALHUI_PLAN_BYTES. Whoever
+ * saves both saves the new plan before the new cursor: then a saved cursor is never newer than the saved plan.
+ *
+ * Low 32 bits: 0 granted, or 100 + refusal. High 32 bits: how many bytes the new plan file has, or the position.
+ */
+uint64_t conepalhui_move(const uint8_t *plan, size_t plan_len, const uint8_t *cursor, size_t cursor_len,
+                         uint32_t leg, uint32_t offset, uint8_t *new_plan, size_t new_plan_len,
+                         uint8_t *out, size_t out_len);
+
+#ifdef __cplusplus
+}
+#endif
+
+/* ---- Reading answers and cursors */
+
+/* The result in an answer: one of those above. */
+static inline uint32_t conepalhui_result(uint64_t answer)
+{
+    return (uint32_t)(answer & 0xFFFFFFFFu);
+}
+
+/* The number beside it: places, steps, the bytes of the new plan, or the position of a refusal. */
+static inline uint32_t conepalhui_number(uint64_t answer)
+{
+    return (uint32_t)(answer >> 32);
+}
+
+/* The number of the refusal that a result tells, or 0 where it tells none. */
+static inline uint32_t conepalhui_refusal(uint32_t result)
+{
+    return result > CONEPALHUI_REFUSED ? result - CONEPALHUI_REFUSED : 0;
+}
+
+/* How many bytes the cursor has that a call wrote to out. Only for such cursors: other bytes may have no end. */
+static inline size_t conepalhui_cursor_length(const uint8_t *cursor)
+{
+    size_t length = 0;
+    int ends = 0;
+    while (ends < 3 && length < CONEPALHUI_CURSOR_BYTES)
+        ends += cursor[length++] < 0x80;
+    return length;
+}
+
+/* A cursor as numbers. */
+struct conepalhui_place {
+    uint32_t revision, leg, place;
+};
+
+/* The three numbers of a cursor that a call wrote to out. */
+static inline struct conepalhui_place conepalhui_cursor_place(const uint8_t *cursor)
+{
+    uint32_t numbers[3] = {0, 0, 0};
+    size_t length = conepalhui_cursor_length(cursor), at;
+    unsigned which = 0, shift = 0;
+    struct conepalhui_place place;
+    for (at = 0; at < length; at++) {
+        if (shift < 32)
+            numbers[which] |= (uint32_t)(cursor[at] & 0x7F) << shift;
+        shift = cursor[at] < 0x80 ? 0 : shift + 7;
+        which += cursor[at] < 0x80;
+    }
+    place.revision = numbers[0];
+    place.leg = numbers[1];
+    place.place = numbers[2];
+    return place;
+}
+
+#endif

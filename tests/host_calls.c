@@ -1,0 +1,474 @@
+/*
+ * host_calls.c: every call of conepalhui.h at the cases of the rules, at every refusal, and at the edges of its
+ * buffers.
+ *
+ * What is due stands here in numbers, worked out by hand from the rules. Each lent buffer ends at a page that may not
+ * be touched, so that a byte read or written behind it ends the program; what lies before it is compared. The exit
+ * status is 0 only where all answers are those that are due. tests/host.test builds and runs it.
+ */
+#define _GNU_SOURCE
+
+#include "conepalhui.h"
+
+#include <inttypes.h>
+#include <stdio.h>
+#include <stdlib.h>
+#include <string.h>
+#include <sys/mman.h>
+#include <ucontext.h>
+
+#define ROOM 65536 /* more than any lent buffer */
+#define PAGE 65536 /* as large as a page of any machine */
+#define UNTOUCHED 0xA5
+#define PAINT 0xC7
+#define STACK 262144
+#define TOP UINT32_MAX
+
+static unsigned cases, faults;
+
+static void fault(const char *name, const char *what)
+{
+    faults++;
+    printf("WRONG %s: %s\n", name, what);
+}
+
+/* ---- Lent buffers */
+
+enum { PLAN, CURSOR, NEW_PLAN, OUT, BUFFERS };
+
+static struct {
+    uint8_t *memory; /* ROOM bytes, and then a page that may not be touched */
+    uint8_t before[ROOM];
+    uint8_t *bytes; /* the lent ones, the last of the memory; null where none are lent */
+    size_t length;
+} lent[BUFFERS];
+
+static void make_buffers(void)
+{
+    for (int which = 0; which < BUFFERS; which++) {
+        lent[which].memory = mmap(NULL, ROOM + PAGE, PROT_READ | PROT_WRITE, MAP_PRIVATE | MAP_ANONYMOUS, -1, 0);
+        if (lent[which].memory == MAP_FAILED || mprotect(lent[which].memory + ROOM, PAGE, PROT_NONE) != 0) {
+            perror("host_calls");
+            exit(2);
+        }
+    }
+}
+
+/* Byte strings are written here as hexadecimal numbers of two digits with one space between them. */
+static size_t hex_length(const char *text)
+{
+    return (strlen(text) + 1) / 3;
+}
+
+static void put_hex(uint8_t *bytes, const char *text)
+{
+    size_t length = hex_length(text);
+    for (size_t at = 0; at < length; at++)
+        bytes[at] = (uint8_t)strtoul(text + 3 * at, NULL, 16);
+}
+
+/* Lends so many untouched bytes, and then those of a text. */
+static void lend(int which, size_t length, const char *text)
+{
+    memset(lent[which].memory, UNTOUCHED, ROOM);
+    lent[which].bytes = length == 0 ? NULL : lent[which].memory + ROOM - length;
+    lent[which].length = length;
+    put_hex(lent[which].bytes, text);
+    memcpy(lent[which].before, lent[which].memory, ROOM);
+}
+
+/* Says that the buffer is to begin with these bytes now, and to be for the rest what it was. */
+static void expect_bytes(const char *name, int which, const char *text)
+{
+    if (hex_length(text) > lent[which].length) {
+        fault(name, "more bytes are due than were lent");
+        return;
+    }
+    put_hex(lent[which].before + ROOM - lent[which].length, text);
+    if (memcmp(lent[which].before, lent[which].memory, ROOM) != 0)
+        fault(name, which == OUT ? "out is not what is due" : "a lent buffer is not what is due");
+}
+
+/* ---- The calls, each beside what is due */
+
+struct due {
+    uint32_t result, number;
+    const char *out, *new_plan; /* what is written */
+};
+
+static struct due gives(uint32_t result, uint32_t number, const char *out)
+{
+    return (struct due){result, number, out, ""};
+}
+
+static struct due refused(uint32_t result, uint32_t at)
+{
+    return gives(result, at, "");
+}
+
+static struct due grants(uint32_t number, const char *out, const char *new_plan)
+{
+    return (struct due){0, number, out, new_plan};
+}
+
+static void compare(const char *name, uint64_t answer, struct due due)
+{
+    cases++;
+    if (conepalhui_result(answer) != due.result || conepalhui_number(answer) != due.number) {
+        fault(name, "another answer");
+        printf("    it is %" PRIu32 " %" PRIu32 ", and %" PRIu32 " %" PRIu32 " is due\n", conepalhui_result(answer),
+               conepalhui_number(answer), due.result, due.number);
+    }
+    expect_bytes(name, PLAN, "");
+    expect_bytes(name, CURSOR, "");
+    expect_bytes(name, NEW_PLAN, due.new_plan);
+    expect_bytes(name, OUT, due.out);
+    if (*due.out != '\0' && conepalhui_cursor_length(lent[OUT].bytes) != hex_length(due.out))
+        fault(name, "another length of the cursor");
+}
+
+static uint64_t call_start(void)
+{
+    return conepalhui_start(lent[PLAN].bytes, lent[PLAN].length, lent[OUT].bytes, lent[OUT].length);
+}
+
+static uint64_t call_slice(uint32_t budget)
+{
+    return conepalhui_slice_full(lent[PLAN].bytes, lent[PLAN].length, lent[CURSOR].bytes, lent[CURSOR].length, budget,
+                                 lent[OUT].bytes, lent[OUT].length);
+}
+
+static uint64_t call_short_slice(uint32_t budget)
+{
+    return conepalhui_slice(lent[PLAN].bytes, lent[PLAN].length, lent[CURSOR].bytes, lent[CURSOR].length, budget,
+                            lent[OUT].bytes, lent[OUT].length);
+}
+
+static uint64_t call_move(uint32_t leg, uint32_t offset)
+{
+    return conepalhui_move(lent[PLAN].bytes, lent[PLAN].length, lent[CURSOR].bytes, lent[CURSOR].length, leg, offset,
+                           lent[NEW_PLAN].bytes, lent[NEW_PLAN].length, lent[OUT].bytes, lent[OUT].length);
+}
+
+static void lend_all(const char *plan, const char *cursor, size_t new_plan_len, size_t out_len)
+{
+    lend(PLAN, hex_length(plan), plan);
+    lend(CURSOR, hex_length(cursor), cursor);
+    lend(NEW_PLAN, new_plan_len, "");
+    lend(OUT, out_len, "");
+}
+
+static void start(const char *name, const char *plan, size_t out_len, struct due due)
+{
+    lend_all(plan, "", 0, out_len);
+    compare(name, call_start(), due);
+}
+
+/* Both forms of the slice: the short one tells the same result and writes the same, without the number. */
+static void slice(const char *name, const char *plan, const char *cursor, uint32_t budget, size_t out_len,
+                  struct due due)
+{
+    lend_all(plan, cursor, 0, out_len);
+    compare(name, call_slice(budget), due);
+    lend_all(plan, cursor, 0, out_len);
+    due.number = 0;
+    compare(name, call_short_slice(budget), due);
+}
+
+struct moved {
+    uint32_t leg, offset;
+};
+
+static void move(const char *name, const char *plan, const char *cursor, struct moved moved,
+                 size_t new_plan_len, size_t out_len, struct due due)
+{
+    lend_all(plan, cursor, new_plan_len, out_len);
+    compare(name, call_move(moved.leg, moved.offset), due);
+}
+
+/* ---- Plan A, with another revision and with other offsets of the legs 0 and 2 */
+
+#define PLAN_A(revision, leg_0, leg_2)                                                                                \
+    revision " 02 02 03 64 01 02 08 F4 03 02 03 08 F4 03 A0 8D 06 B0 12 40 00 02 F0 93 09 D0 0F 40 02 01 00 00 " leg_0 \
+             " 00 01 98 09 01 00 " leg_2
+
+static const char *const plan_a = PLAN_A("00", "00", "00");
+static const char *const plan_last = PLAN_A("FF FF FF FF 0F", "00", "00"); /* at the last revision */
+
+static void numbered_cases(void)
+{
+    const char *moved_2 = PLAN_A("01", "00", "C0 04"), *moved_0 = PLAN_A("01", "D8 04", "00");
+    const char *late = "00 01 01 01 64 01 02 08 F4 03 A0 8D 06 97 09 40 00 01 00 00 00";
+    start("case 11, start", plan_a, 15, gives(0, 12, "00 00 00"));
+    slice("case 11, first", plan_a, "00 00 00", 5, 15, gives(1, 5, "00 01 02"));
+    slice("case 11, second", plan_a, "00 01 02", 5, 15, gives(1, 5, "00 02 03"));
+    slice("case 11, third", plan_a, "00 02 03", 5, 15, gives(5, 1, "00 02 03"));
+    slice("case 11, at once", plan_a, "00 00 00", TOP, 15, gives(5, 11, "00 02 03"));
+    move("case 12, move", plan_a, "00 02 03", (struct moved){2, 576}, 42, 15, grants(42, "01 02 00", moved_2));
+    slice("case 12, slice", moved_2, "01 02 00", 5, 15, gives(0, 5, "01 03 00"));
+    slice("case 12, four", moved_2, "01 02 00", 4, 15, gives(1, 4, "01 02 04"));
+    move("case 13, move", plan_a, "00 02 03", (struct moved){0, 600}, 42, 15, grants(42, "01 00 00", moved_0));
+    slice("case 13, slice", moved_0, "01 00 00", 5, 15, gives(3, 5, "01 01 01"));
+    start("case 14, start", "00 00 00 00 00", 15, gives(0, 0, "00 00 00"));
+    slice("case 14, slice", "00 00 00 00 00", "00 00 00", 0, 15, gives(0, 0, "00 00 00"));
+    start("case 14, empty", "", 15, refused(112, 0));
+    start("case 14, 80 00", "80 00", 15, refused(113, 0));
+    slice("budget 0", plan_a, "00 01 02", 0, 15, gives(1, 0, "00 01 02"));
+    slice("window", PLAN_A("00", "A1 8D 06", "00"), "00 00 00", 9, 15, gives(2, 1, "00 00 00"));
+    slice("deadline", late, "00 00 00", 9, 15, gives(4, 3, "00 00 02"));
+}
+
+/* Each plan here is refused in the same way by all three calls, with the position of its refusal. */
+static void refused_plans(void)
+{
+    static const struct {
+        const char *plan;
+        uint32_t result, at;
+    } tried[] = {
+        {"00 81 02 00 00 00", 102, 0},
+        {"00 01 00 00 00 00 00 08 00", 104, 0},
+        {"00 02 00 00 00 00 01 08 00 01 02 07 00", 104, 1},
+        {"00 02 00 00 00 00 01 08 00 00 01 08 00", 105, 1},
+        {"00 00 01 00 00 00 00 00 00 00", 106, 0},
+        {"00 00 00 01 00 00 00 00", 106, 0},
+        {"00 00 01 01 00 01 01 40 00 01 00 00 00", 107, 0},
+        {"00 02 02 03 64 01 02", 112, 7},
+        {"00 02 02 03 64 01 82", 112, 6},
+        {"00 02 02 03 64 81 00", 113, 5},
+        {"00 02 02 03 64 FF FF FF FF 10", 113, 5},
+        {"00 00 00 00 00 00", 114, 5},
+    };
+    for (size_t i = 0; i < sizeof tried / sizeof *tried; i++) {
+        struct due due = refused(tried[i].result, tried[i].at);
+        const char *name = tried[i].plan;
+        start(name, name, 15, due);
+        slice(name, name, "00 00 00", 5, 15, due);
+        move(name, name, "00 00 00", (struct moved){0, 0}, ROOM, 15, due);
+    }
+}
+
+/* Each cursor here is refused in the same way by slice and move of Plan A. */
+static void refused_cursors(void)
+{
+    static const struct {
+        const char *cursor;
+        uint32_t result, at;
+    } tried[] = {
+        {"00 00", 112, 2},       {"00 80 80", 112, 1}, {"00 80 00 00", 113, 1}, {"00 00 00 00", 114, 3},
+        {"01 00 00", 108, 0},    {"00 00 03", 109, 0}, {"00 02 05", 109, 0},    {"00 03 01", 109, 0},
+        {"00 04 00", 109, 0},    {"01 04 00", 108, 0}, {"80 80 80 80 10 00 00", 113, 0},
+        {"FF FF FF FF 0F 00 00", 108, 0},
+    };
+    for (size_t i = 0; i < sizeof tried / sizeof *tried; i++) {
+        struct due due = refused(tried[i].result, tried[i].at);
+        const char *name = tried[i].cursor;
+        slice(name, plan_a, name, 5, 15, due);
+        move(name, plan_a, name, (struct moved){0, 0}, ROOM, 15, due);
+    }
+}
+
+static void moves(void)
+{
+    const char *longer = PLAN_A("01", "00", "FF FF FF FF 0F"), *same = PLAN_A("01", "00", "00");
+    const char *longest = PLAN_A("80 01", "00", "FF FF FF FF 0F");
+    const char *last = PLAN_A("FF FF FF FF 0F", "00", "01");
+    const char *before_last = PLAN_A("FE FF FF FF 0F", "00", "00");
+    move("leg 3", plan_a, "00 00 00", (struct moved){3, 0}, ROOM, 15, refused(110, 0));
+    move("leg 2^32 - 1", plan_a, "00 00 00", (struct moved){TOP, 0}, ROOM, 15, refused(110, 0));
+    move("ahead", plan_a, "00 01 02", (struct moved){2, TOP}, 45, 15, grants(45, "01 01 02", longer));
+    move("longer by all five bytes", PLAN_A("7F", "00", "00"), "7F 00 00", (struct moved){2, TOP},
+         41 + CONEPALHUI_MOVE_BYTES, 15, grants(46, "80 01 00 00", longest));
+    move("same offset", plan_a, "00 03 00", (struct moved){2, 0}, 41, 15, grants(41, "01 02 00", same));
+    move("from the end", plan_a, "00 03 00", (struct moved){0, 0}, 41, 15, grants(41, "01 00 00", same));
+    move("to the last revision", before_last, "FE FF FF FF 0F 00 00", (struct moved){2, 1}, 45, 15,
+         grants(45, "FF FF FF FF 0F 00 00", last));
+    move("at the last revision", plan_last, "FF FF FF FF 0F 00 00", (struct moved){2, 1}, ROOM, 15,
+         refused(111, 0));
+    move("10 before 11", plan_last, "FF FF FF FF 0F 00 00", (struct moved){3, 1}, ROOM, 15,
+         refused(110, 0));
+}
+
+static void rooms_and_orders(void)
+{
+    struct due no_room = refused(115, 0);
+    const char *longer = PLAN_A("01", "00", "FF FF FF FF 0F");
+    start("start, 14 bytes for out", plan_a, 14, no_room);
+    slice("slice, 14 bytes for out", plan_a, "00 00 00", 5, 14, no_room);
+    move("move, 14 bytes for out", plan_a, "00 00 00", (struct moved){0, 0}, ROOM, 14, no_room);
+    move("move, one byte too few", plan_a, "00 00 00", (struct moved){2, TOP}, 44, 15, no_room);
+    start("start, rest of out", plan_a, 99, gives(0, 12, "00 00 00"));
+    slice("slice, rest of out", plan_a, "00 00 00", 1, 99, gives(1, 1, "00 00 01"));
+    move("move, rest of both", plan_a, "00 00 00", (struct moved){2, TOP}, ROOM, 99,
+         grants(45, "01 00 00", longer));
+    slice("14 in the plan before 12 in the cursor", "00 00 00 00 00 00", "", 5, 0, refused(114, 5));
+    slice("12 in the cursor before 15", plan_a, "", 5, 0, refused(112, 0));
+    slice("15 before 4", "00 01 00 00 00 00 00 08 00", "00 00 00", 5, 14, no_room);
+    slice("4 before 8", "00 01 00 00 00 00 00 08 00", "01 00 00", 5, 15, refused(104, 0));
+    move("15 for out before 8", plan_a, "01 00 00", (struct moved){9, 0}, 0, 14, no_room);
+    move("9 before 10", plan_a, "00 09 00", (struct moved){9, 0}, 0, 15, refused(109, 0));
+    move("11 before 15 for the new plan", plan_last, "FF FF FF FF 0F 00 00", (struct moved){2, 1}, 0, 15,
+         refused(111, 0));
+}
+
+/* A buffer of length 0 is lent as null. */
+static void nulls(void)
+{
+    struct due empty = refused(112, 0), no_room = refused(115, 0);
+    start("null plan", "", 15, empty);
+    start("null out", plan_a, 0, no_room);
+    start("all null, start", "", 0, empty);
+    slice("null cursor", plan_a, "", 5, 15, empty);
+    slice("all null, slice", "", "", 5, 0, empty);
+    move("null new plan", plan_a, "00 00 00", (struct moved){0, 0}, 0, 15, no_room);
+    move("all null, move", "", "", (struct moved){0, 0}, 0, 0, empty);
+}
+
+/* Memory that is only read may overlap: here the cursor lies in the plan. */
+static void shared_memory(void)
+{
+    lend_all("00 00 00 00 00", "", 0, 15);
+    uint64_t answer = conepalhui_slice_full(lent[PLAN].bytes, 5, lent[PLAN].bytes + 1, 3, 7, lent[OUT].bytes, 15);
+    compare("the cursor in the plan", answer, gives(0, 0, "00 00 00"));
+}
+
+static void helpers(void)
+{
+    static const struct {
+        const char *cursor;
+        size_t length;
+        struct conepalhui_place place;
+    } known[] = {
+        {"00 00 00 00 00 00 00 00 00 00 00 00 00 00 00", 3, {0, 0, 0}},
+        {"AC 02 FF 0F 82 10 A5 A5 A5 A5 A5 A5 A5 A5 A5", 6, {300, 2047, 2050}},
+        {"FF FF FF FF 0F FF FF FF FF 0F FF FF FF FF 0F", 15, {TOP, TOP, TOP}},
+        {"FF FF FF FF FF FF FF FF FF FF FF FF FF FF FF", 15, {TOP, 0, 0}}, /* no cursor, and no harm */
+    };
+    for (size_t i = 0; i < sizeof known / sizeof *known; i++) {
+        uint8_t bytes[CONEPALHUI_CURSOR_BYTES];
+        put_hex(bytes, known[i].cursor);
+        struct conepalhui_place place = conepalhui_cursor_place(bytes);
+        cases++;
+        if (conepalhui_cursor_length(bytes) != known[i].length || memcmp(&place, &known[i].place, sizeof place) != 0)
+            fault("helpers", known[i].cursor);
+    }
+    cases++;
+    if (conepalhui_result(0x1234567800000073) != 115 || conepalhui_number(0x1234567800000073) != 0x12345678 ||
+        conepalhui_refusal(115) != 15 || conepalhui_refusal(100) != 0 || conepalhui_refusal(5) != 0)
+        fault("helpers", "result, number or refusal");
+}
+
+/* ---- The stack, measured by painting one */
+
+static uint8_t stack[STACK];
+static ucontext_t outside, inside;
+static void (*measured)(void);
+
+static void run_measured(void)
+{
+    measured();
+}
+
+/* Gives how many bytes of the stack a function uses. */
+static size_t stack_of(void (*function)(void))
+{
+    size_t clean = 0;
+    measured = function;
+    memset(stack, PAINT, sizeof stack);
+    getcontext(&inside);
+    inside.uc_stack.ss_sp = stack;
+    inside.uc_stack.ss_size = sizeof stack;
+    inside.uc_link = &outside;
+    makecontext(&inside, run_measured, 0);
+    swapcontext(&outside, &inside);
+    while (clean < sizeof stack && stack[clean] == PAINT)
+        clean++;
+    return sizeof stack - clean;
+}
+
+static void stack_start(void)
+{
+    call_start();
+}
+
+static void stack_slice(void)
+{
+    call_slice(TOP);
+}
+
+static void stack_short_slice(void)
+{
+    call_short_slice(TOP);
+}
+
+static void stack_move(void)
+{
+    call_move(2047, TOP);
+}
+
+/* The largest plan: 512 streams of four legs over four links in a row, and 252 links that no stream takes. */
+static char largest[3 * CONEPALHUI_PLAN_BYTES];
+
+static void add_number(uint32_t number)
+{
+    static size_t length;
+    for (; number >= 0x80; number >>= 7)
+        length += (size_t)sprintf(largest + length, "%02X ", (unsigned)(number % 0x80 + 0x80));
+    length += (size_t)sprintf(largest + length, "%02X ", (unsigned)number);
+}
+
+static void make_largest(void)
+{
+    for (int i = 0; i < 5; i++)
+        add_number((const uint32_t[]){7, 256, 512, 2048, 100}[i]);
+    for (uint32_t link = 0; link < 256; link++)
+        for (int i = 0; i < 4; i++)
+            add_number((const uint32_t[]){link, link + 1, 8, 500}[i]);
+    for (uint32_t stream = 0; stream < 512; stream++)
+        for (int i = 0; i < 5; i++)
+            add_number((const uint32_t[]){1000000000, 1000000000, 64, 4 * stream, 4}[i]);
+    for (uint32_t leg = 0; leg < 2048; leg++)
+        for (int i = 0; i < 3; i++)
+            add_number((const uint32_t[]){leg / 4, leg % 4, leg / 4 * 576 + leg % 4 * 1176}[i]);
+}
+
+static void stacks(void)
+{
+    static const struct {
+        const char *name;
+        void (*call)(void);
+    } calls[] = {
+        {"start", stack_start}, {"slice_full", stack_slice}, {"slice", stack_short_slice}, {"move", stack_move}};
+    const char *plans[] = {largest, plan_a};
+    make_largest();
+    start("largest plan", largest, 15, gives(0, 2102272, "07 00 00"));
+    slice("largest plan", largest, "07 00 00", TOP, 15, gives(0, 2102272, "07 80 10 00"));
+    slice("largest plan, paused", largest, "07 FF 0F 80 10", 1, 15, gives(1, 1, "07 FF 0F 81 10"));
+    for (size_t i = 0; i < sizeof calls / sizeof *calls; i++) {
+        size_t most = 0;
+        for (int which = 0; which < 2; which++) {
+            lend_all(plans[which], which == 0 ? "07 00 00" : "00 00 00", CONEPALHUI_PLAN_BYTES, 15);
+            size_t used = stack_of(calls[i].call);
+            most = used > most ? used : most;
+        }
+        cases++;
+        if (most > CONEPALHUI_STACK_BYTES)
+            fault(calls[i].name, "it uses more of the stack than the header says");
+        printf("stack of %s: %zu bytes\n", calls[i].name, most);
+    }
+}
+
+int main(void)
+{
+    make_buffers();
+    numbered_cases();
+    refused_plans();
+    refused_cursors();
+    moves();
+    rooms_and_orders();
+    nulls();
+    shared_memory();
+    helpers();
+    stacks();
+    printf("%u calls, %u faults\n", cases, faults);
+    return faults == 0 ? 0 : 1;
+}
