@@ -105,10 +105,16 @@ class Desk:
             raise AssertionError(f"exit status {done.returncode} after {done.stdout!r} {done.stderr!r}")
         return answer
 
+    def check(self):
+        """Gives the verdict of './conepalhui check', in the form that verdict has."""
+        out = subprocess.run([COMMAND, "check", str(self.plan)], stdout=subprocess.PIPE, text=True, timeout=600).stdout.split()
+        return ("nothing violated",) if out[4:] == ["accepted"] else (out[4], int(out[5]), int(out[6]), out[7])
+
 
 def build():
-    """Makes a first call, which proves and builds the program, however long that takes."""
-    subprocess.run([COMMAND, "start", "missing", "missing"], capture_output=True)
+    """Makes first calls, which prove and build the programs, however long that takes."""
+    for words in (["start", "missing", "missing"], ["check", "/dev/null"]):
+        subprocess.run([COMMAND, *words], capture_output=True)
 
 
 def program():
