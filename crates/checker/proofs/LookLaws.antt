@@ -9,7 +9,7 @@ use Rattle.table.specs.Layout.{legCount}
 use Rattle.files.specs.declared.Cursor.{Cursor}
 use Rattle.rules.specs.Places.{placesOf}
 use Rattle.rules.specs.declared.Rule.{Rule}
-use Rattle.places.specs.Order.{placesBelow, rank, IsPlace, IsEnd, Stands, HoldFrom}
+use Rattle.places.specs.Order.{placesBelow, rank, IsPlace, IsEnd, PlaceOrEnd, HoldFrom}
 use Rattle.places.specs.Told.{LegHolds, FirstBroken}
 use Rattle.places.proofs.Ranks.{below-mono, leg-below, held-on, held-none, next-leg}
 use Rattle.checker.specs.Cursors.{cursorRank, CursorRight}
@@ -19,18 +19,18 @@ use Rattle.checker.specs.Steps.{PulledBack}
 
 -- A slice from c stands at (a,p) with so much of its budget left.
 pub record Looking (t : List ℕ) (c : Cursor) (budget a p left : ℕ) : Type 0 where
-  pub stands : Stands t a p
+  pub stands : PlaceOrEnd t a p
   pub within : left ≤ budget
   pub steps : cursorRank c + budget ≡ rank a p + left
   pub held : HoldFrom t (cursorRank c) (rank a p)
 
-pub no-leg-past : {t : List ℕ} {a p : ℕ} → Stands t a p → a ≤ legCount t
+pub no-leg-past : {t : List ℕ} {a p : ℕ} → PlaceOrEnd t a p → a ≤ legCount t
 no-leg-past {t} {a} {p} s = ⊎-elim (λ (i : IsPlace t a p). omega (arith, i .leg)) (λ (e : IsEnd t a p). omega (arith, e .leg)) s
 
-pub at-place : {t : List ℕ} {a p : ℕ} → Stands t a p → a < legCount t → IsPlace t a p
+pub at-place : {t : List ℕ} {a p : ℕ} → PlaceOrEnd t a p → a < legCount t → IsPlace t a p
 at-place {t} {a} {p} s h = ⊎-elim (λ (i : IsPlace t a p). i) (λ (e : IsEnd t a p). absurd (omega (arith, e .leg))) s
 
-at-end : {t : List ℕ} {a p : ℕ} → Stands t a p → legCount t ≤ a → IsEnd t a p
+at-end : {t : List ℕ} {a p : ℕ} → PlaceOrEnd t a p → legCount t ≤ a → IsEnd t a p
 at-end {t} {a} {p} s h = ⊎-elim (λ (i : IsPlace t a p). absurd (omega (arith, i .leg))) (λ (e : IsEnd t a p). e) s
 
 module _ {t : List ℕ} {c : Cursor} (right : CursorRight t c) where
@@ -100,7 +100,7 @@ module _ {t : List ℕ} {c : Cursor} (right : CursorRight t c) where
         }
 
 -- A cursor pulled back to a leg of the table is at the lesser of its place and the leg's first.
-pub pulled-to-lesser : {t : List ℕ} {c d : Cursor} {rev leg : ℕ} → Stands t (c .leg) (c .place) → leg < legCount t → PulledBack c rev leg d → AtTheLesser c leg d
+pub pulled-to-lesser : {t : List ℕ} {c d : Cursor} {rev leg : ℕ} → PlaceOrEnd t (c .leg) (c .place) → leg < legCount t → PulledBack c rev leg d → AtTheLesser c leg d
 pulled-to-lesser {t} {c} {d} {rev} {leg} s h b =
     ⊎-elim
     (λ (k : c .leg < leg).
@@ -115,5 +115,5 @@ pulled-to-lesser {t} {c} {d} {rev} {leg} s h b =
     (lt-or-ge (c .leg) leg)
 
 -- What is neither a place nor the end.
-pub not-standing : (t : List ℕ) (a p : ℕ) → (a < legCount t → placesOf a ≤ p) → (a ≡ legCount t → 0 < p) → Stands t a p → ⊥
+pub not-standing : (t : List ℕ) (a p : ℕ) → (a < legCount t → placesOf a ≤ p) → (a ≡ legCount t → 0 < p) → PlaceOrEnd t a p → ⊥
 not-standing t a p f g s = ⊎-elim (λ (i : IsPlace t a p). omega (arith, i .place, f (i .leg))) (λ (e : IsEnd t a p). omega (arith, e .place, g (e .leg))) s

@@ -12,7 +12,7 @@ use Rattle.files.specs.declared.Cursor.{Cursor}
 use Rattle.shape.proofs.OneShape.{well-no-fault, fault-one}
 use Rattle.rules.specs.Places.{placeAt}
 use Rattle.rules.specs.declared.Rule.{Rule}
-use Rattle.places.specs.Order.{placesBelow, Stands}
+use Rattle.places.specs.Order.{placesBelow, PlaceOrEnd}
 use Rattle.places.proofs.Ranks.{end-rank, place-rank, rank-is-one}
 use Rattle.checker.specs.Cursors.{cursorRank, CursorRight, CursorWrong, CursorFault}
 use Rattle.checker.specs.Slices.{Went, Violates, Ends, Pauses}
@@ -39,7 +39,7 @@ same-numbers d e r l p =
     x
 
 -- Two cursors at one place.
-pub one-cursor : {t : List ℕ} {d e : Cursor} → d .revision ≡ e .revision → Stands t (d .leg) (d .place) → Stands t (e .leg) (e .place) → cursorRank d ≡ cursorRank e → d ≡ e
+pub one-cursor : {t : List ℕ} {d e : Cursor} → d .revision ≡ e .revision → PlaceOrEnd t (d .leg) (d .place) → PlaceOrEnd t (e .leg) (e .place) → cursorRank d ≡ cursorRank e → d ≡ e
 one-cursor {d = d} {e = e} r s u h =
     let x = rank-is-one (d .leg) (d .place) (e .leg) (e .place) s u h in
     same-numbers d e r (x .0) (x .1)
@@ -76,7 +76,7 @@ module _ {t : List ℕ} {c : Cursor} where
   not-past : {b m n : ℕ} {d e : Cursor} {r : Rule} → Went t c d n → Violates t c b e m r → cursorRank e < cursorRank d → ⊥
   not-past {e = e} w v h = v .broken (w .held (e .leg) (e .place) (v .place) (omega (arith, v .went .steps)) h)
 
-  one-went : {d e : Cursor} {m n : ℕ} → Went t c d m → Went t c e n → Stands t (d .leg) (d .place) → Stands t (e .leg) (e .place) → cursorRank d ≡ cursorRank e → (d ≡ e) × (m ≡ n)
+  one-went : {d e : Cursor} {m n : ℕ} → Went t c d m → Went t c e n → PlaceOrEnd t (d .leg) (d .place) → PlaceOrEnd t (e .leg) (e .place) → cursorRank d ≡ cursorRank e → (d ≡ e) × (m ≡ n)
   one-went v w s u h = (one-cursor (v .revision ∙ sym (w .revision)) s u h, omega (arith, v .steps, w .steps))
 
   module _ {b : ℕ} where
@@ -160,7 +160,7 @@ module _ {t : List ℕ} {c : Cursor} {leg : ℕ} where
   move-fault-one (inr v) (inr w) = move-wrong-one v w
 
   -- The lesser of two places stands where one of them does.
-  pub lesser-stands : {d : Cursor} → CursorRight t c → leg < legCount t → AtTheLesser c leg d → Stands t (d .leg) (d .place)
+  pub lesser-stands : {d : Cursor} → CursorRight t c → leg < legCount t → AtTheLesser c leg d → PlaceOrEnd t (d .leg) (d .place)
   lesser-stands r h a =
       ⊎-elim
       (λ e. rw (e .0, e .1) (r .stands))

@@ -6,7 +6,7 @@ use mathlib.Core.Logic.{_⊎_}
 use Rattle.table.specs.Layout.{revisionOf}
 use Rattle.shape.specs.Shape.{WellFormedTable, ShapeFault}
 use Rattle.files.specs.declared.Cursor.{Cursor}
-use Rattle.places.specs.Order.{rank, Stands}
+use Rattle.places.specs.Order.{rank, PlaceOrEnd}
 
 -- How many places come before a cursor's.
 abbrev pub cursorRank : Cursor → ℕ
@@ -16,7 +16,7 @@ cursorRank c = rank (c .leg) (c .place)
 pub record CursorRight (t : List ℕ) (c : Cursor) : Type 0 where
   pub shape : WellFormedTable t
   pub revision : c .revision ≡ revisionOf t
-  pub stands : Stands t (c .leg) (c .place)
+  pub stands : PlaceOrEnd t (c .leg) (c .place)
 
 -- 8: the cursor's revision is not the table's. 9: the cursor is no place and not the end.
 abbrev pub staleCursor : ℕ
@@ -32,7 +32,7 @@ pub record Stale (t : List ℕ) (c : Cursor) (k : ℕ) : Type 0 where
 pub record Lost (t : List ℕ) (c : Cursor) (k : ℕ) : Type 0 where
   pub number : k ≡ noPlace
   pub revision : c .revision ≡ revisionOf t
-  pub nowhere : Stands t (c .leg) (c .place) → ⊥
+  pub nowhere : PlaceOrEnd t (c .leg) (c .place) → ⊥
 
 -- The cursor of a well-formed table is wrong, at 0.
 pub record CursorWrong (t : List ℕ) (c : Cursor) (k p : ℕ) : Type 0 where

@@ -2,7 +2,7 @@
 ghost use Rattle.basics.specs.Tells.{Tells};
 ghost use Rattle.table.specs.Layout.{Sized};
 ghost use Rattle.shape.specs.Shape.{WellFormedTable};
-ghost use Rattle.places.specs.Order.{Stands};
+ghost use Rattle.places.specs.Order.{PlaceOrEnd};
 ghost use Rattle.checker.specs.Cursors.{CursorRight};
 ghost use Rattle.checker.specs.Steps.{CursorTold, MoveTold, PulledBack};
 use basics::Holds;
@@ -20,9 +20,9 @@ pub const CANNOT_RISE: u32 = 11;
 pub const MAX_REVISION: u32 = 4294967295;
 
 // Whether (a,p) is a place of the table, or the end.
-fn stands_told(t: &[u32], a: u32, p: u32) -> Holds
+fn place_or_end_told(t: &[u32], a: u32, p: u32) -> Holds
     requires { ⌜ Sized (now t) ⌝ }
-    ensures { λ r. ⌜ Tells (Stands (now (t .entry)) a p) r ⌝ }
+    ensures { λ r. ⌜ Tells (PlaceOrEnd (now (t .entry)) a p) r ⌝ }
 {
     if a < t[table::LEGS_AT] {
         if table::wide(p) < places::places_of(table::wide(a)) {
@@ -47,7 +47,7 @@ fn placed_told(t: &[u32], c: Cursor) -> Shape
     if c.revision != t[table::REVISION_AT] {
         return Shape::Wrong(STALE_CURSOR, 0);
     }
-    let told = stands_told(t, c.leg, c.place);
+    let told = place_or_end_told(t, c.leg, c.place);
     match told {
         Holds::Yes => Shape::Right,
         Holds::No => Shape::Wrong(NO_PLACE, 0),

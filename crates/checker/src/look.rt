@@ -24,7 +24,7 @@ fn look_on(t: &[u32], first: &[usize], next: &[usize], cursor: Cursor, budget: u
         let end = places::places_of(a);
         let step = places::lesser(left, end - p);
         let limit = p + step;
-        let told = places::leg::leg_told(t, first, next, a, p, limit);
+        let told = places::leg::judged_leg(t, first, next, a, p, limit);
         match told {
             LegTold::Broken(q, rule) => {
                 return SliceAnswer::Violated(
@@ -85,7 +85,7 @@ pub fn looked(t: &[u32], cursor: Cursor, budget: u32) -> SliceAnswer
     requires { ⌜ CursorRight (now t) cursor ⌝ }
     ensures { λ r. ⌜ Slices (now (t .entry)) cursor budget r ⌝ }
 {
-    let mut first = [places::chains::NO_LEG; table::MAX_LINKS];
+    let mut first = [places::chains::NO_CHAIN; table::MAX_LINKS];
     let mut next = [0usize; table::MAX_LEGS];
     look_in(t, &mut first, &mut next, cursor, budget)
 }

@@ -13,7 +13,7 @@ use Rattle.shape.proofs.Moved.{moved-same, moves-keep-shape}
 use Rattle.files.specs.declared.Cursor.{Cursor}
 use Rattle.rules.proofs.AtNumbers.{starred-cases, accepted-plan-exists}
 use Rattle.rules.proofs.Covering.{places-cover-the-rules}
-use Rattle.places.specs.Order.{placesBelow, rank, Stands, HoldFrom}
+use Rattle.places.specs.Order.{placesBelow, rank, PlaceOrEnd, HoldFrom}
 use Rattle.places.proofs.Ranks.{below-none, below-more, held-none}
 use Rattle.checker.specs.Cursors.{CursorRight}
 use Rattle.checker.specs.Slices.{Went, Slices}
@@ -39,25 +39,25 @@ ranks =
     let c : placesBelow 3 ≡ placesBelow 2 + 5 = below-more 2 in
     (z, omega arith, omega arith, omega arith)
 
-right : (a p : ℕ) → Stands good a p → CursorRight good (at 0 a p)
+right : (a p : ℕ) → PlaceOrEnd good a p → CursorRight good (at 0 a p)
 right a p s = record { shape = shape; revision = refl; stands = s }
 
 went : (a p b q n : ℕ) → rank a p + n ≡ rank b q → Went good (at 0 a p) (at 0 b q) n
 went a p b q n e = record { revision = refl; steps = e; held = held _ _ }
 
-pause : (a p b q n : ℕ) → Stands good a p → b < 3 → q < 3 + b → rank a p + n ≡ rank b q → Slices good (at 0 a p) n (Paused (at 0 b q) n)
+pause : (a p b q n : ℕ) → PlaceOrEnd good a p → b < 3 → q < 3 + b → rank a p + n ≡ rank b q → Slices good (at 0 a p) n (Paused (at 0 b q) n)
 pause a p b q n s l h e = (right a p s, record { went = went a p b q n e; place = record { leg = l; place = h }; used = refl })
 
-end : (a p n : ℕ) → Stands good a p → rank a p + n ≡ rank 3 0 → Slices good (at 0 a p) n (NothingViolated (at 0 3 0) n)
+end : (a p n : ℕ) → PlaceOrEnd good a p → rank a p + n ≡ rank 3 0 → Slices good (at 0 a p) n (NothingViolated (at 0 3 0) n)
 end a p n s e = (right a p s, record { went = went a p 3 0 n e; end = record { leg = refl; place = refl }; within = omega arith })
 
-place-0-0 : Stands good 0 0
+place-0-0 : PlaceOrEnd good 0 0
 place-0-0 = inl (record { leg = omega arith; place = omega arith })
 
-place-1-2 : Stands good 1 2
+place-1-2 : PlaceOrEnd good 1 2
 place-1-2 = inl (record { leg = omega arith; place = omega arith })
 
-the-end : Stands good 3 0
+the-end : PlaceOrEnd good 3 0
 the-end = inr (record { leg = refl; place = refl })
 
 begins : Run begun good

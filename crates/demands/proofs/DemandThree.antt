@@ -22,7 +22,7 @@ use Rattle.checker.proofs.OneAnswer.{right-no-fault}
 use Rattle.checker.specs.declared.Grant.the-variants.{Granted, Refused}
 use Rattle.checker.specs.declared.SliceAnswer.{SliceAnswer}
 use Rattle.checker.specs.declared.SliceAnswer.the-variants as answer
-use Rattle.demands.specs.Verdicts.{Verdict, violated, nothing-violated, Gives, FirstViolated, Right}
+use Rattle.demands.specs.Verdicts.{Verdict, violated, nothing-violated, Gives, FirstViolated, RightVerdict}
 use Rattle.demands.specs.Runs.{Call, start, slice, move-leg, cursorOf, Run, Renews, newest, KeepsOn, Since, budgets, HasSlice, HasVerdict}
 use Rattle.demands.specs.DemandThree.{Sound, RunsAreSound, RunsEndInTime, DemandThree}
 use Rattle.demands.proofs.Verdicts.{rules-keep-places, right-verdict}
@@ -42,7 +42,7 @@ first-one a p b q v w =
     (lt-or-ge (rank a p) (rank b q))
 
 -- Two right verdicts of one table are one.
-right-one : (t : List ℕ) (v w : Verdict) → Right t v → Right t w → v ≡ w
+right-one : (t : List ℕ) (v w : Verdict) → RightVerdict t v → RightVerdict t w → v ≡ w
 right-one t (violated a p r) (violated b q s) f g =
     let e = rank-is-one {t = t} a p b q (inl (f .0 .place)) (inl (g .0 .place)) (first-one a p b q (f .0) (g .0)) in
     let e0 = e .0 in
@@ -62,7 +62,7 @@ module _ (t : List ℕ) (shape : WellFormedTable t) where
   passed : (d : Cursor) → d .revision ≡ revisionOf t → HoldFrom t 0 (cursorRank d) → Went t (startCursor t) d (cursorRank d)
   passed d e h = record { revision = e; steps = omega (arith, start-rank begin); held = λ a p i from below. h a p i (omega arith) below }
 
-  whole-answer : (v : Verdict) → Right t v → (w : SliceAnswer) × Slices t (startCursor t) (placeCount t) w
+  whole-answer : (v : Verdict) → RightVerdict t v → (w : SliceAnswer) × Slices t (startCursor t) (placeCount t) w
   whole-answer (violated a p r) f = (
     answer.Violated (record { revision = revisionOf t; leg = a; place = p }) (rank a p + 1) r,
     (
@@ -91,7 +91,7 @@ module _ (t : List ℕ) (shape : WellFormedTable t) where
     ),
   )
 
-  pub sound-of : (v : Verdict) → Right t v → Sound t v
+  pub sound-of : (v : Verdict) → RightVerdict t v → Sound t v
   sound-of v h =
       let w = whole-answer v h in
       record {
@@ -116,7 +116,7 @@ runs-are-sound (call ∷ earlier) t c b r v (run, out, s) g =
     let k = run-keeps (call ∷ earlier) t run in
     sound-of t (k .shape) v (verdict-right t c b r v (k .cursors c out) s g)
   where
-    verdict-right : (t : List ℕ) (c : Cursor) (b : ℕ) (r : SliceAnswer) (v : Verdict) → Kept t c → Slices t c b r → Gives r v → Right t v
+    verdict-right : (t : List ℕ) (c : Cursor) (b : ℕ) (r : SliceAnswer) (v : Verdict) → Kept t c → Slices t c b r → Gives r v → RightVerdict t v
     verdict-right t c b (answer.Violated d n r) v k s g = right-verdict t c (k .held (s .0 .revision)) b (answer.Violated d n r) v s g
     verdict-right t c b (answer.NothingViolated d n) v k s g = right-verdict t c (k .held (s .0 .revision)) b (answer.NothingViolated d n) v s g
     verdict-right t c b (answer.Paused d n) v k s g = absurd g

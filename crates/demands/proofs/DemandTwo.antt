@@ -19,7 +19,7 @@ use Rattle.checker.proofs.OneAnswer.{start-one-answer, right-no-fault}
 use Rattle.checker.specs.declared.Grant.the-variants.{Granted}
 use Rattle.checker.specs.declared.SliceAnswer.{SliceAnswer}
 use Rattle.checker.specs.declared.SliceAnswer.the-variants as answer
-use Rattle.demands.specs.Verdicts.{Verdict, violated, nothing-violated, Gives, Right}
+use Rattle.demands.specs.Verdicts.{Verdict, violated, nothing-violated, Gives, RightVerdict}
 use Rattle.demands.specs.DemandTwo.{WholeCheckIsRight, DemandTwo}
 use Rattle.demands.proofs.Verdicts.{rules-keep-places, right-verdict}
 
@@ -65,7 +65,7 @@ whole-verdict c budget (answer.NothingViolated d n) s e q = (nothing-violated, r
 whole-verdict c budget (answer.Paused d n) s e q = absurd (omega (arith, start-rank s, q .1 .went .steps, q .1 .used, place-rank (q .1 .place)))
 whole-verdict c budget (answer.Refused k p d) s e q = absurd (right-no-fault (start-right s) (q .0))
 
-is-right : (t : List ℕ) (r : SliceAnswer) (v : Verdict) → Gives r v → Right t v → WholeCheckIsRight t r
+is-right : (t : List ℕ) (r : SliceAnswer) (v : Verdict) → Gives r v → RightVerdict t v → WholeCheckIsRight t r
 is-right t r (violated a p s) g h = record {
   verdict = violated a p s;
   gives = g;

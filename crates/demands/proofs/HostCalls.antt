@@ -8,7 +8,7 @@ use lib.ListN.{length, take, getD}
 use native.Mathlib.Omega.{arith}
 use Rattle.basics.proofs.Splits.{eq-or-ne}
 use Rattle.numbers.specs.Number.{maxWord}
-use Rattle.numbers.specs.Series.{Words, fileOf}
+use Rattle.numbers.specs.Series.{AllWords, fileOf}
 use Rattle.numbers.proofs.Overlay.{overlaid-taken}
 use Rattle.numbers.proofs.Rows.{words-of}
 use Rattle.table.specs.Layout.{revisionOf, legCount, Sized}
@@ -19,7 +19,7 @@ use Rattle.files.specs.Reading.{IsFile}
 use Rattle.files.specs.Cursors.{cursorWords, ReadsCursor}
 use Rattle.files.specs.declared.Cursor.{Cursor}
 use Rattle.files.specs.declared.CursorRead.the-variants as read
-use Rattle.places.specs.Order.{Stands}
+use Rattle.places.specs.Order.{PlaceOrEnd}
 use Rattle.checker.specs.Slices.{Starts, Slices, startCursor, Went}
 use Rattle.checker.specs.Moves.{Moves}
 use Rattle.checker.specs.declared.Grant.{Grant}
@@ -45,8 +45,8 @@ pub record StartCarried (plan out′ : List ℕ) : Type 0 where
 start-of : (plan t out out′ : List ℕ) (n : ℕ) (g : Grant) (a : Answer) → IsFile Sized plan t → Starts t g → NotRefused a → a ≡ startAnswered n g
     → out′ ≡ bytesAfterStart out g → StartCarried plan out′
 start-of plan t out out′ n (grant.Granted d) a f s h e k =
-    let w : Words (cursorWords (startCursor t)) = (word-at t (f .words) 0, (omega arith, (omega arith, tt))) in
-    record { table = t; file = f; cursor = d; starts = s; left = holds-cursor out out′ d (subst (λ (c : Cursor). Words (cursorWords c)) (sym (s .1)) w) k }
+    let w : AllWords (cursorWords (startCursor t)) = (word-at t (f .words) 0, (omega arith, (omega arith, tt))) in
+    record { table = t; file = f; cursor = d; starts = s; left = holds-cursor out out′ d (subst (λ (c : Cursor). AllWords (cursorWords c)) (sym (s .1)) w) k }
 start-of plan t out out′ n (grant.Refused l q d) a f s h e k = absurd (omega (arith, ap resultAlone e, h))
 
 pub start-carried : (plan out : List ℕ) (a : Answer) (out′ : List ℕ) → NotRefused a → HostStarts plan out a out′ → StartCarried plan out′
@@ -65,10 +65,10 @@ pub record SliceCarried (plan cursor : List ℕ) (budget : ℕ) (a : Answer) (ou
   pub answer : a ≡ sliceAnswered told
   pub left : ReadsCursor (savedIn out′) (read.Saved (cursorOfAnswer told))
 
-went-words : (t : List ℕ) (c d : Cursor) (n : ℕ) → Sized t → Words t → Went t c d n → Stands t (d .leg) (d .place) → Words (cursorWords d)
+went-words : (t : List ℕ) (c d : Cursor) (n : ℕ) → Sized t → AllWords t → Went t c d n → PlaceOrEnd t (d .leg) (d .place) → AllWords (cursorWords d)
 went-words t c d n z w x s = cursor-words t d z (omega (arith, x .revision, word-at t w 0)) s
 
-slice-left : (t out out′ : List ℕ) (c : Cursor) (budget : ℕ) (x : SliceAnswer) (a : Answer) → Sized t → Words t → Slices t c budget x → NotRefused a
+slice-left : (t out out′ : List ℕ) (c : Cursor) (budget : ℕ) (x : SliceAnswer) (a : Answer) → Sized t → AllWords t → Slices t c budget x → NotRefused a
     → a ≡ sliceAnswered x → out′ ≡ bytesAfterSlice out x → ReadsCursor (savedIn out′) (read.Saved (cursorOfAnswer x))
 slice-left t out out′ c b (answer.Violated d n r) a z w s h e k = holds-cursor out out′ d (went-words t c d _ z w (s .1 .went) (inl (s .1 .place))) k
 slice-left t out out′ c b (answer.NothingViolated d n) a z w s h e k = holds-cursor out out′ d (went-words t c d _ z w (s .1 .went) (inr (s .1 .end))) k
@@ -105,7 +105,7 @@ pub record MoveCarried (old cursor : List ℕ) (leg offset : ℕ) (m′ : Lent) 
   pub file : IsFile Sized plan table
   pub left : ReadsCursor (savedIn (m′ .out)) (read.Saved to)
 
-moved-words : (t : List ℕ) (leg offset : ℕ) (z : Sized t) (below : leg < legCount t) → Words t → offset ≤ maxWord → revisionOf t < maxWord → Words (moved t leg offset)
+moved-words : (t : List ℕ) (leg offset : ℕ) (z : Sized t) (below : leg < legCount t) → AllWords t → offset ≤ maxWord → revisionOf t < maxWord → AllWords (moved t leg offset)
 moved-words t leg offset z below w o r =
     words-of (moved t leg offset)
     (λ i. ⊎-elim
@@ -124,11 +124,11 @@ move-of old plan cursor t c leg offset m m′ (grant.Granted d) u a f q o r h (i
     let y = x .1 in
     let w = r .cursor .shape in
     let z : Sized u = subst Sized (sym (r .table)) (moves-keep-shape t _ (moved-same t (w .sized) leg offset (r .below)) w .sized) in
-    let ws : Words u = subst Words (sym (r .table)) (moved-words t leg offset (w .sized) (r .below) (f .words) o (r .rises)) in
+    let ws : AllWords u = subst AllWords (sym (r .table)) (moved-words t leg offset (w .sized) (r .below) (f .words) o (r .rises)) in
     let size : a .beside ≡ length (fileOf u) = ap (λ (b : Answer). b .beside) (y .answer) in
     let bytes : plan ≡ fileOf u
     = e ∙ ap (λ (n : ℕ). take n (m′ .file)) size ∙ ap (λ (l : Lent). take (length (fileOf u)) (l .file)) (y .after) ∙ overlaid-taken (m .file) (fileOf u) in
-    let stands : Stands t (d .leg) (d .place) = lesser-stands (r .cursor) (r .below) (r .lesser) in
+    let stands : PlaceOrEnd t (d .leg) (d .place) = lesser-stands (r .cursor) (r .below) (r .lesser) in
     let dw = cursor-words t d (w .sized) (omega (arith, r .revision, r .rises)) stands in
     record {
       before = t;

@@ -14,7 +14,7 @@ use Rattle.shape.proofs.OneShape.{well-no-fault}
 use Rattle.shape.proofs.Moved.{moved-same, moves-keep-shape}
 use Rattle.files.specs.declared.Cursor.{Cursor}
 use Rattle.rules.proofs.Staying.{earlier-places-stay}
-use Rattle.places.specs.Order.{IsPlace, IsEnd, Stands, HoldFrom}
+use Rattle.places.specs.Order.{IsPlace, IsEnd, PlaceOrEnd, HoldFrom}
 use Rattle.places.proofs.Ranks.{below-mono}
 use Rattle.checker.specs.Cursors.{cursorRank, CursorRight}
 use Rattle.checker.specs.Slices.{Starts, Slices, Went}
@@ -80,7 +80,7 @@ module _ (u : List ℕ) (c d : Cursor) (leg offset : ℕ) (m : MoveRight u c leg
       (λ b le. sym (moved-other u (m .cursor .shape .sized) leg offset (m .below) b (omega (arith, here .leg)) (λ e. omega (arith, e, low))))
       (h a p here from (omega (arith, below, m .lesser .given)))
 
-  stands-moved : Stands t (d .leg) (d .place)
+  stands-moved : PlaceOrEnd t (d .leg) (d .place)
   stands-moved =
       let l = legs-moved in
       ⊎-elim

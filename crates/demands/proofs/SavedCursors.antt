@@ -7,7 +7,7 @@ use lib.ListN.{length, drop, getD}
 use native.Mathlib.Omega.{arith}
 use borrow.Author.Tests.{lt-ltb, le-ltb}
 use Rattle.numbers.specs.Number.{maxWord, groupValues, bytesOf, GoOn}
-use Rattle.numbers.specs.Series.{Words, fileOf}
+use Rattle.numbers.specs.Series.{AllWords, fileOf}
 use Rattle.numbers.proofs.OneNumber.{word-ended}
 use Rattle.numbers.proofs.Overlay.{overlaid-front}
 use Rattle.numbers.proofs.Rows.{file-cons, file-none}
@@ -15,7 +15,7 @@ use Rattle.table.specs.Layout.{Sized}
 use Rattle.files.specs.Cursors.{cursorWords, cursorFile, ReadsCursor}
 use Rattle.files.specs.declared.Cursor.{Cursor}
 use Rattle.files.specs.declared.CursorRead.the-variants as read
-use Rattle.places.specs.Order.{Stands}
+use Rattle.places.specs.Order.{PlaceOrEnd}
 use Rattle.host.specs.Answers.{withCursor}
 use Rattle.demands.specs.HostRuns.{upToClosing, savedIn}
 
@@ -49,7 +49,7 @@ three : (a b c : ℕ) → fileOf (a ∷ b ∷ c ∷ []) ≡ bytesOf a ++ (bytesO
 three a b c =
     file-cons a (b ∷ c ∷ []) ∙ ap (λ (x : List ℕ). bytesOf a ++ x) (file-cons b (c ∷ []) ∙ ap (λ (x : List ℕ). bytesOf b ++ x) (file-cons c [] ∙ ap (λ (x : List ℕ). bytesOf c ++ x) file-none))
 
-saved-front : (out : List ℕ) (d : Cursor) → Words (cursorWords d) → savedIn (withCursor out d) ≡ cursorFile d
+saved-front : (out : List ℕ) (d : Cursor) → AllWords (cursorWords d) → savedIn (withCursor out d) ≡ cursorFile d
 saved-front out d w =
     let rest = drop (length (cursorFile d)) out in
     let a = bytesOf (d .revision) in
@@ -64,18 +64,18 @@ saved-front out d w =
     ∙ sym e
 
 -- What is read of the bytes that hold a cursor.
-pub holds-cursor : (out out′ : List ℕ) (d : Cursor) → Words (cursorWords d) → out′ ≡ withCursor out d → ReadsCursor (savedIn out′) (read.Saved d)
+pub holds-cursor : (out out′ : List ℕ) (d : Cursor) → AllWords (cursorWords d) → out′ ≡ withCursor out d → ReadsCursor (savedIn out′) (read.Saved d)
 holds-cursor out out′ d w e = record { complete = refl; words = w; bytes = ap savedIn e ∙ saved-front out d w }
 
 -- Every element of a list of words is one.
-pub word-at : (ws : List ℕ) → Words ws → (i : ℕ) → getD ws i 0 ≤ maxWord
+pub word-at : (ws : List ℕ) → AllWords ws → (i : ℕ) → getD ws i 0 ≤ maxWord
 word-at [] w i = omega arith
 word-at (x ∷ ws) w zero = w .0
 word-at (x ∷ ws) w (suc i) = word-at ws (w .1) i
 
-standing-small : (t : List ℕ) (a p : ℕ) → Sized t → Stands t a p → (a ≤ maxWord) × (p ≤ maxWord)
+standing-small : (t : List ℕ) (a p : ℕ) → Sized t → PlaceOrEnd t a p → (a ≤ maxWord) × (p ≤ maxWord)
 standing-small t a p z (inl x) = (omega (arith, x .leg, z .limits .legs), omega (arith, x .leg, x .place, z .limits .legs))
 standing-small t a p z (inr x) = (omega (arith, x .leg, z .limits .legs), omega (arith, x .place))
 
-pub cursor-words : (t : List ℕ) (d : Cursor) → Sized t → d .revision ≤ maxWord → Stands t (d .leg) (d .place) → Words (cursorWords d)
+pub cursor-words : (t : List ℕ) (d : Cursor) → Sized t → d .revision ≤ maxWord → PlaceOrEnd t (d .leg) (d .place) → AllWords (cursorWords d)
 cursor-words t d z r s = let k = standing-small t (d .leg) (d .place) z s in (r, (k .0, (k .1, tt)))

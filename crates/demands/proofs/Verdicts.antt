@@ -14,7 +14,7 @@ use Rattle.checker.specs.Cursors.{cursorRank}
 use Rattle.checker.specs.Slices.{Went, Violates, Ends, Slices}
 use Rattle.checker.specs.declared.SliceAnswer.{SliceAnswer}
 use Rattle.checker.specs.declared.SliceAnswer.the-variants as answer
-use Rattle.demands.specs.Verdicts.{Verdict, FirstViolated, Gives, Right}
+use Rattle.demands.specs.Verdicts.{Verdict, FirstViolated, Gives, RightVerdict}
 
 -- One stretch of places and the next.
 pub held-through : {t : List ℕ} (n m k : ℕ) → HoldFrom t n m → HoldFrom t m k → HoldFrom t n k
@@ -41,7 +41,7 @@ module _ (t : List ℕ) (c : Cursor) (held : HoldFrom t 0 (cursorRank c)) where
   ended : {b n : ℕ} {d : Cursor} → Ends t c b d n → RulesHold t
   ended {d = d} e = all-held t (λ a p i from below. all-before {d = d} (e .went) a p i from (omega (arith, end-rank (e .end))))
 
-  pub right-verdict : (b : ℕ) (r : SliceAnswer) (v : Verdict) → Slices t c b r → Gives r v → Right t v
+  pub right-verdict : (b : ℕ) (r : SliceAnswer) (v : Verdict) → Slices t c b r → Gives r v → RightVerdict t v
   right-verdict b (answer.Violated d n r) v s e = rw e (first-violated (s .1), s .1 .rule)
   right-verdict b (answer.NothingViolated d n) v s e = rw e (ended (s .1))
   right-verdict b (answer.Paused d n) v s e = absurd e

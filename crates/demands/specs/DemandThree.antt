@@ -8,14 +8,14 @@ use Rattle.shape.specs.Shape.{WellFormedTable}
 use Rattle.files.specs.declared.Cursor.{Cursor}
 use Rattle.places.specs.Order.{placeCount}
 use Rattle.checker.specs.declared.SliceAnswer.{SliceAnswer}
-use Rattle.demands.specs.Verdicts.{Verdict, Gives, Right}
+use Rattle.demands.specs.Verdicts.{Verdict, Gives, RightVerdict}
 use Rattle.demands.specs.DemandTwo.{WholeCheck}
 use Rattle.demands.specs.Runs.{Call, slice, Run, Renews, Since, budgets, HasSlice, HasVerdict}
 
 -- Sound: in every run each verdict is what the rules, in their unending meaning, say of the table as it stands then. There is a whole check of that
 -- table, and each gives this verdict.
 pub record Sound (t : List ℕ) (v : Verdict) : Type 0 where
-  pub right : Right t v
+  pub right : RightVerdict t v
   pub whole : SliceAnswer
   pub checked : WholeCheck t whole
   pub each : (w : SliceAnswer) → WholeCheck t w → Gives w v

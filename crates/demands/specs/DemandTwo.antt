@@ -14,7 +14,7 @@ use Rattle.checker.specs.Slices.{startCursor, Starts, Slices}
 use Rattle.checker.specs.declared.Grant.{Grant}
 use Rattle.checker.specs.declared.Grant.the-variants.{Granted}
 use Rattle.checker.specs.declared.SliceAnswer.{SliceAnswer}
-use Rattle.demands.specs.Verdicts.{Verdict, violated, nothing-violated, Gives, FirstViolated, Right}
+use Rattle.demands.specs.Verdicts.{Verdict, violated, nothing-violated, Gives, FirstViolated, RightVerdict}
 
 -- A whole check is a start and a slice with enough budget.
 pub record WholeCheck (t : List ℕ) (r : SliceAnswer) : Type 0 where
@@ -29,7 +29,7 @@ pub record WholeCheck (t : List ℕ) (r : SliceAnswer) : Type 0 where
 pub record WholeCheckIsRight (t : List ℕ) (r : SliceAnswer) : Type 0 where
   pub verdict : Verdict
   pub gives : Gives r verdict
-  pub right : Right t verdict
+  pub right : RightVerdict t verdict
   pub accepts : RulesHold t → Gives r nothing-violated
   pub rules-hold : Gives r nothing-violated → RulesHold t
   pub names : (RulesHold t → ⊥) → (a : ℕ) × (p : ℕ) × (s : Rule) × Gives r (violated a p s) × FirstViolated t a p

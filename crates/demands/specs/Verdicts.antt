@@ -28,6 +28,6 @@ pub record FirstViolated (t : List ℕ) (a p : ℕ) : Type 0 where
   pub before : (b q : ℕ) → IsPlace t b q → Earlier b q a p → PlaceHolds t b q
 
 -- What the rules, in their unending meaning, say of table t: the first violated place and its rule, or that they hold.
-abbrev pub Right : List ℕ → Verdict → Type 0
-Right t (violated a p r) = FirstViolated t a p × (r ≡ placeAt p .rule)
-Right t nothing-violated = RulesHold t
+abbrev pub RightVerdict : List ℕ → Verdict → Type 0
+RightVerdict t (violated a p r) = FirstViolated t a p × (r ≡ placeAt p .rule)
+RightVerdict t nothing-violated = RulesHold t

@@ -8,7 +8,7 @@ use mathlib.Core.Logic.{inr}
 use lib.ListN.{length, getD, length-append}
 use native.Mathlib.Omega.{arith}
 use Rattle.numbers.specs.Number.{NoNumber}
-use Rattle.numbers.specs.Series.{Words, fileOf, Row, overlaid, Laid}
+use Rattle.numbers.specs.Series.{AllWords, fileOf, Row, overlaid, Laid}
 use Rattle.numbers.specs.Steps.{Numbers, AllNumbers, Filled}
 use Rattle.numbers.proofs.Rows.{row-append, row-whole, row-same, file-row}
 use Rattle.numbers.proofs.Overlay.{overlaid-all}
@@ -65,7 +65,7 @@ filled-table {s = s} {b = b} t f e h l =
 
 -- A buffer filled whole with numbers up to the end of the bytes: they are its file.
 pub filled-whole : {s b b′ : List ℕ} {n next : ℕ} → Numbers s 0 n next → length s ≤ next → length b ≡ n → Filled s 0 n b b′
-    → (length b′ ≡ n) × Words b′ × (s ≡ fileOf b′)
+    → (length b′ ≡ n) × AllWords b′ × (s ≡ fileOf b′)
 filled-whole {s} {b} {b′} r z h l =
     let e : b′ ≡ l .ws = l .after ∙ overlaid-all b (l .ws) (l .count ∙ sym h) in
     let q = row-same (l .ws) (r .ws) (l .row) (r .row) (l .count ∙ sym (r .count)) in
@@ -79,6 +79,6 @@ three-words (a ∷ b ∷ []) h = absurd (omega arith)
 three-words (a ∷ b ∷ c ∷ []) h = refl
 three-words (a ∷ b ∷ c ∷ d ∷ ws) h = absurd (omega arith)
 
-pub three-file : (s ws : List ℕ) → (length ws ≡ cursorNumbers) × Words ws × (s ≡ fileOf ws)
+pub three-file : (s ws : List ℕ) → (length ws ≡ cursorNumbers) × AllWords ws × (s ≡ fileOf ws)
     → IsFile CursorComplete s (getD ws 0 0 ∷ getD ws 1 0 ∷ getD ws 2 0 ∷ [])
 three-file s ws (n, w, b) = subst (IsFile CursorComplete s) (sym (three-words ws n)) (record { complete = n; words = w; bytes = b })

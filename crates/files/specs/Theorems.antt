@@ -4,7 +4,7 @@ use mathlib.Core.Path.{_≡_}
 use mathlib.Core.List.{List}
 use lib.ListN.{length, take}
 use Rattle.numbers.specs.Number.{maxNumberBytes}
-use Rattle.numbers.specs.Series.{Words, fileOf, overlaid}
+use Rattle.numbers.specs.Series.{AllWords, fileOf, overlaid}
 use Rattle.numbers.specs.declared.Written.{Written}
 use Rattle.numbers.specs.declared.Written.the-variants as written
 use Rattle.table.specs.Layout.{maxTableWords, Sized}
@@ -46,14 +46,14 @@ FilesComeBack =
 abbrev pub TablesComeBack : Type 0
 TablesComeBack =
     (t bytes bytes′ words words′ : List ℕ) (n : ℕ) (r : PlanRead)
-    → Words t → WritesPlan t bytes (written.Bytes n) bytes′ → ReadsPlan (take n bytes′) words r words′
+    → AllWords t → WritesPlan t bytes (written.Bytes n) bytes′ → ReadsPlan (take n bytes′) words r words′
     → length t ≤ length words → (r ≡ plan.Words (length t)) × (words′ ≡ overlaid words 0 t)
 
 -- A cursor that was written is read back, and a saved cursor that was read is written back.
 abbrev pub CursorsComeBack : Type 0
 CursorsComeBack =
     (c : Cursor) (bytes bytes′ : List ℕ) (n : ℕ) (r : CursorRead)
-    → Words (cursorWords c) → WritesCursor c bytes (saved.Bytes n) bytes′ → ReadsCursor (take n bytes′) r → r ≡ cursor.Saved c
+    → AllWords (cursorWords c) → WritesCursor c bytes (saved.Bytes n) bytes′ → ReadsCursor (take n bytes′) r → r ≡ cursor.Saved c
 
 abbrev pub SavedCursorsComeBack : Type 0
 SavedCursorsComeBack =

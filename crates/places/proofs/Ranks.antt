@@ -9,7 +9,7 @@ use native.Mathlib.Omega.{arith}
 use Rattle.basics.proofs.Splits.{lt-or-ge}
 use Rattle.table.specs.Layout.{maxLegs, legCount}
 use Rattle.rules.specs.Places.{placesOf, PlaceHolds}
-use Rattle.places.specs.Order.{placesBelow, rank, Earlier, IsPlace, IsEnd, Stands, placeCount, HoldFrom}
+use Rattle.places.specs.Order.{placesBelow, rank, Earlier, IsPlace, IsEnd, PlaceOrEnd, placeCount, HoldFrom}
 use Rattle.places.specs.Told.{LegHolds}
 use Rattle.places.specs.Theorems.{CountOfPlaces, OrderIsByLeg, RankIsOne, EndIsLast}
 
@@ -77,7 +77,7 @@ module _ {t : List ℕ} where
   place-rank {a} {p} i = leg-below a (legCount t) p (i .leg) (i .place)
 
   -- What stands at a leg below another comes before it.
-  stands-before : (a p b q : ℕ) → Stands t a p → Stands t b q → a < b → rank a p < rank b q
+  stands-before : (a p b q : ℕ) → PlaceOrEnd t a p → PlaceOrEnd t b q → a < b → rank a p < rank b q
   stands-before a p b q s u l =
       ⊎-elim
       (λ (i : IsPlace t a p). omega (arith, leg-below a b p l (i .place)))
@@ -85,7 +85,7 @@ module _ {t : List ℕ} where
       ⊎-elim (λ (j : IsPlace t b q). absurd (omega (arith, e .leg, j .leg))) (λ (j : IsEnd t b q). absurd (omega (arith, e .leg, j .leg))) u)
       s
 
-  pub rank-is-one : (a p b q : ℕ) → Stands t a p → Stands t b q → rank a p ≡ rank b q → (a ≡ b) × (p ≡ q)
+  pub rank-is-one : (a p b q : ℕ) → PlaceOrEnd t a p → PlaceOrEnd t b q → rank a p ≡ rank b q → (a ≡ b) × (p ≡ q)
   rank-is-one a p b q s u e =
       ⊎-elim
       (λ (l : a < b). absurd (omega (arith, stands-before a p b q s u l)))
@@ -96,7 +96,7 @@ module _ {t : List ℕ} where
       (eq-or-lt-of-le l))
       (lt-or-ge a b)
 
-  pub order-is-by-leg : (a p b q : ℕ) → Stands t a p → Stands t b q → (rank a p < rank b q → Earlier a p b q) × (Earlier a p b q → rank a p < rank b q)
+  pub order-is-by-leg : (a p b q : ℕ) → PlaceOrEnd t a p → PlaceOrEnd t b q → (rank a p < rank b q → Earlier a p b q) × (Earlier a p b q → rank a p < rank b q)
   order-is-by-leg a p b q s u = (
     λ h.
         ⊎-elim

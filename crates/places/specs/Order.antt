@@ -30,8 +30,8 @@ pub record IsEnd (t : List ℕ) (a p : ℕ) : Type 0 where
   pub place : p ≡ 0
 
 -- A cursor stands at a place or at the end.
-abbrev pub Stands : List ℕ → ℕ → ℕ → Type 0
-Stands t a p = IsPlace t a p ⊎ IsEnd t a p
+abbrev pub PlaceOrEnd : List ℕ → ℕ → ℕ → Type 0
+PlaceOrEnd t a p = IsPlace t a p ⊎ IsEnd t a p
 
 -- The number of places of table t.
 abbrev pub placeCount : List ℕ → ℕ

@@ -3,7 +3,7 @@ use Prim.Native.Nat.{ℕ, _+_, _*_, _-_, _/_, _<_}
 use mathlib.Core.Path.{_≡_}
 use mathlib.Core.List.{List}
 use Rattle.table.specs.Layout.{legCount}
-use Rattle.places.specs.Order.{rank, Earlier, IsPlace, IsEnd, Stands, placeCount}
+use Rattle.places.specs.Order.{rank, Earlier, IsPlace, IsEnd, PlaceOrEnd, placeCount}
 
 -- There are G(G − 1)/2 + 3G places.
 abbrev pub CountOfPlaces : Type 0
@@ -12,12 +12,12 @@ CountOfPlaces = (t : List ℕ) → placeCount t ≡ legCount t * (legCount t - 1
 -- Fewer places come before (a,p) than before (b,q) exactly when it is the earlier one.
 abbrev pub OrderIsByLeg : Type 0
 OrderIsByLeg =
-    (t : List ℕ) (a p b q : ℕ) → Stands t a p → Stands t b q
+    (t : List ℕ) (a p b q : ℕ) → PlaceOrEnd t a p → PlaceOrEnd t b q
     → (rank a p < rank b q → Earlier a p b q) × (Earlier a p b q → rank a p < rank b q)
 
 -- No two places have the same rank, the end included.
 abbrev pub RankIsOne : Type 0
-RankIsOne = (t : List ℕ) (a p b q : ℕ) → Stands t a p → Stands t b q → rank a p ≡ rank b q → (a ≡ b) × (p ≡ q)
+RankIsOne = (t : List ℕ) (a p b q : ℕ) → PlaceOrEnd t a p → PlaceOrEnd t b q → rank a p ≡ rank b q → (a ≡ b) × (p ≡ q)
 
 -- Exactly placeCount t places come before the end, and fewer before each place.
 abbrev pub EndIsLast : Type 0

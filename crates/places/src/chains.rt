@@ -6,7 +6,7 @@ ghost use Rattle.shape.specs.Guarantees.{Guarantees};
 ghost use Rattle.places.specs.Chains.{Begun, Chained, Unbegun};
 
 // What stands for a link that has no leg.
-pub const NO_LEG: usize = table::MAX_LEGS;
+pub const NO_CHAIN: usize = table::MAX_LEGS;
 
 // Internal: puts every leg into the chain of its link.
 pub fn chain(t: &[u32], first: &mut [usize], next: &mut [usize])

@@ -106,7 +106,7 @@ fn overlaps_told(
 }
 
 // Internal: the first broken place of leg a from p on and below the limit.
-pub fn leg_told(
+pub fn judged_leg(
     t: &[u32],
     first: &[usize],
     next: &[usize],
@@ -131,7 +131,7 @@ pub fn leg_told(
     if limit <= crate::OWN_PLACES {
         return LegTold::Kept;
     }
-    let n = crate::less(p, crate::OWN_PLACES);
+    let n = crate::how_far_past(p, crate::OWN_PLACES);
     let met = overlaps_told(t, first, next, a, f, n, limit - crate::OWN_PLACES);
     match met {
         Found::At(b) => LegTold::Broken(crate::OWN_PLACES + b, Rule::Overlap),

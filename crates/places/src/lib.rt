@@ -36,7 +36,7 @@ pub fn place_count(legs: usize) -> usize
 }
 
 // How far x is past y, and 0 where it is not.
-fn less(x: usize, y: usize) -> usize
+fn how_far_past(x: usize, y: usize) -> usize
     ensures { λ r. ⌜ r ≡ x - y ⌝ }
 {
     if x < y {

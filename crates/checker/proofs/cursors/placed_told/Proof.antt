@@ -12,8 +12,8 @@ shared-slice-read-if1 c = search needs
 returns : tie.Need-returns
 returns c = inr (record { shape = c .before .before .before .before .pre; at = refl; cause = inl (record { number = refl; other = c .if1 .taken }) })
 
-stands-told-requires : tie.Need-stands-told-requires
-stands-told-requires c κs = search needs
+place-or-end-told-requires : tie.Need-place-or-end-told-requires
+place-or-end-told-requires c κs = search needs
 
 enum-told : tie.Need-enum-told
 enum-told c = search needs
@@ -22,13 +22,13 @@ enum-told-2 : tie.Need-enum-told-2
 enum-told-2 c = search needs
 
 returns-2 : tie.Need-returns-2
-returns-2 c = record { shape = c .before .before .before .before .before .before .before .pre; revision = c .before .before .before .if1 .left; stands = subst (Tells _) (c .enum-told .given .1) (c .before .before .stands-told .ensures) }
+returns-2 c = record { shape = c .before .before .before .before .before .before .before .pre; revision = c .before .before .before .if1 .left; stands = subst (Tells _) (c .enum-told .given .1) (c .before .before .place-or-end-told .ensures) }
 
 returns-3 : tie.Need-returns-3
 returns-3 c = inr (record {
   shape = c .before .before .before .before .before .before .before .pre;
   at = refl;
-  cause = inr (record { number = refl; revision = c .before .before .before .if1 .left; nowhere = subst (Tells _) (c .enum-told2 .given .1) (c .before .before .stands-told .ensures) });
+  cause = inr (record { number = refl; revision = c .before .before .before .if1 .left; nowhere = subst (Tells _) (c .enum-told2 .given .1) (c .before .before .place-or-end-told .ensures) });
 })
 
 pub placed-told-spec : {M : Type 1} → statement M
@@ -37,7 +37,7 @@ placed-told-spec =
     (tie.spec
     shared-slice-read-if1
     returns
-    stands-told-requires
+    place-or-end-told-requires
     enum-told
     enum-told-2
     returns-2

@@ -50,13 +50,13 @@ all-used c h =
     (lt-or-ge (c .before .before .before .loop .left) (c .before .places-of .result - c .before .before .before .loop .p))
 
 -- What was told of the leg.
-broken : (c : tie.At-match-keys1 Inv-loop μ-loop) (q : ℕ) (r : Rule) → c .before .leg-told .result ≡ Broken q r
+broken : (c : tie.At-match-keys1 Inv-loop μ-loop) (q : ℕ) (r : Rule) → c .before .judged-leg .result ≡ Broken q r
     → FirstBroken (c .before .before .before .before .before .before .before .before .before .before .before .before .before .before .args .t .now) (c .before .before .before .before .before .loop .a) (c .before .before .before .before .before .loop .p) (c .before .before .before .before .before .loop .p + c .before .before .lesser .result) q r
-broken c q r e = subst (ToldOfLeg _ _ _ _) e (c .before .leg-told .ensures)
+broken c q r e = subst (ToldOfLeg _ _ _ _) e (c .before .judged-leg .ensures)
 
-kept : (c : tie.At-match-keys2 Inv-loop μ-loop) → c .before .leg-told .result ≡ Kept
+kept : (c : tie.At-match-keys2 Inv-loop μ-loop) → c .before .judged-leg .result ≡ Kept
     → LegHolds (c .before .before .before .before .before .before .before .before .before .before .before .before .before .before .args .t .now) (c .before .before .before .before .before .loop .a) (c .before .before .before .before .before .loop .p) (c .before .before .before .before .before .loop .p + c .before .before .lesser .result)
-kept c e = subst (ToldOfLeg _ _ _ _) e (c .before .leg-told .ensures)
+kept c e = subst (ToldOfLeg _ _ _ _) e (c .before .judged-leg .ensures)
 
 shared-slice-read-wide : tie.Need-shared-slice-read-wide Inv-loop μ-loop
 shared-slice-read-wide c = omega (arith, c .before .before .before .before .pre .1 .table .sized .head)
@@ -88,8 +88,8 @@ lesser-requires c κs = search needs
 add-limit : tie.Need-add-limit Inv-loop μ-loop
 add-limit c = omega (arith, limit-is c, few c)
 
-leg-told-requires : tie.Need-leg-told-requires Inv-loop μ-loop
-leg-told-requires c κs = (in-table (c .before .before), ((c .before .before .before .before .before .before .before .before .before .before .before .before .pre .1 .begun, c .before .before .before .before .before .before .before .before .before .before .before .before .pre .1 .chained), (omega arith, limit-is c)))
+judged-leg-requires : tie.Need-judged-leg-requires Inv-loop μ-loop
+judged-leg-requires c κs = (in-table (c .before .before), ((c .before .before .before .before .before .before .before .before .before .before .before .before .pre .1 .begun, c .before .before .before .before .before .before .before .before .before .before .before .before .pre .1 .chained), (omega arith, limit-is c)))
 
 enum-known-told : tie.Need-enum-known-told Inv-loop μ-loop
 enum-known-told c = search needs
@@ -186,7 +186,7 @@ look-on-spec =
     sub-lesser
     lesser-requires
     add-limit
-    leg-told-requires
+    judged-leg-requires
     enum-known-told
     cast-t20
     cast-t21

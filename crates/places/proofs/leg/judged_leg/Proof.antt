@@ -1,4 +1,4 @@
--- `places::leg::leg_told` meets its contract: first the places of the leg alone, then its overlaps. Assumes nothing.
+-- `places::leg::judged_leg` meets its contract: first the places of the leg alone, then its overlaps. Assumes nothing.
 use Prim.Native.Nat.{_+_, _-_}
 use mathlib.Core.Path.{_≡_, subst}
 use native.Mathlib.Omega.{arith}
@@ -6,8 +6,8 @@ use Rattle.rules.specs.Places.{ownPlaces}
 use Rattle.places.specs.Told.{LegHolds, ToldOfLeg, ToldOfMeeting}
 use Rattle.places.proofs.LegLaws.{own-and-overlaps, met-is-broken, broken-below}
 use borrow.Author.Needs.{needs}
-use Rattle.places.proofs.leg.leg_told.Statement.{statement}
-use Rattle.places.proofs.leg.leg_told.Tie as tie
+use Rattle.places.proofs.leg.judged_leg.Statement.{statement}
+use Rattle.places.proofs.leg.judged_leg.Tie as tie
 
 -- Where there are overlaps, the places of the leg alone were all told of.
 own : (c : tie.Else1) → LegHolds (c .before .before .before .before .before .before .before .before .before .args .t .now) (c .before .before .before .before .before .before .before .before .before .args .a) (c .before .before .before .before .before .before .before .before .before .args .p) ownPlaces
@@ -42,8 +42,8 @@ returns-2 c =
     let h = subst (ToldOfLeg _ _ _ _) (c .before .enum-told .given .1) (c .before .before .before .each-told .ensures) in
     subst (LegHolds _ _ _) e h
 
-less-requires : tie.Need-less-requires
-less-requires c κs = search needs
+how-far-past-requires : tie.Need-how-far-past-requires
+how-far-past-requires c κs = search needs
 
 sub-overlaps-told : tie.Need-sub-overlaps-told
 sub-overlaps-told c = search needs
@@ -51,7 +51,7 @@ sub-overlaps-told c = search needs
 overlaps-told-requires : tie.Need-overlaps-told-requires
 overlaps-told-requires c κs =
     let p = c .before .before .before .before .before .before .before .before .before .before .pre in
-    let n = c .less .ensures in
+    let n = c .how-far-past .ensures in
     (record { leg = p .0; frame = c .before .before .before .before .before .before .frame .ensures; chained = p .1 .0 .1 }, (p .1 .0 .0, (omega (arith, p .1 .1 .0, p .1 .1 .1), omega (arith, p .1 .1 .1))))
 
 enum-known-met : tie.Need-enum-known-met
@@ -66,13 +66,13 @@ enum-told-2 : tie.Need-enum-told-2
 enum-told-2 c = search needs
 
 returns-3 : tie.Need-returns-3
-returns-3 c = met-is-broken _ _ _ _ _ _ _ (c .before .before .before .before .less .ensures) (whole (c .before .before .before .before .before)) (own (c .before .before .before .before .before)) (subst (ToldOfMeeting _ _ _ _) (c .before .met .given .1) (c .before .before .before .overlaps-told .ensures))
+returns-3 c = met-is-broken _ _ _ _ _ _ _ (c .before .before .before .before .how-far-past .ensures) (whole (c .before .before .before .before .before)) (own (c .before .before .before .before .before)) (subst (ToldOfMeeting _ _ _ _) (c .before .met .given .1) (c .before .before .before .overlaps-told .ensures))
 
 returns-4 : tie.Need-returns-4
-returns-4 c = own-and-overlaps _ _ _ _ _ _ (c .before .before .before .less .ensures) (whole (c .before .before .before .before)) (own (c .before .before .before .before)) (subst (ToldOfMeeting _ _ _ _) (c .enum-told2 .given .1) (c .before .before .overlaps-told .ensures))
+returns-4 c = own-and-overlaps _ _ _ _ _ _ (c .before .before .before .how-far-past .ensures) (whole (c .before .before .before .before)) (own (c .before .before .before .before)) (subst (ToldOfMeeting _ _ _ _) (c .enum-told2 .given .1) (c .before .before .overlaps-told .ensures))
 
-pub leg-told-spec : {M : Type 1} → statement M
-leg-told-spec =
+pub judged-leg-spec : {M : Type 1} → statement M
+judged-leg-spec =
     tie.close
     (tie.spec
     frame-requires
@@ -82,7 +82,7 @@ leg-told-spec =
     returns
     enum-told
     returns-2
-    less-requires
+    how-far-past-requires
     sub-overlaps-told
     overlaps-told-requires
     enum-known-met

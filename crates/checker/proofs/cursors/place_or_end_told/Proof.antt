@@ -1,10 +1,10 @@
--- `checker::cursors::stands_told` meets its contract. Assumes nothing.
+-- `checker::cursors::place_or_end_told` meets its contract. Assumes nothing.
 use mathlib.Core.Logic.{inl, inr}
 use native.Mathlib.Omega.{arith}
 use Rattle.checker.proofs.LookLaws.{not-standing}
 use borrow.Author.Needs.{needs}
-use Rattle.checker.proofs.cursors.stands_told.Statement.{statement}
-use Rattle.checker.proofs.cursors.stands_told.Tie as tie
+use Rattle.checker.proofs.cursors.place_or_end_told.Statement.{statement}
+use Rattle.checker.proofs.cursors.place_or_end_told.Tie as tie
 
 shared-slice-read-if1 : tie.Need-shared-slice-read-if1
 shared-slice-read-if1 c = search needs
@@ -36,8 +36,8 @@ returns-4 c = not-standing _ _ _ (λ h. absurd (omega (arith, h, c .before .befo
 returns-5 : tie.Need-returns-5
 returns-5 c = inr (record { leg = omega (arith, c .before .before .before .if1 .left, c .before .if3 .left); place = omega (arith, c .if4 .left) })
 
-pub stands-told-spec : {M : Type 1} → statement M
-stands-told-spec =
+pub place-or-end-told-spec : {M : Type 1} → statement M
+place-or-end-told-spec =
     tie.close
     (tie.spec
     shared-slice-read-if1
