@@ -10,7 +10,7 @@ use Rattle.basics.proofs.Splits.{lt-or-ge}
 use Rattle.table.specs.Layout.{legCount}
 use Rattle.files.specs.declared.Cursor.{Cursor}
 use Rattle.shape.proofs.OneShape.{well-no-fault, fault-one}
-use Rattle.rules.specs.Places.{placeAt}
+use Rattle.rules.specs.Places.{ruleAt}
 use Rattle.rules.specs.declared.Rule.{Rule}
 use Rattle.places.specs.Order.{placesBelow, PlaceOrEnd}
 use Rattle.places.proofs.Ranks.{end-rank, place-rank, rank-is-one}
@@ -88,7 +88,7 @@ module _ {t : List ℕ} {c : Cursor} where
         ⊎-elim
         (λ (q : cursorRank e ≡ cursorRank d).
         let x = one-went (v .went) (w .went) (inl (v .place)) (inl (w .place)) (sym q) in
-        (x .0, (omega (arith, x .1, v .steps, w .steps), v .rule ∙ ap (λ (z : Cursor). placeAt (z .place) .rule) (x .0) ∙ sym (w .rule))))
+        (x .0, (omega (arith, x .1, v .steps, w .steps), v .rule ∙ ap (λ (z : Cursor). ruleAt (z .place)) (x .0) ∙ sym (w .rule))))
         (λ (g : cursorRank e < cursorRank d). absurd (not-past (v .went) w g))
         (eq-or-lt-of-le h))
         (lt-or-ge (cursorRank d) (cursorRank e))

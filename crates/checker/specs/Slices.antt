@@ -5,7 +5,7 @@ use mathlib.Core.List.{List}
 use Rattle.table.specs.Layout.{revisionOf}
 use Rattle.shape.specs.Shape.{WellFormedTable, ShapeFault}
 use Rattle.files.specs.declared.Cursor.{Cursor}
-use Rattle.rules.specs.Places.{placeAt, PlaceHolds}
+use Rattle.rules.specs.Places.{ruleAt, PlaceHolds}
 use Rattle.rules.specs.declared.Rule.{Rule}
 use Rattle.places.specs.Order.{IsPlace, IsEnd, HoldFrom}
 use Rattle.checker.specs.Cursors.{cursorRank, CursorRight, CursorFault}
@@ -42,7 +42,7 @@ pub record Violates (t : List ℕ) (c : Cursor) (budget : ℕ) (d : Cursor) (n :
   pub steps : n ≡ passed + 1
   pub place : IsPlace t (d .leg) (d .place)
   pub broken : PlaceHolds t (d .leg) (d .place) → ⊥
-  pub rule : r ≡ placeAt (d .place) .rule
+  pub rule : r ≡ ruleAt (d .place)
   pub within : n ≤ budget
 
 -- Nothing violated from here on: d is the end cursor.

@@ -11,7 +11,7 @@ use Rattle.table.specs.Layout.{revisionOf, legCount}
 use Rattle.shape.specs.Shape.{WellFormedTable}
 use Rattle.shape.proofs.OneShape.{well-no-fault}
 use Rattle.files.specs.declared.Cursor.{Cursor}
-use Rattle.rules.specs.Places.{placeAt}
+use Rattle.rules.specs.Places.{ruleAt}
 use Rattle.rules.proofs.Covering.{places-cover-the-rules}
 use Rattle.places.specs.Order.{rank, IsPlace, placeCount, HoldFrom}
 use Rattle.places.proofs.Ranks.{place-rank, rank-is-one, order-is-by-leg}
@@ -47,7 +47,7 @@ right-one t (violated a p r) (violated b q s) f g =
     let e = rank-is-one {t = t} a p b q (inl (f .0 .place)) (inl (g .0 .place)) (first-one a p b q (f .0) (g .0)) in
     let e0 = e .0 in
     let e1 = e .1 in
-    let e2 = f .1 ∙ ap (λ (z : ℕ). placeAt z .rule) e1 ∙ sym (g .1) in
+    let e2 = f .1 ∙ ap (λ (z : ℕ). ruleAt z) e1 ∙ sym (g .1) in
     cc
 right-one t (violated a p r) nothing-violated f h = absurd (rules-keep-places (f .0) h)
 right-one t nothing-violated (violated b q s) h g = absurd (rules-keep-places (g .0) h)

@@ -3,7 +3,7 @@ use Prim.Native.Nat.{ℕ}
 use mathlib.Core.Path.{_≡_}
 use mathlib.Core.List.{List, [], _∷_}
 use Rattle.table.specs.Records.{moved}
-use Rattle.table.specs.PlanA.{planWith}
+use Rattle.table.specs.PlanA.{planWith, offsetsA}
 use Rattle.files.specs.declared.Cursor.{Cursor}
 use Rattle.rules.specs.Rules.{RulesHold}
 use Rattle.places.specs.Order.{placeCount}
@@ -14,11 +14,11 @@ use Rattle.checker.specs.declared.SliceAnswer.the-variants as answer
 use Rattle.demands.specs.Runs.{Call, start, slice, move-leg, Run, Since, budgets, HasVerdict}
 
 abbrev pub good : List ℕ
-good = planWith 100000 150000 2352 0 1176 576
+good = planWith (offsetsA 0 1176 576)
 
 -- One nanosecond earlier legs 0 and 2 meet.
 abbrev pub bad : List ℕ
-bad = planWith 100000 150000 2352 0 1176 575
+bad = planWith (offsetsA 0 1176 575)
 
 abbrev pub none : List ℕ
 none = 0 ∷ 0 ∷ 0 ∷ 0 ∷ 0 ∷ []

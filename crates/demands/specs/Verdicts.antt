@@ -3,7 +3,7 @@ use Prim.Native.Nat.{ℕ}
 use mathlib.Core.Path.{_≡_}
 use mathlib.Core.List.{List}
 use Rattle.rules.specs.Rules.{RulesHold}
-use Rattle.rules.specs.Places.{placeAt, PlaceHolds}
+use Rattle.rules.specs.Places.{ruleAt, PlaceHolds}
 use Rattle.rules.specs.declared.Rule.{Rule}
 use Rattle.places.specs.Order.{Earlier, IsPlace}
 use Rattle.checker.specs.declared.SliceAnswer.{SliceAnswer}
@@ -29,5 +29,5 @@ pub record FirstViolated (t : List ℕ) (a p : ℕ) : Type 0 where
 
 -- What the rules, in their unending meaning, say of table t: the first violated place and its rule, or that they hold.
 abbrev pub RightVerdict : List ℕ → Verdict → Type 0
-RightVerdict t (violated a p r) = FirstViolated t a p × (r ≡ placeAt p .rule)
+RightVerdict t (violated a p r) = FirstViolated t a p × (r ≡ ruleAt p)
 RightVerdict t nothing-violated = RulesHold t

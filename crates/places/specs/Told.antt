@@ -4,7 +4,7 @@ use mathlib.Core.Path.{_≡_}
 use mathlib.Core.List.{List}
 use Rattle.shape.specs.declared.Found.{Found}
 use Rattle.shape.specs.declared.Found.the-variants as found
-use Rattle.rules.specs.Places.{placeAt, PlaceHolds}
+use Rattle.rules.specs.Places.{ruleAt, PlaceHolds}
 use Rattle.rules.specs.Rules.{Overlap}
 use Rattle.rules.specs.Steps.{LegIn, FrameOf}
 use Rattle.rules.specs.declared.Frame.{Frame}
@@ -23,7 +23,7 @@ pub record FirstBroken (t : List ℕ) (a p limit q : ℕ) (r : Rule) : Type 0 wh
   pub below : q < limit
   pub before : LegHolds t a p q
   pub broken : PlaceHolds t a q → ⊥
-  pub rule : r ≡ placeAt q .rule
+  pub rule : r ≡ ruleAt q
 
 -- What is told of the places of leg a from p on and below the limit.
 abbrev pub ToldOfLeg : List ℕ → ℕ → ℕ → ℕ → LegTold → Type 0

@@ -1,0 +1,57 @@
+-- The rules at numbers: document 01's starred cases, and cases beside them that rule out wrong definitions.
+use Prim.Native.Nat.{ℕ, _≤_, _<_}
+use mathlib.Core.List.{[], _∷_}
+use mathlib.Core.Path.{_≡_}
+use Rattle.numbers.specs.Number.{bytesOf}
+use Rattle.table.specs.Layout.{legCount}
+use Rattle.table.specs.Records.{legAt}
+use Rattle.table.specs.PlanA.{planWith, offsetsA, planA, dueA, periodsA, fullA, offsetsB, dueB}
+use Rattle.shape.specs.Shape.{WellFormedTable}
+use Rattle.overlap.specs.Meeting.{HoldsLink}
+use Rattle.overlap.specs.Theorems.{in100000, in150000}
+use Rattle.rules.specs.Times.{wireTime}
+use Rattle.rules.specs.Rules.{Window, Hop, Deadline, Overlap, RulesHold}
+
+-- Document 01's starred cases 1 to 10.
+pub record StarredCases : Type 0 where
+  pub case-1 : (wireTime 64 8 ≡ 576) × (wireTime 1522 8 ≡ 12240)
+  pub case-2 : wireTime 64 800 ≡ 57600
+  pub case-3 : Hop planA 1 × (Hop (planWith (offsetsA 0 1175 0)) 1 → ⊥)
+  pub case-4 : Deadline planA 1 × (Deadline (planWith (dueA 2351 0)) 1 → ⊥)
+  pub case-5 : Overlap (planWith (offsetsA 0 1176 576)) 2 0 × (Overlap (planWith (offsetsA 0 1176 575)) 2 0 → ⊥)
+  pub case-6 : Overlap (planWith (offsetsA 0 1176 49424)) 2 0 × (Overlap (planWith (offsetsA 0 1176 49425)) 2 0 → ⊥)
+  pub case-7 : Overlap (planWith (offsetsA 0 1176 50000)) 2 0 → ⊥
+  pub case-7-at : HoldsLink (in100000 0 576) 2 200000 × HoldsLink (in150000 50000 576) 1 200000
+  pub case-8 : (o0 o2 : ℕ) → Overlap (planWith (periodsA o0 o2)) 2 0 → ⊥
+  pub case-9 : Window (planWith (fullA 0)) 0 × (Window (planWith (fullA 1)) 0 → ⊥)
+  pub case-10 : (bytesOf 300 ≡ 0xAC ∷ 0x02 ∷ []) × (bytesOf 4294967295 ≡ 0xFF ∷ 0xFF ∷ 0xFF ∷ 0xFF ∷ 0x0F ∷ [])
+
+-- Each rule with Plan B, where a leg's own numbers differ from those of every other leg: a window by its own hold time, a hop by the previous leg's wire time and
+-- propagation, a deadline by the last leg's own, an overlap by each leg's own hold time. Beside that: a deadline is not for a leg that is not the last, and
+-- counts from the first leg's offset; legs on different links may be sent at one time.
+pub record MoreCases : Type 0 where
+  pub window-1 : Window (planWith (offsetsB 0 94240 576)) 1 × (Window (planWith (offsetsB 0 94241 576)) 1 → ⊥)
+  pub window-2 : Window (planWith (offsetsB 0 1176 137760)) 2 × (Window (planWith (offsetsB 0 1176 137761)) 2 → ⊥)
+  pub hop : Hop (planWith (offsetsB 0 1176 576)) 1 × (Hop (planWith (offsetsB 0 1175 576)) 1 → ⊥)
+  pub deadline : Deadline (planWith (dueB 7736)) 1 × (Deadline (planWith (dueB 7735)) 1 → ⊥)
+  pub overlap-first : Overlap (planWith (offsetsB 0 1176 576)) 2 0 × (Overlap (planWith (offsetsB 0 1176 575)) 2 0 → ⊥)
+  pub overlap-second : Overlap (planWith (offsetsB 0 1176 37760)) 2 0 × (Overlap (planWith (offsetsB 0 1176 37761)) 2 0 → ⊥)
+  pub not-last : Deadline (planWith (dueA 1 0)) 0
+  pub from-first : Deadline (planWith (dueA 2352 600)) 1 × (Deadline (planWith (dueA 2351 600)) 1 → ⊥)
+  pub other-links : Overlap (planWith (offsetsA 0 1176 1176)) 2 1
+
+-- All tables of these cases are well-formed, whatever their offsets: they are plans.
+pub record CasesArePlans : Type 0 where
+  pub offsets-a : (o0 o1 o2 : ℕ) → WellFormedTable (planWith (offsetsA o0 o1 o2))
+  pub due-a : (d later : ℕ) → 1 ≤ d → d ≤ 100000 → WellFormedTable (planWith (dueA d later))
+  pub periods-a : (o0 o2 : ℕ) → WellFormedTable (planWith (periodsA o0 o2))
+  pub full-a : (o0 : ℕ) → WellFormedTable (planWith (fullA o0))
+  pub offsets-b : (o0 o1 o2 : ℕ) → WellFormedTable (planWith (offsetsB o0 o1 o2))
+  pub due-b : (d : ℕ) → 1 ≤ d → d ≤ 100000 → WellFormedTable (planWith (dueB d))
+
+-- A well-formed plan that keeps every rule with two legs on one link: Plan A with leg 2 at 576.
+pub record AcceptedPlanExists : Type 0 where
+  pub shape : WellFormedTable (planWith (offsetsA 0 1176 576))
+  pub rules : RulesHold (planWith (offsetsA 0 1176 576))
+  pub inside : 2 < legCount (planWith (offsetsA 0 1176 576))
+  pub same-link : legAt (planWith (offsetsA 0 1176 576)) 0 .link ≡ legAt (planWith (offsetsA 0 1176 576)) 2 .link
