@@ -1,13 +1,14 @@
 -- What is proved of plan files and saved cursors.
 use Prim.Native.Nat.{ℕ, _*_, _≤_}
 use mathlib.Core.Path.{_≡_}
-use mathlib.Core.List.{List}
+use mathlib.Core.List.{List, [], _∷_}
 use lib.ListN.{length, take}
 use Rattle.numbers.specs.Number.{maxNumberBytes}
 use Rattle.numbers.specs.Series.{AllWords, fileOf, overlaid}
 use Rattle.numbers.specs.declared.Written.{Written}
 use Rattle.numbers.specs.declared.Written.the-variants as written
 use Rattle.table.specs.Layout.{maxTableWords, Sized}
+use Rattle.table.specs.PlanA.{planA}
 use Rattle.files.specs.Plan.{ReadsPlan, WritesPlan}
 use Rattle.files.specs.Cursors.{cursorNumbers, cursorWords, cursorFile, ReadsCursor, WritesCursor}
 use Rattle.files.specs.declared.PlanRead.{PlanRead}
@@ -73,3 +74,16 @@ FileBytesAtMost = (maxFileBytes ≡ 48665) × ((t : List ℕ) → Sized t → le
 
 abbrev pub CursorBytesAtMost : Type 0
 CursorBytesAtMost = (maxCursorBytes ≡ 15) × ((c : Cursor) → length (cursorFile c) ≤ maxCursorBytes)
+
+-- Plan A's file, 41 bytes.
+abbrev pub PlanAFile : Type 0
+PlanAFile =
+    fileOf planA ≡
+    0x00 ∷ 0x02 ∷ 0x02 ∷ 0x03 ∷ 0x64 ∷
+    0x01 ∷ 0x02 ∷ 0x08 ∷ 0xF4 ∷ 0x03 ∷
+    0x02 ∷ 0x03 ∷ 0x08 ∷ 0xF4 ∷ 0x03 ∷
+    0xA0 ∷ 0x8D ∷ 0x06 ∷ 0xB0 ∷ 0x12 ∷ 0x40 ∷ 0x00 ∷ 0x02 ∷
+    0xF0 ∷ 0x93 ∷ 0x09 ∷ 0xD0 ∷ 0x0F ∷ 0x40 ∷ 0x02 ∷ 0x01 ∷
+    0x00 ∷ 0x00 ∷ 0x00 ∷
+    0x00 ∷ 0x01 ∷ 0x98 ∷ 0x09 ∷
+    0x01 ∷ 0x00 ∷ 0x00 ∷ []
