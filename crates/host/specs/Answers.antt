@@ -1,7 +1,6 @@
 -- What the C host is told in numbers, and in the lent bytes (document 01, "Files").
-use Prim.Native.Nat.{ℕ, _+_, _*_}
+use Prim.Native.Nat.{ℕ, _+_}
 use mathlib.Core.List.{List}
-use Rattle.numbers.specs.Number.{maxWord}
 use Rattle.numbers.specs.Series.{overlaid}
 use Rattle.files.specs.Cursors.{cursorFile}
 use Rattle.files.specs.declared.Cursor.{Cursor}
@@ -58,13 +57,6 @@ bytesAfterSlice out (answer.Refused k p d) = out
 abbrev pub bytesAfterStart : List ℕ → Grant → List ℕ
 bytesAfterStart out (grant.Granted d) = withCursor out d
 bytesAfterStart out (grant.Refused k p d) = out
-
--- The whole answer as one number of 64 bits: the result in the low 32, the number beside it in the high 32.
-abbrev pub halfValues : ℕ
-halfValues = maxWord + 1
-
-abbrev pub inHalves : Answer → ℕ
-inHalves a = a .result + halfValues * a .beside
 
 -- The result alone.
 abbrev pub resultAlone : Answer → ℕ

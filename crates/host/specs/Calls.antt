@@ -13,7 +13,7 @@ use Rattle.checker.specs.declared.Grant.{Grant}
 use Rattle.checker.specs.declared.Grant.the-variants as grant
 use Rattle.checker.specs.declared.SliceAnswer.{SliceAnswer}
 use Rattle.host.specs.declared.Answer.{Answer}
-use Rattle.host.specs.Answers.{answered, refusal, sliceAnswered, startAnswered, withCursor, bytesAfterSlice, bytesAfterStart}
+use Rattle.host.specs.Answers.{answered, refusal, sliceAnswered, startAnswered, withCursor, bytesAfterSlice, bytesAfterStart, resultAlone}
 use Rattle.host.specs.Refusals.{AfterPlan, AfterCursor, AfterRoom}
 
 -- A start of a table: granted, the number of places stands beside the result.
@@ -81,8 +81,8 @@ HostSlices plan cursor budget out =
 abbrev pub HostMoves : List ℕ → List ℕ → ℕ → ℕ → Lent → Answer → Lent → Type 0
 HostMoves plan cursor leg offset m = AfterPlan Lent plan m (λ (t : List ℕ). AfterCursor Lent cursor m (λ (c : Cursor). MovesTable t c leg offset m))
 
--- What C gets is one number r, which tells the answer in a given way: inHalves or resultAlone.
-pub record Returns (M : Type 0) (tell : Answer → ℕ) (Does : Answer → M → Type 0) (r : ℕ) (m′ : M) : Type 0 where
+-- The slice that gives one number r: the result of an answer of the slice in full.
+pub record HostSliceResult (plan cursor : List ℕ) (budget : ℕ) (out : List ℕ) (r : ℕ) (out′ : List ℕ) : Type 0 where
   pub answer : Answer
-  pub does : Does answer m′
-  pub is : r ≡ tell answer
+  pub slices : HostSlices plan cursor budget out answer out′
+  pub is : r ≡ resultAlone answer

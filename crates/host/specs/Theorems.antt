@@ -1,5 +1,5 @@
 -- What is proved of the calls for C.
-use Prim.Native.Nat.{ℕ, _+_, _≤_, _/_, _%_}
+use Prim.Native.Nat.{ℕ, _+_, _≤_}
 use mathlib.Core.Path.{_≡_}
 use mathlib.Core.List.{List}
 use lib.ListN.{length}
@@ -11,27 +11,31 @@ use Rattle.rules.specs.declared.Rule.the-variants as rule
 use Rattle.checker.specs.declared.Grant.the-variants as grant
 use Rattle.checker.specs.declared.SliceAnswer.the-variants as answer
 use Rattle.host.specs.declared.Answer.{Answer}
-use Rattle.host.specs.Answers.{refusedResult, answered, refusal, sliceAnswered, startAnswered, halfValues, inHalves, resultAlone}
-use Rattle.host.specs.Calls.{Lent, HostStarts, HostSlices, HostMoves, Returns}
+use Rattle.host.specs.Answers.{refusedResult, answered, refusal, sliceAnswered, startAnswered, resultAlone}
+use Rattle.host.specs.Calls.{Lent, HostStarts, HostSlices, HostSliceResult, HostMoves}
 
--- Whatever Does says of a call: C gets one number, and one memory is left.
-abbrev pub OneNumber : (M : Type 0) → (ℕ → M → Type 0) → Type 0
-OneNumber M Does = (r s : ℕ) (m n : M) → Does r m → Does s n → (r ≡ s) × (m ≡ n)
+-- Does says of a call which answer in A it gives and which memory in M it leaves: there is no second answer and no second memory.
+abbrev pub OneAnswer : (A M : Type 0) → (A → M → Type 0) → Type 0
+OneAnswer A M Does = (a b : A) (m n : M) → Does a m → Does b n → (a ≡ b) × (m ≡ n)
 
 abbrev pub HostStartOneAnswer : Type 0
-HostStartOneAnswer = (plan out : List ℕ) → OneNumber (List ℕ) (Returns (List ℕ) inHalves (HostStarts plan out))
+HostStartOneAnswer = (plan out : List ℕ) → OneAnswer Answer (List ℕ) (HostStarts plan out)
 
 -- The slice in full, and its result alone.
 abbrev pub HostSliceFullOneAnswer : Type 0
-HostSliceFullOneAnswer =
-    (plan cursor : List ℕ) (budget : ℕ) (out : List ℕ) → OneNumber (List ℕ) (Returns (List ℕ) inHalves (HostSlices plan cursor budget out))
+HostSliceFullOneAnswer = (plan cursor : List ℕ) (budget : ℕ) (out : List ℕ) → OneAnswer Answer (List ℕ) (HostSlices plan cursor budget out)
 
 abbrev pub HostSliceOneAnswer : Type 0
-HostSliceOneAnswer =
-    (plan cursor : List ℕ) (budget : ℕ) (out : List ℕ) → OneNumber (List ℕ) (Returns (List ℕ) resultAlone (HostSlices plan cursor budget out))
+HostSliceOneAnswer = (plan cursor : List ℕ) (budget : ℕ) (out : List ℕ) → OneAnswer ℕ (List ℕ) (HostSliceResult plan cursor budget out)
 
 abbrev pub HostMoveOneAnswer : Type 0
-HostMoveOneAnswer = (plan cursor : List ℕ) (leg offset : ℕ) (m : Lent) → OneNumber Lent (Returns Lent inHalves (HostMoves plan cursor leg offset m))
+HostMoveOneAnswer = (plan cursor : List ℕ) (leg offset : ℕ) (m : Lent) → OneAnswer Answer Lent (HostMoves plan cursor leg offset m)
+
+-- The slice that gives one number gives the result of the slice in full, and writes the same.
+abbrev pub SliceGivesTheResult : Type 0
+SliceGivesTheResult =
+    (plan cursor : List ℕ) (budget : ℕ) (out : List ℕ) (r : ℕ) (a : Answer) (out′ out″ : List ℕ)
+    → HostSliceResult plan cursor budget out r out′ → HostSlices plan cursor budget out a out″ → (r ≡ resultAlone a) × (out′ ≡ out″)
 
 -- A refusal, which is a result of 100 or more, writes nothing to the memory m.
 abbrev pub Keeps : (M : Type 0) → M → (Answer → M → Type 0) → Type 0
@@ -41,23 +45,6 @@ pub record HostRefusalsWriteNothing : Type 0 where
   pub start : (plan out : List ℕ) → Keeps (List ℕ) out (HostStarts plan out)
   pub slice : (plan cursor : List ℕ) (budget : ℕ) (out : List ℕ) → Keeps (List ℕ) out (HostSlices plan cursor budget out)
   pub move-leg : (plan cursor : List ℕ) (leg offset : ℕ) (m : Lent) → Keeps Lent m (HostMoves plan cursor leg offset m)
-
--- C finds both numbers again in the one that it gets: the remainder and the quotient by 4,294,967,296.
-pub record HalvesTellBoth : Type 0 where
-  pub start : (plan out : List ℕ) (r : ℕ) (out′ : List ℕ)
-      → Returns (List ℕ) inHalves (HostStarts plan out) r out′ → HostStarts plan out (answered (r % halfValues) (r / halfValues)) out′
-  pub slice : (plan cursor : List ℕ) (budget : ℕ) (out : List ℕ) (r : ℕ) (out′ : List ℕ)
-      → Returns (List ℕ) inHalves (HostSlices plan cursor budget out) r out′ → HostSlices plan cursor budget out (answered (r % halfValues) (r / halfValues)) out′
-  pub move-leg : (plan cursor : List ℕ) (leg offset : ℕ) (m : Lent) (r : ℕ) (m′ : Lent)
-      → Returns Lent inHalves (HostMoves plan cursor leg offset m) r m′ → HostMoves plan cursor leg offset m (answered (r % halfValues) (r / halfValues)) m′
-
--- The slice that gives its result alone gives the low half of the slice in full, and writes the same.
-abbrev pub SliceIsTheLowHalf : Type 0
-SliceIsTheLowHalf =
-    (plan cursor : List ℕ) (budget : ℕ) (out : List ℕ) (r s : ℕ) (out′ out″ : List ℕ)
-    → Returns (List ℕ) resultAlone (HostSlices plan cursor budget out) r out′
-    → Returns (List ℕ) inHalves (HostSlices plan cursor budget out) s out″
-    → (r ≡ s % halfValues) × (out′ ≡ out″)
 
 -- Which file a refusal 12, 13 or 14 lies in: a fault of the plan file comes before all else, in every call, and a start gives these numbers for no other.
 pub record PlanFaultsComeFirst : Type 0 where
