@@ -52,8 +52,8 @@ pub saved-not-unread : (s : List ℕ) (c : Cursor) (k p : ℕ) → ReadsCursor s
 unfolding is-saved
 saved-not-unread s c k p f g = let e : _≡_ {A = ℕ} 1 0 = ap is-saved (read-cursor-one-answer s (read.Saved c) (read.Refused k p) f g) in omega arith
 
-too-few-one : (lent needed k p l q : ℕ) → TooFew lent needed k p → TooFew lent needed l q → (k ≡ l) × (p ≡ q)
-too-few-one lent needed k p l q x y = (x .number ∙ sym (y .number), x .position ∙ sym (y .position))
+too-few-one : (room needed k p l q : ℕ) → TooFew room needed k p → TooFew room needed l q → (k ≡ l) × (p ≡ q)
+too-few-one room needed k p l q x y = (x .number ∙ sym (y .number), x .position ∙ sym (y .position))
 
 -- The stages.
 module _ (M : Type 0) (m : M) where
@@ -76,11 +76,11 @@ module _ (M : Type 0) (m : M) where
   after-cursor-one s Then one a b x y (inr (c, f, u)) (inl v) = absurd (saved-not-unread s c (v .number) (v .at) f (v .fault))
   after-cursor-one s Then one a b x y (inr (c, f, u)) (inr (d, g, v)) = one c a b x y u (subst (λ (z : Cursor). Then z b y) (saved-one s d c g f) v)
 
-  after-room-one : (lent needed : ℕ) (Then : Answer → M → Type 0) → OneAnswer Answer M Then → OneAnswer Answer M (AfterRoom M lent needed m Then)
-  after-room-one lent needed Then one a b x y (inl u) (inl v) = refused-one (TooFew lent needed) (too-few-one lent needed) a b x y u v
-  after-room-one lent needed Then one a b x y (inl u) (inr v) = absurd (omega (arith, u .fault .fewer, v .0))
-  after-room-one lent needed Then one a b x y (inr u) (inl v) = absurd (omega (arith, u .0, v .fault .fewer))
-  after-room-one lent needed Then one a b x y (inr u) (inr v) = one a b x y (u .1) (v .1)
+  after-room-one : (room needed : ℕ) (Then : Answer → M → Type 0) → OneAnswer Answer M Then → OneAnswer Answer M (AfterRoom M room needed m Then)
+  after-room-one room needed Then one a b x y (inl u) (inl v) = refused-one (TooFew room needed) (too-few-one room needed) a b x y u v
+  after-room-one room needed Then one a b x y (inl u) (inr v) = absurd (omega (arith, u .fault .fewer, v .0))
+  after-room-one room needed Then one a b x y (inr u) (inl v) = absurd (omega (arith, u .0, v .fault .fewer))
+  after-room-one room needed Then one a b x y (inr u) (inr v) = one a b x y (u .1) (v .1)
 
 -- The calls.
 started-one : (t out : List ℕ) → OneAnswer Answer (List ℕ) (Started t out)

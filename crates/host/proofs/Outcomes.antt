@@ -34,9 +34,9 @@ module _ (M : Type 0) (m : M) where
   after-cursor-keeps s Then keeps a m′ (inl x) h = x .kept
   after-cursor-keeps s Then keeps a m′ (inr (c, f, x)) h = keeps c a m′ x h
 
-  after-room-keeps : (given needed : ℕ) (Then : Answer → M → Type 0) → Keeps M m Then → Keeps M m (AfterRoom M given needed m Then)
-  after-room-keeps given needed Then keeps a m′ (inl x) h = x .kept
-  after-room-keeps given needed Then keeps a m′ (inr x) h = keeps a m′ (x .1) h
+  after-room-keeps : (room needed : ℕ) (Then : Answer → M → Type 0) → Keeps M m Then → Keeps M m (AfterRoom M room needed m Then)
+  after-room-keeps room needed Then keeps a m′ (inl x) h = x .kept
+  after-room-keeps room needed Then keeps a m′ (inr x) h = keeps a m′ (x .1) h
 
 -- The results of the calls themselves: those that are no refusals are below 100.
 rule-small : (x : Rule) → ruleResult x < refusedResult 0

@@ -14,7 +14,7 @@ use Rattle.host.specs.declared.Answer.{Answer}
 use Rattle.host.specs.Answers.{refusedResult, answered, refusal, sliceAnswered, startAnswered, resultAlone}
 use Rattle.host.specs.Calls.{Lent, HostStarts, HostSlices, HostSliceResult, HostMoves}
 
--- Does says of a call which answer in A it gives and which memory in M it leaves: there is no second answer and no second memory.
+-- No second answer and no second memory satisfies Does, the statement of a call.
 abbrev pub OneAnswer : (A M : Type 0) → (A → M → Type 0) → Type 0
 OneAnswer A M Does = (a b : A) (m n : M) → Does a m → Does b n → (a ≡ b) × (m ≡ n)
 
@@ -37,7 +37,7 @@ SliceGivesTheResult =
     (plan cursor : List ℕ) (budget : ℕ) (out : List ℕ) (r : ℕ) (a : Answer) (out′ out″ : List ℕ)
     → HostSliceResult plan cursor budget out r out′ → HostSlices plan cursor budget out a out″ → (r ≡ resultAlone a) × (out′ ≡ out″)
 
--- A refusal, which is a result of 100 or more, writes nothing to the memory m.
+-- A refusal, which is a result of 100 or more, writes nothing: the memory is still m.
 abbrev pub Keeps : (M : Type 0) → M → (Answer → M → Type 0) → Type 0
 Keeps M m Does = (a : Answer) (m′ : M) → Does a m′ → refusedResult 0 ≤ a .result → m′ ≡ m
 
@@ -46,7 +46,8 @@ pub record HostRefusalsWriteNothing : Type 0 where
   pub slice : (plan cursor : List ℕ) (budget : ℕ) (out : List ℕ) → Keeps (List ℕ) out (HostSlices plan cursor budget out)
   pub move-leg : (plan cursor : List ℕ) (leg offset : ℕ) (m : Lent) → Keeps Lent m (HostMoves plan cursor leg offset m)
 
--- Which file a refusal 12, 13 or 14 lies in: a fault of the plan file comes before all else, in every call, and a start gives these numbers for no other.
+-- Which file a refusal 12, 13 or 14 lies in: in every call a fault of the plan file comes before all else, and a start gives 12, 13 and 14 for such a fault alone.
+-- So it lies in the plan file exactly when a start gives it too.
 pub record PlanFaultsComeFirst : Type 0 where
   pub start : (plan out : List ℕ) (k p : ℕ) (a : Answer) (out′ : List ℕ) → PlanFault plan k p → HostStarts plan out a out′ → a ≡ refusal k p
   pub slice : (plan cursor : List ℕ) (budget : ℕ) (out : List ℕ) (k p : ℕ) (a : Answer) (out′ : List ℕ)
@@ -66,8 +67,8 @@ MoveRoomIsEnough =
     → maxCursorBytes ≤ length (m .out) → length plan + moveBytes ≤ length (m .file)
     → HostMoves plan cursor leg offset m a m′ → a .result ≡ refusedResult noRoom → ⊥
 
--- The answers at the paper's numbers: 0 nothing violated, 1 paused, 2 to 5 violated (window, hop, deadline, overlap), each with the steps; 100 plus the refusal
--- number, with the position; and 15 bytes.
+-- The answers at the paper's numbers: 0 nothing violated, 1 paused, 2 to 5 violated (window, hop, deadline, overlap), each with the steps; a start, 0 with the
+-- places; 100 plus the refusal number, with the position. And 15, the fewest bytes that are taken for the cursor.
 pub record ResultsOfThePaper : Type 0 where
   pub nothing-violated : (d : Cursor) (n : ℕ) → sliceAnswered (answer.NothingViolated d n) ≡ answered 0 n
   pub paused : (d : Cursor) (n : ℕ) → sliceAnswered (answer.Paused d n) ≡ answered 1 n
