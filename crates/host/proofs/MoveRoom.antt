@@ -21,7 +21,7 @@ use Rattle.checker.specs.Moves.{Moves, MoveFault}
 use Rattle.checker.specs.declared.Grant.{Grant}
 use Rattle.checker.specs.declared.Grant.the-variants as grant
 use Rattle.host.specs.declared.Answer.{Answer}
-use Rattle.host.specs.Answers.{refusedResult, refusal, resultAlone}
+use Rattle.host.specs.Answers.{refusedResult, resultAlone}
 use Rattle.host.specs.Refusals.{CursorUnread}
 use Rattle.host.specs.Calls.{Lent, AfterMove}
 use Rattle.host.specs.Theorems.{moveBytes, MoveRoomIsEnough}

@@ -18,14 +18,10 @@ use Rattle.checker.specs.declared.Grant.{Grant}
 use Rattle.checker.specs.declared.Grant.the-variants as grant
 use Rattle.checker.proofs.OneAnswer.{start-one-answer, slice-one-answer, move-one-answer}
 use Rattle.host.specs.declared.Answer.{Answer}
-use Rattle.host.specs.Answers.{refusal, sliceAnswered, startAnswered, bytesAfterSlice, bytesAfterStart, inHalves, resultAlone}
+use Rattle.host.specs.Answers.{refusal, sliceAnswered, startAnswered, bytesAfterSlice, bytesAfterStart, resultAlone}
 use Rattle.host.specs.Refusals.{RefusedFor, CursorUnread, TooFew, AfterPlan, AfterCursor, AfterRoom}
-use Rattle.host.specs.Calls.{Lent, AfterMove, BothWritten, Started, Sliced, MoveMade, StartsTable, SlicesTable, MovesTable, HostStarts, HostSlices, HostMoves, Returns}
-use Rattle.host.specs.Theorems.{OneNumber, HostStartOneAnswer, HostSliceFullOneAnswer, HostSliceOneAnswer, HostMoveOneAnswer}
-
--- Whatever Does says of a call has one answer and leaves one memory.
-abbrev pub One : (M : Type 0) → (Answer → M → Type 0) → Type 0
-One M Does = (a b : Answer) (m n : M) → Does a m → Does b n → (a ≡ b) × (m ≡ n)
+use Rattle.host.specs.Calls.{Lent, AfterMove, BothWritten, Started, Sliced, MoveMade, StartsTable, SlicesTable, MovesTable}
+use Rattle.host.specs.Theorems.{OneAnswer, HostStartOneAnswer, HostSliceFullOneAnswer, HostSliceOneAnswer, HostMoveOneAnswer, SliceGivesTheResult}
 
 -- What was read of a cursor, as numbers and a cursor.
 number-of : CursorRead → ℕ
@@ -56,95 +52,83 @@ pub saved-not-unread : (s : List ℕ) (c : Cursor) (k p : ℕ) → ReadsCursor s
 unfolding is-saved
 saved-not-unread s c k p f g = let e : _≡_ {A = ℕ} 1 0 = ap is-saved (read-cursor-one-answer s (read.Saved c) (read.Refused k p) f g) in omega arith
 
-too-few-one : (lent needed k p l q : ℕ) → TooFew lent needed k p → TooFew lent needed l q → (k ≡ l) × (p ≡ q)
-too-few-one lent needed k p l q x y = (x .number ∙ sym (y .number), x .position ∙ sym (y .position))
+too-few-one : (room needed k p l q : ℕ) → TooFew room needed k p → TooFew room needed l q → (k ≡ l) × (p ≡ q)
+too-few-one room needed k p l q x y = (x .number ∙ sym (y .number), x .position ∙ sym (y .position))
 
 -- The stages.
 module _ (M : Type 0) (m : M) where
-  refused-one : (Fault : ℕ → ℕ → Type 0) → ((k p l q : ℕ) → Fault k p → Fault l q → (k ≡ l) × (p ≡ q)) → One M (RefusedFor M Fault m)
+  refused-one : (Fault : ℕ → ℕ → Type 0) → ((k p l q : ℕ) → Fault k p → Fault l q → (k ≡ l) × (p ≡ q)) → OneAnswer Answer M (RefusedFor M Fault m)
   refused-one Fault one a b x y u v =
       let e = one (u .number) (u .at) (v .number) (v .at) (u .fault) (v .fault) in (
         u .answer ∙ ap (λ (k : ℕ). refusal k (u .at)) (e .0) ∙ ap (refusal (v .number)) (e .1) ∙ sym (v .answer),
         u .kept ∙ sym (v .kept),
       )
 
-  after-plan-one : (s : List ℕ) (Then : List ℕ → Answer → M → Type 0) → ((t : List ℕ) → One M (Then t)) → One M (AfterPlan M s m Then)
+  after-plan-one : (s : List ℕ) (Then : List ℕ → Answer → M → Type 0) → ((t : List ℕ) → OneAnswer Answer M (Then t)) → OneAnswer Answer M (AfterPlan M s m Then)
   after-plan-one s Then one a b x y (inl u) (inl v) = refused-one (PlanFault s) (plan-fault-one s) a b x y u v
   after-plan-one s Then one a b x y (inl u) (inr (t, f, v)) = absurd (file-no-fault f (u .fault))
   after-plan-one s Then one a b x y (inr (t, f, u)) (inl v) = absurd (file-no-fault f (v .fault))
   after-plan-one s Then one a b x y (inr (t, f, u)) (inr (w, g, v)) = one t a b x y u (subst (λ (z : List ℕ). Then z b y) (same-file g f) v)
 
-  after-cursor-one : (s : List ℕ) (Then : Cursor → Answer → M → Type 0) → ((c : Cursor) → One M (Then c)) → One M (AfterCursor M s m Then)
+  after-cursor-one : (s : List ℕ) (Then : Cursor → Answer → M → Type 0) → ((c : Cursor) → OneAnswer Answer M (Then c)) → OneAnswer Answer M (AfterCursor M s m Then)
   after-cursor-one s Then one a b x y (inl u) (inl v) = refused-one (CursorUnread s) (unread-one s) a b x y u v
   after-cursor-one s Then one a b x y (inl u) (inr (c, f, v)) = absurd (saved-not-unread s c (u .number) (u .at) f (u .fault))
   after-cursor-one s Then one a b x y (inr (c, f, u)) (inl v) = absurd (saved-not-unread s c (v .number) (v .at) f (v .fault))
   after-cursor-one s Then one a b x y (inr (c, f, u)) (inr (d, g, v)) = one c a b x y u (subst (λ (z : Cursor). Then z b y) (saved-one s d c g f) v)
 
-  after-room-one : (lent needed : ℕ) (Then : Answer → M → Type 0) → One M Then → One M (AfterRoom M lent needed m Then)
-  after-room-one lent needed Then one a b x y (inl u) (inl v) = refused-one (TooFew lent needed) (too-few-one lent needed) a b x y u v
-  after-room-one lent needed Then one a b x y (inl u) (inr v) = absurd (omega (arith, u .fault .fewer, v .0))
-  after-room-one lent needed Then one a b x y (inr u) (inl v) = absurd (omega (arith, u .0, v .fault .fewer))
-  after-room-one lent needed Then one a b x y (inr u) (inr v) = one a b x y (u .1) (v .1)
+  after-room-one : (room needed : ℕ) (Then : Answer → M → Type 0) → OneAnswer Answer M Then → OneAnswer Answer M (AfterRoom M room needed m Then)
+  after-room-one room needed Then one a b x y (inl u) (inl v) = refused-one (TooFew room needed) (too-few-one room needed) a b x y u v
+  after-room-one room needed Then one a b x y (inl u) (inr v) = absurd (omega (arith, u .fault .fewer, v .0))
+  after-room-one room needed Then one a b x y (inr u) (inl v) = absurd (omega (arith, u .0, v .fault .fewer))
+  after-room-one room needed Then one a b x y (inr u) (inr v) = one a b x y (u .1) (v .1)
 
 -- The calls.
-started-one : (t out : List ℕ) → One (List ℕ) (Started t out)
+started-one : (t out : List ℕ) → OneAnswer Answer (List ℕ) (Started t out)
 started-one t out a b x y u v =
     let e = start-one-answer t (u .given) (v .given) (u .starts) (v .starts) in
     (u .answer ∙ ap (startAnswered (placeCount t)) e ∙ sym (v .answer), u .after ∙ ap (bytesAfterStart out) e ∙ sym (v .after))
 
-sliced-one : (t : List ℕ) (c : Cursor) (budget : ℕ) (out : List ℕ) → One (List ℕ) (Sliced t c budget out)
+sliced-one : (t : List ℕ) (c : Cursor) (budget : ℕ) (out : List ℕ) → OneAnswer Answer (List ℕ) (Sliced t c budget out)
 sliced-one t c budget out a b x y u v =
     let e = slice-one-answer t c budget (u .given) (v .given) (u .slices) (v .slices) in
     (u .answer ∙ ap sliceAnswered e ∙ sym (v .answer), u .after ∙ ap (bytesAfterSlice out) e ∙ sym (v .after))
 
-written-one : (u : List ℕ) (d : Cursor) (m : Lent) → One Lent (BothWritten u d m)
+written-one : (u : List ℕ) (d : Cursor) (m : Lent) → OneAnswer Answer Lent (BothWritten u d m)
 written-one u d m a b x y v w = (v .answer ∙ sym (w .answer), v .after ∙ sym (w .after))
 
-after-move-one : (g : Grant) (u : List ℕ) (m : Lent) → One Lent (AfterMove g u m)
+after-move-one : (g : Grant) (u : List ℕ) (m : Lent) → OneAnswer Answer Lent (AfterMove g u m)
 after-move-one (grant.Granted d) u m a b x y v w =
     after-room-one Lent m (length (m .file)) (length (fileOf u)) (BothWritten u d m) (written-one u d m) a b x y v w
 after-move-one (grant.Refused k p d) u m a b x y v w = (v .0 ∙ sym (w .0), v .1 ∙ sym (w .1))
 
-move-made-one : (t : List ℕ) (c : Cursor) (leg offset : ℕ) (m : Lent) → One Lent (MoveMade t c leg offset m)
+move-made-one : (t : List ℕ) (c : Cursor) (leg offset : ℕ) (m : Lent) → OneAnswer Answer Lent (MoveMade t c leg offset m)
 move-made-one t c leg offset m a b x y u v =
     let e = move-one-answer t c leg offset (v .given) (u .given) (v .table) (u .table) (v .moves) (u .moves) in
     let w = subst (λ (g : Grant). AfterMove g (v .table) m b y) (e .0) (v .after) in
     after-move-one (u .given) (u .table) m a b x y (u .after) (subst (λ (z : List ℕ). AfterMove (u .given) z m b y) (e .1) w)
 
-starts-one : (plan out : List ℕ) → One (List ℕ) (HostStarts plan out)
-starts-one plan out =
+pub host-start-one-answer : HostStartOneAnswer
+host-start-one-answer plan out =
     after-plan-one (List ℕ) out plan (λ (t : List ℕ). StartsTable t out)
     (λ t. after-room-one (List ℕ) out (length out) maxCursorBytes (Started t out) (started-one t out))
 
-pub slices-one : (plan cursor : List ℕ) (budget : ℕ) (out : List ℕ) → One (List ℕ) (HostSlices plan cursor budget out)
-slices-one plan cursor budget out =
+pub host-slice-full-one-answer : HostSliceFullOneAnswer
+host-slice-full-one-answer plan cursor budget out =
     after-plan-one (List ℕ) out plan (λ (t : List ℕ). AfterCursor (List ℕ) cursor out (λ (c : Cursor). SlicesTable t c budget out))
     (λ t. after-cursor-one (List ℕ) out cursor (λ (c : Cursor). SlicesTable t c budget out)
     (λ c. after-room-one (List ℕ) out (length out) maxCursorBytes (Sliced t c budget out) (sliced-one t c budget out)))
 
-moves-one : (plan cursor : List ℕ) (leg offset : ℕ) (m : Lent) → One Lent (HostMoves plan cursor leg offset m)
-moves-one plan cursor leg offset m =
+pub host-move-one-answer : HostMoveOneAnswer
+host-move-one-answer plan cursor leg offset m =
     after-plan-one Lent m plan (λ (t : List ℕ). AfterCursor Lent cursor m (λ (c : Cursor). MovesTable t c leg offset m))
     (λ t. after-cursor-one Lent m cursor (λ (c : Cursor). MovesTable t c leg offset m)
     (λ c. after-room-one Lent m (length (m .out)) maxCursorBytes (MoveMade t c leg offset m) (move-made-one t c leg offset m)))
 
--- The number that C gets.
-returns-one : (M : Type 0) (tell : Answer → ℕ) (Does : Answer → M → Type 0) → One M Does → OneNumber M (Returns M tell Does)
-returns-one M tell Does one r s x y u v =
-    let e = one (u .answer) (v .answer) x y (u .does) (v .does) in
-    (u .is ∙ ap tell (e .0) ∙ sym (v .is), e .1)
-
-pub host-start-one-answer : HostStartOneAnswer
-host-start-one-answer plan out = returns-one (List ℕ) inHalves (HostStarts plan out) (starts-one plan out)
-
-pub host-slice-full-one-answer : HostSliceFullOneAnswer
-host-slice-full-one-answer plan cursor budget out =
-    returns-one (List ℕ) inHalves (HostSlices plan cursor budget out) (slices-one plan cursor budget out)
+-- The result alone.
+pub slice-gives-the-result : SliceGivesTheResult
+slice-gives-the-result plan cursor budget out r a x y u v =
+    let e = host-slice-full-one-answer plan cursor budget out (u .answer) a x y (u .slices) v in (u .is ∙ ap resultAlone (e .0), e .1)
 
 pub host-slice-one-answer : HostSliceOneAnswer
-host-slice-one-answer plan cursor budget out =
-    returns-one (List ℕ) resultAlone (HostSlices plan cursor budget out) (slices-one plan cursor budget out)
-
-pub host-move-one-answer : HostMoveOneAnswer
-host-move-one-answer plan cursor leg offset m =
-    returns-one Lent inHalves (HostMoves plan cursor leg offset m) (moves-one plan cursor leg offset m)
+host-slice-one-answer plan cursor budget out r s x y u v =
+    let e = slice-gives-the-result plan cursor budget out r (v .answer) x y u (v .slices) in (e .0 ∙ sym (v .is), e .1)

@@ -1,5 +1,5 @@
 -- What is proved of the calls for C.
-use Prim.Native.Nat.{ℕ, _+_, _≤_, _/_, _%_}
+use Prim.Native.Nat.{ℕ, _+_, _≤_}
 use mathlib.Core.Path.{_≡_}
 use mathlib.Core.List.{List}
 use lib.ListN.{length}
@@ -11,29 +11,33 @@ use Rattle.rules.specs.declared.Rule.the-variants as rule
 use Rattle.checker.specs.declared.Grant.the-variants as grant
 use Rattle.checker.specs.declared.SliceAnswer.the-variants as answer
 use Rattle.host.specs.declared.Answer.{Answer}
-use Rattle.host.specs.Answers.{refusedResult, answered, refusal, sliceAnswered, startAnswered, halfValues, inHalves, resultAlone}
-use Rattle.host.specs.Calls.{Lent, HostStarts, HostSlices, HostMoves, Returns}
+use Rattle.host.specs.Answers.{refusedResult, answered, refusal, sliceAnswered, startAnswered, resultAlone}
+use Rattle.host.specs.Calls.{Lent, HostStarts, HostSlices, HostSliceResult, HostMoves}
 
--- Whatever Does says of a call: C gets one number, and one memory is left.
-abbrev pub OneNumber : (M : Type 0) → (ℕ → M → Type 0) → Type 0
-OneNumber M Does = (r s : ℕ) (m n : M) → Does r m → Does s n → (r ≡ s) × (m ≡ n)
+-- No second answer and no second memory satisfies Does, the statement of a call.
+abbrev pub OneAnswer : (A M : Type 0) → (A → M → Type 0) → Type 0
+OneAnswer A M Does = (a b : A) (m n : M) → Does a m → Does b n → (a ≡ b) × (m ≡ n)
 
 abbrev pub HostStartOneAnswer : Type 0
-HostStartOneAnswer = (plan out : List ℕ) → OneNumber (List ℕ) (Returns (List ℕ) inHalves (HostStarts plan out))
+HostStartOneAnswer = (plan out : List ℕ) → OneAnswer Answer (List ℕ) (HostStarts plan out)
 
 -- The slice in full, and its result alone.
 abbrev pub HostSliceFullOneAnswer : Type 0
-HostSliceFullOneAnswer =
-    (plan cursor : List ℕ) (budget : ℕ) (out : List ℕ) → OneNumber (List ℕ) (Returns (List ℕ) inHalves (HostSlices plan cursor budget out))
+HostSliceFullOneAnswer = (plan cursor : List ℕ) (budget : ℕ) (out : List ℕ) → OneAnswer Answer (List ℕ) (HostSlices plan cursor budget out)
 
 abbrev pub HostSliceOneAnswer : Type 0
-HostSliceOneAnswer =
-    (plan cursor : List ℕ) (budget : ℕ) (out : List ℕ) → OneNumber (List ℕ) (Returns (List ℕ) resultAlone (HostSlices plan cursor budget out))
+HostSliceOneAnswer = (plan cursor : List ℕ) (budget : ℕ) (out : List ℕ) → OneAnswer ℕ (List ℕ) (HostSliceResult plan cursor budget out)
 
 abbrev pub HostMoveOneAnswer : Type 0
-HostMoveOneAnswer = (plan cursor : List ℕ) (leg offset : ℕ) (m : Lent) → OneNumber Lent (Returns Lent inHalves (HostMoves plan cursor leg offset m))
+HostMoveOneAnswer = (plan cursor : List ℕ) (leg offset : ℕ) (m : Lent) → OneAnswer Answer Lent (HostMoves plan cursor leg offset m)
 
--- A refusal, which is a result of 100 or more, writes nothing to the memory m.
+-- The slice that gives one number gives the result of the slice in full, and writes the same.
+abbrev pub SliceGivesTheResult : Type 0
+SliceGivesTheResult =
+    (plan cursor : List ℕ) (budget : ℕ) (out : List ℕ) (r : ℕ) (a : Answer) (out′ out″ : List ℕ)
+    → HostSliceResult plan cursor budget out r out′ → HostSlices plan cursor budget out a out″ → (r ≡ resultAlone a) × (out′ ≡ out″)
+
+-- A refusal, which is a result of 100 or more, writes nothing: the memory is still m.
 abbrev pub Keeps : (M : Type 0) → M → (Answer → M → Type 0) → Type 0
 Keeps M m Does = (a : Answer) (m′ : M) → Does a m′ → refusedResult 0 ≤ a .result → m′ ≡ m
 
@@ -42,24 +46,8 @@ pub record HostRefusalsWriteNothing : Type 0 where
   pub slice : (plan cursor : List ℕ) (budget : ℕ) (out : List ℕ) → Keeps (List ℕ) out (HostSlices plan cursor budget out)
   pub move-leg : (plan cursor : List ℕ) (leg offset : ℕ) (m : Lent) → Keeps Lent m (HostMoves plan cursor leg offset m)
 
--- C finds both numbers again in the one that it gets: the remainder and the quotient by 4,294,967,296.
-pub record HalvesTellBoth : Type 0 where
-  pub start : (plan out : List ℕ) (r : ℕ) (out′ : List ℕ)
-      → Returns (List ℕ) inHalves (HostStarts plan out) r out′ → HostStarts plan out (answered (r % halfValues) (r / halfValues)) out′
-  pub slice : (plan cursor : List ℕ) (budget : ℕ) (out : List ℕ) (r : ℕ) (out′ : List ℕ)
-      → Returns (List ℕ) inHalves (HostSlices plan cursor budget out) r out′ → HostSlices plan cursor budget out (answered (r % halfValues) (r / halfValues)) out′
-  pub move-leg : (plan cursor : List ℕ) (leg offset : ℕ) (m : Lent) (r : ℕ) (m′ : Lent)
-      → Returns Lent inHalves (HostMoves plan cursor leg offset m) r m′ → HostMoves plan cursor leg offset m (answered (r % halfValues) (r / halfValues)) m′
-
--- The slice that gives its result alone gives the low half of the slice in full, and writes the same.
-abbrev pub SliceIsTheLowHalf : Type 0
-SliceIsTheLowHalf =
-    (plan cursor : List ℕ) (budget : ℕ) (out : List ℕ) (r s : ℕ) (out′ out″ : List ℕ)
-    → Returns (List ℕ) resultAlone (HostSlices plan cursor budget out) r out′
-    → Returns (List ℕ) inHalves (HostSlices plan cursor budget out) s out″
-    → (r ≡ s % halfValues) × (out′ ≡ out″)
-
--- Which file a refusal 12, 13 or 14 lies in: a fault of the plan file comes before all else, in every call, and a start gives these numbers for no other.
+-- Which file a refusal 12, 13 or 14 lies in: in every call a fault of the plan file comes before all else, and a start gives 12, 13 and 14 for such a fault alone.
+-- So it lies in the plan file exactly when a start gives it too.
 pub record PlanFaultsComeFirst : Type 0 where
   pub start : (plan out : List ℕ) (k p : ℕ) (a : Answer) (out′ : List ℕ) → PlanFault plan k p → HostStarts plan out a out′ → a ≡ refusal k p
   pub slice : (plan cursor : List ℕ) (budget : ℕ) (out : List ℕ) (k p : ℕ) (a : Answer) (out′ : List ℕ)
@@ -79,8 +67,8 @@ MoveRoomIsEnough =
     → maxCursorBytes ≤ length (m .out) → length plan + moveBytes ≤ length (m .file)
     → HostMoves plan cursor leg offset m a m′ → a .result ≡ refusedResult noRoom → ⊥
 
--- The answers at the paper's numbers: 0 nothing violated, 1 paused, 2 to 5 violated (window, hop, deadline, overlap), each with the steps; 100 plus the refusal
--- number, with the position; and 15 bytes.
+-- The answers at the paper's numbers: 0 nothing violated, 1 paused, 2 to 5 violated (window, hop, deadline, overlap), each with the steps; a start, 0 with the
+-- places; 100 plus the refusal number, with the position. And 15, the fewest bytes that are taken for the cursor.
 pub record ResultsOfThePaper : Type 0 where
   pub nothing-violated : (d : Cursor) (n : ℕ) → sliceAnswered (answer.NothingViolated d n) ≡ answered 0 n
   pub paused : (d : Cursor) (n : ℕ) → sliceAnswered (answer.Paused d n) ≡ answered 1 n

@@ -3,7 +3,7 @@ ghost use mathlib.Core.Path.{_≡_};
 ghost use Prim.Native.Nat.{_≤_};
 ghost use lib.ListN.{length};
 ghost use Rattle.files.specs.Theorems.{maxCursorBytes};
-ghost use Rattle.host.specs.Answers.{ruleResult, refusal, withCursor, inHalves};
+ghost use Rattle.host.specs.Answers.{ruleResult, refusal, withCursor};
 ghost use Rattle.host.specs.Steps.{Small};
 use crate::Answer;
 use files::Cursor;
@@ -11,9 +11,6 @@ use rules::Rule;
 
 // What is added to a refusal's number.
 const REFUSED: u32 = 100;
-
-// How many values half of the 64 bits have.
-const HALF_VALUES: u64 = 4294967296;
 
 // A refusal, with its position.
 pub(crate) fn refused(number: u32, at: usize) -> Answer
@@ -43,11 +40,4 @@ pub(crate) fn put_back(cursor: Cursor, out: &mut [u8])
     ensures { λ r. ⌜ now (out .exit) ≡ withCursor (now (out .entry)) cursor ⌝ }
 {
     files::write_cursor(cursor, out);
-}
-
-// The whole answer as one number.
-pub(crate) fn in_halves(told: Answer) -> u64
-    ensures { λ r. ⌜ r ≡ inHalves told ⌝ }
-{
-    told.result as u64 + HALF_VALUES * (told.beside as u64)
 }

@@ -1,11 +1,8 @@
-// The calls for C, on bytes and numbers. Where a call returns 64 bits, the low 32 are the result and the high 32 the number beside it. What is lent to one call
-// may not overlap (include/conepalhui.h).
-ghost use Prim.Native.Nat.{ℕ, _≤_};
-ghost use mathlib.Core.List.{List};
+// The calls for C, on bytes and numbers. What is lent to one call may not overlap (include/conepalhui.h).
+ghost use Prim.Native.Nat.{_≤_};
 ghost use lib.ListN.{length};
 ghost use Rattle.table.specs.Layout.{maxTableWords};
-ghost use Rattle.host.specs.Answers.{inHalves, resultAlone};
-ghost use Rattle.host.specs.Calls.{Lent, lent, HostStarts, HostSlices, HostMoves, Returns};
+ghost use Rattle.host.specs.Calls.{lent, HostStarts, HostSlices, HostSliceResult, HostMoves};
 ghost use Rattle.host.specs.Steps.{Opens};
 use files::Cursor;
 use files::CursorRead;
@@ -14,8 +11,9 @@ use files::PlanRead;
 mod answers;
 mod tables;
 
-// What C is told: a result (0 is nothing violated after a slice, and granted after a start or a move) and a number beside it. Refused, that is the position;
-// after a slice the steps, after a start the number of places, after a move the size of the new plan file.
+// What C gets, laid out as the struct in include/conepalhui.h: a result (0 is nothing violated after a slice, and granted after a start or a move), and a number
+// beside it. Refused, that is the position; after a slice the steps, after a start the number of places, after a move the size of the new plan file.
+#[repr(C)]
 pub struct Answer {
     pub result: u32,
     pub beside: u32,
@@ -88,17 +86,17 @@ fn move_plan(
 
 // Starts a check of a plan file, and writes its first cursor.
 #[no_mangle]
-pub extern "C" fn conepalhui_start(plan: &[u8], out: &mut [u8]) -> u64
-    ensures { λ r. ⌜ Returns (List ℕ) inHalves (HostStarts (now (plan .entry)) (now (out .entry))) r (now (out .exit)) ⌝ }
+pub extern "C" fn conepalhui_start(plan: &[u8], out: &mut [u8]) -> Answer
+    ensures { λ r. ⌜ HostStarts (now (plan .entry)) (now (out .entry)) r (now (out .exit)) ⌝ }
 {
     let mut words = [0u32; table::MAX_TABLE_WORDS];
-    answers::in_halves(start_plan(plan, out, &mut words))
+    start_plan(plan, out, &mut words)
 }
 
 // The slice over a plan file and a saved cursor: the result alone.
 #[no_mangle]
 pub extern "C" fn conepalhui_slice(plan: &[u8], cursor: &[u8], budget: u32, out: &mut [u8]) -> u32
-    ensures { λ r. ⌜ Returns (List ℕ) resultAlone (HostSlices (now (plan .entry)) (now (cursor .entry)) budget (now (out .entry))) r (now (out .exit)) ⌝ }
+    ensures { λ r. ⌜ HostSliceResult (now (plan .entry)) (now (cursor .entry)) budget (now (out .entry)) r (now (out .exit)) ⌝ }
 {
     let mut words = [0u32; table::MAX_TABLE_WORDS];
     let told = slice_plan(plan, cursor, budget, out, &mut words);
@@ -112,11 +110,11 @@ pub extern "C" fn conepalhui_slice_full(
     cursor: &[u8],
     budget: u32,
     out: &mut [u8],
-) -> u64
-    ensures { λ r. ⌜ Returns (List ℕ) inHalves (HostSlices (now (plan .entry)) (now (cursor .entry)) budget (now (out .entry))) r (now (out .exit)) ⌝ }
+) -> Answer
+    ensures { λ r. ⌜ HostSlices (now (plan .entry)) (now (cursor .entry)) budget (now (out .entry)) r (now (out .exit)) ⌝ }
 {
     let mut words = [0u32; table::MAX_TABLE_WORDS];
-    answers::in_halves(slice_plan(plan, cursor, budget, out, &mut words))
+    slice_plan(plan, cursor, budget, out, &mut words)
 }
 
 // Moves one leg of a plan file, and writes the new plan file and the new cursor.
@@ -128,9 +126,9 @@ pub extern "C" fn conepalhui_move(
     offset: u32,
     file: &mut [u8],
     out: &mut [u8],
-) -> u64
-    ensures { λ r. ⌜ Returns Lent inHalves (HostMoves (now (plan .entry)) (now (cursor .entry)) leg offset (lent (now (file .entry)) (now (out .entry)))) r (lent (now (file .exit)) (now (out .exit))) ⌝ }
+) -> Answer
+    ensures { λ r. ⌜ HostMoves (now (plan .entry)) (now (cursor .entry)) leg offset (lent (now (file .entry)) (now (out .entry))) r (lent (now (file .exit)) (now (out .exit))) ⌝ }
 {
     let mut words = [0u32; table::MAX_TABLE_WORDS];
-    answers::in_halves(move_plan(plan, cursor, leg, offset, file, out, &mut words))
+    move_plan(plan, cursor, leg, offset, file, out, &mut words)
 }

@@ -1,15 +1,15 @@
 // The calls, each with what C gets from it.
 
-// The mark of lent bytes, and how many values half of the 64 bits have.
+use host::Answer;
+
+// The mark of lent bytes.
 pub(crate) const MARK: u8 = 0xEE;
 
-const HALF_VALUES: u64 = 4294967296;
-
-fn told(answer: u64) {
+fn told(answer: Answer) {
     show::text(b" ");
-    show::number(answer % HALF_VALUES);
+    show::number(answer.result as u64);
     show::text(b" ");
-    show::number(answer / HALF_VALUES);
+    show::number(answer.beside as u64);
     show::end_line();
 }
 
