@@ -122,7 +122,9 @@ runs-at-numbers = record {
     inl refl,
     (inr (record { cursor = right 1 2 place-1-2; at = refl; cause = inl (record { number = refl; not-below = omega arith }) }), refl, refl),
   );
-  goes-on = (refl, (refl, _));
+  goes-on = (refl, tt);
+  passed-over = (refl, (refl, tt));
+  not-counted = refl;
   older = (begins, inr (inl refl), pause 0 0 2 0 7 place-0-0 (omega arith) (omega arith) (omega (arith, ranks .0, ranks .2)));
   not-newest = λ s. let e : _≡_ {A = ℕ} 0 1 = ap (λ (c : Cursor). c .leg) (s .0) in omega arith;
   altered = (
