@@ -66,7 +66,7 @@ fn worth(text: &[u8]) -> Decimal
     Decimal::Value(value as u32)
 }
 
-// Reads a number from 0 to 4,294,967,295 from its decimal digits, and nothing else: no sign, no space, no empty text. Zeros in front are taken.
+// Internal: reads a number from 0 to 4,294,967,295 from its decimal digits, and nothing else: no sign, no space, no empty text. Zeros in front are taken.
 pub fn read_decimal(text: &[u8]) -> Decimal
     ensures { λ r. ⌜ ReadsDecimal (now (text .entry)) r ⌝ }
 {

@@ -1,93 +1,70 @@
--- Runs at numbers. All places of the table hold, so that a slice is known by how far it goes. Assumes nothing.
+-- Runs at numbers: which places of the tables hold is known, and so what each slice gives. Assumes nothing.
 use Prim.Native.Nat.{ℕ, _+_, _≤_, _<_}
-use mathlib.Core.Path.{_≡_, refl, sym, ap}
-use mathlib.Core.List.{_∷_}
-use mathlib.Core.Logic.{_⊎_, inl, inr, ⊎-elim}
+use mathlib.Core.Path.{_≡_, refl, sym, ap, subst}
+use mathlib.Core.List.{List, _∷_}
+use mathlib.Core.Logic.{inl, inr, ⊎-elim}
 use native.Mathlib.Omega.{arith}
 use Rattle.table.specs.Records.{moved}
-use Rattle.table.proofs.Moved.{moved-revision}
+use Rattle.table.specs.PlanA.{planA}
 use Rattle.shape.specs.Shape.{WellFormedTable}
 use Rattle.shape.proofs.StreamLaws.{legs-none}
-use Rattle.shape.proofs.AtNumbers.{plan-a-is-well-formed}
-use Rattle.shape.proofs.Moved.{moved-same, moves-keep-shape}
 use Rattle.files.specs.declared.Cursor.{Cursor}
-use Rattle.rules.proofs.AtNumbers.{starred-cases, accepted-plan-exists}
-use Rattle.rules.proofs.Covering.{places-cover-the-rules}
-use Rattle.places.specs.Order.{placesBelow, rank, PlaceOrEnd, HoldFrom}
-use Rattle.places.proofs.Ranks.{below-none, below-more, held-none}
-use Rattle.checker.specs.Cursors.{CursorRight}
-use Rattle.checker.specs.Slices.{Went, Slices}
-use Rattle.checker.specs.Moves.{Moves}
-use Rattle.checker.specs.declared.Grant.the-variants.{Granted, Refused}
-use Rattle.checker.specs.declared.SliceAnswer.the-variants.{NothingViolated, Paused}
+use Rattle.rules.specs.Places.{placeAt}
+use Rattle.rules.specs.declared.Rule.the-variants as rule
+use Rattle.rules.proofs.AtNumbers.{starred-cases}
+use Rattle.places.specs.Order.{rank, PlaceOrEnd}
+use Rattle.places.proofs.Ranks.{below-none}
+use Rattle.checker.specs.Slices.{Starts, Slices}
+use Rattle.checker.specs.declared.Grant.the-variants.{Granted}
+use Rattle.checker.specs.declared.SliceAnswer.the-variants.{Violated, NothingViolated, Paused}
 use Rattle.checker.specs.declared.SliceAnswer.the-variants as answer
-use Rattle.demands.specs.Runs.{move-leg, Run}
-use Rattle.demands.specs.AtNumbers.{good, bad, none, at, begun, RunsAtNumbers}
+use Rattle.demands.specs.Runs.{slice, move-leg, Run}
+use Rattle.demands.specs.AtNumbers.{good, none, at, begun, RunsAtNumbers}
+use Rattle.demands.specs.CasesAsRuns.{pausedTwice, case11, case12, case13, CasesAsRuns}
+use Rattle.demands.proofs.PlanTables.{planTable, ranks, shape, here, right, granted, stays-at-end, pause, end, violate, on, moved-0, moved-2, accepted, before-2-3, meets-at-2-3, before-1-1, late-at-1-1}
 
-shape : WellFormedTable good
-shape = plan-a-is-well-formed 0 1176 576
+-- The first slice of 5, wherever leg 2 is.
+begins : (o2 : ℕ) → o2 + 576 ≤ 150000 → Run begun (planTable 0 0 1176 o2)
+begins o2 w = (
+  (shape 0 0 1176 o2, refl),
+  inl refl,
+  pause 0 0 1176 o2 10 (before-2-3 0 o2 w) 0 0 1 2 5 (here 0 0 1176 o2 0 0 (omega arith) (omega arith)) (omega arith) (omega arith) (omega (arith, ranks .0, ranks .1))
+      (omega (arith, ranks .1)),
+)
 
-held : (n m : ℕ) → HoldFrom good n m
-held n m a p i from below = places-cover-the-rules good .1 (accepted-plan-exists .rules) a p (i .leg) (i .place)
+-- Slices of the accepted table that pause and that end, by the places between two cursors.
+pauses : (a p b q n : ℕ) → a < 3 → p < 3 + a → b < 3 → q < 3 + b → rank a p + n ≡ rank b q → rank b q ≤ 12 → Slices good (at 0 a p) n (Paused (at 0 b q) n)
+pauses a p b q n l k m h e le = pause 0 0 1176 576 12 (accepted 0) a p b q n (here 0 0 1176 576 a p l k) m h e le
 
--- The legs below each have 0, 3, 7 and 12 places.
-ranks : (placesBelow 0 ≡ 0) × (placesBelow 1 ≡ 3) × (placesBelow 2 ≡ 7) × (placesBelow 3 ≡ 12)
-ranks =
-    let z = below-none in
-    let a : placesBelow 1 ≡ placesBelow 0 + 3 = below-more 0 in
-    let b : placesBelow 2 ≡ placesBelow 1 + 4 = below-more 1 in
-    let c : placesBelow 3 ≡ placesBelow 2 + 5 = below-more 2 in
-    (z, omega arith, omega arith, omega arith)
+ends : (a p n : ℕ) → PlaceOrEnd good a p → rank a p + n ≡ rank 3 0 → Slices good (at 0 a p) n (NothingViolated (at 0 3 0) n)
+ends a p n s e = end 0 0 1176 576 12 (accepted 0) a p n s e (omega (arith, ranks .3))
 
-right : (a p : ℕ) → PlaceOrEnd good a p → CursorRight good (at 0 a p)
-right a p s = record { shape = shape; revision = refl; stands = s }
+at-1-2 : (o2 : ℕ) → PlaceOrEnd (planTable 0 0 1176 o2) 1 2
+at-1-2 o2 = here 0 0 1176 o2 1 2 (omega arith) (omega arith)
 
-went : (a p b q n : ℕ) → rank a p + n ≡ rank b q → Went good (at 0 a p) (at 0 b q) n
-went a p b q n e = record { revision = refl; steps = e; held = held _ _ }
+on-good : Run begun good
+on-good = begins 576 (omega arith)
 
-pause : (a p b q n : ℕ) → PlaceOrEnd good a p → b < 3 → q < 3 + b → rank a p + n ≡ rank b q → Slices good (at 0 a p) n (Paused (at 0 b q) n)
-pause a p b q n s l h e = (right a p s, record { went = went a p b q n e; place = record { leg = l; place = h }; used = refl })
+to-the-end : Run (slice (at 0 1 2) 7 (NothingViolated (at 0 3 0) 7) ∷ begun) good
+to-the-end = (on-good, inl refl, ends 1 2 7 (at-1-2 576) (omega (arith, ranks .1, ranks .3)))
 
-end : (a p n : ℕ) → PlaceOrEnd good a p → rank a p + n ≡ rank 3 0 → Slices good (at 0 a p) n (NothingViolated (at 0 3 0) n)
-end a p n s e = (right a p s, record { went = went a p 3 0 n e; end = record { leg = refl; place = refl }; within = omega arith })
-
-place-0-0 : PlaceOrEnd good 0 0
-place-0-0 = inl (record { leg = omega arith; place = omega arith })
-
-place-1-2 : PlaceOrEnd good 1 2
-place-1-2 = inl (record { leg = omega arith; place = omega arith })
-
-the-end : PlaceOrEnd good 3 0
-the-end = inr (record { leg = refl; place = refl })
-
-begins : Run begun good
-begins = ((shape, refl), inl refl, pause 0 0 1 2 5 place-0-0 (omega arith) (omega arith) (omega (arith, ranks .0, ranks .1)))
-
--- A move of a leg below G from (1,2).
-allowed : (leg offset b q : ℕ) → leg < 3 → ((b ≡ 1) × (q ≡ 2)) ⊎ ((b ≡ leg) × (q ≡ 0)) → rank b q ≤ rank 1 2 → rank b q ≤ rank leg 0
-    → Moves good (at 0 1 2) leg offset (Granted (at 1 b q)) (moved good leg offset)
-allowed leg offset b q l o g m = record {
-  cursor = right 1 2 place-1-2;
-  below = l;
-  rises = omega arith;
-  table = refl;
-  revision = refl;
-  lesser = record { one = o; given = g; to-leg = m };
-}
-
+-- A leg ahead is moved, to 700. A slice from the new cursor goes on, and the old one is refused.
 move-ahead : Run (move-leg (at 0 1 2) 2 700 (Granted (at 1 1 2)) ∷ begun) (moved good 2 700)
-move-ahead = (good, begins, inl refl, allowed 2 700 1 2 (omega arith) (inl (refl, refl)) (omega arith) (omega (arith, ranks .1, ranks .2)))
+move-ahead = (
+  good,
+  on-good,
+  inl refl,
+  granted 0 0 1176 576 1 2 2 700 1 2 (omega arith) (at-1-2 576) (omega arith) (inl (refl, refl)) (omega arith) (omega (arith, ranks .1, ranks .2)),
+)
+
+goes-on-ahead : (p b q : ℕ) → p < 4 → b < 3 → q < 3 + b → rank 1 p + 1 ≡ rank b q → rank b q ≤ 10 → Slices (moved good 2 700) (at 1 1 p) 1 (Paused (at 1 b q) 1)
+goes-on-ahead p b q k l h e le =
+    on (at 1 1 p) 1 (Paused (at 1 b q) 1) (moved-2 0 0 1176 576 700) (pause 1 0 1176 700 10 (before-2-3 1 700 (omega arith)) 1 p b q 1 (here 1 0 1176 700 1 p (omega arith) k) l h e le)
 
 stale-cursor : Slices (moved good 2 700) (at 0 1 2) 5 (answer.Refused 8 0 (at 0 1 2))
 stale-cursor =
-    let r = moved-revision good (shape .sized) 2 700 (omega arith) in (
-      inr (record {
-        shape = moves-keep-shape good (moved good 2 700) (moved-same good (shape .sized) 2 700 (omega arith)) shape;
-        at = refl;
-        cause = inl (record { number = refl; other = λ e. omega (arith, e, r) });
-      }),
-      refl,
-    )
+    on (at 0 1 2) 5 (answer.Refused 8 0 (at 0 1 2)) (moved-2 0 0 1176 576 700)
+    (inr (record { shape = shape 1 0 1176 700; at = refl; cause = inl (record { number = refl; other = λ e. absurd (omega (arith, e)) }) }), refl)
 
 -- A table with no record at all.
 no-records : WellFormedTable none
@@ -107,35 +84,47 @@ no-records = record {
 pub runs-at-numbers : RunsAtNumbers
 runs-at-numbers = record {
   twelve = ranks .3;
-  eleven = (begins, inl refl, pause 1 2 2 4 6 place-1-2 (omega arith) (omega arith) (omega (arith, ranks .1, ranks .2)));
+  eleven = (on-good, inl refl, pauses 1 2 2 4 6 (omega arith) (omega arith) (omega arith) (omega arith) (omega (arith, ranks .1, ranks .2)) (omega (arith, ranks .2)));
   no-verdict = λ v. ⊎-elim (λ z. absurd (z .1)) (λ w. ⊎-elim (λ z. absurd (z .1)) (λ z. absurd z) w) v;
-  verdict = (begins, inl refl, end 1 2 7 place-1-2 (omega (arith, ranks .1, ranks .3)));
+  verdict = to-the-end;
   enough = sym (ranks .3);
-  nothing-looked-at = (begins, inl refl, pause 1 2 1 2 0 place-1-2 (omega arith) (omega arith) (omega arith));
-  at-the-end = ((begins, inl refl, end 1 2 7 place-1-2 (omega (arith, ranks .1, ranks .3))), inl refl, end 3 0 0 the-end (omega arith));
-  passed = (good, begins, inl refl, allowed 0 600 0 0 (omega arith) (inr (refl, refl)) (omega (arith, ranks .0, ranks .1)) (omega arith));
+  nothing-looked-at = (on-good, inl refl, pauses 1 2 1 2 0 (omega arith) (omega arith) (omega arith) (omega arith) (omega arith) (omega (arith, ranks .1)));
+  at-the-end = (to-the-end, inl refl, ends 3 0 0 (inr (record { leg = refl; place = refl })) (omega arith));
+  passed = (
+    good,
+    on-good,
+    inl refl,
+    granted 0 0 1176 576 1 2 0 600 0 0 (omega arith) (at-1-2 576) (omega arith) (inr (refl, refl)) (omega (arith, ranks .0, ranks .1)) (omega arith),
+  );
   ahead = move-ahead;
   stale = (move-ahead, inr (inl refl), stale-cursor);
   refused = (
     good,
-    begins,
+    on-good,
     inl refl,
-    (inr (record { cursor = right 1 2 place-1-2; at = refl; cause = inl (record { number = refl; not-below = omega arith }) }), refl, refl),
+    (inr (record { cursor = right 0 0 1176 576 1 2 (at-1-2 576); at = refl; cause = inl (record { number = refl; not-below = omega arith }) }), refl, refl),
   );
-  goes-on = (refl, (refl, _));
-  older = (begins, inr (inl refl), pause 0 0 2 0 7 place-0-0 (omega arith) (omega arith) (omega (arith, ranks .0, ranks .2)));
-  not-newest = λ s. let e : _≡_ {A = ℕ} 0 1 = ap (λ (c : Cursor). c .leg) (s .0) in omega arith;
-  altered = (
+  goes-on = (refl, tt);
+  over-stale = (
     (
-      record { shape = plan-a-is-well-formed 0 1176 575; revision = refl; stands = inr (record { leg = refl; place = refl }) },
-      record {
-        went = record { revision = refl; steps = omega arith; held = held-none {t = bad} (rank 3 0) };
-        end = record { leg = refl; place = refl };
-        within = omega arith;
-      },
+      (move-ahead, inl refl, goes-on-ahead 2 1 3 (omega arith) (omega arith) (omega arith) (omega arith) (omega (arith, ranks .1))),
+      inr (inr (inl refl)),
+      stale-cursor,
     ),
-    λ h. starred-cases .case-5 .1 (h .overlap 2 0 (omega arith) (omega arith) (λ e. omega (arith, e))),
+    inr (inl refl),
+    goes-on-ahead 3 2 0 (omega arith) (omega arith) (omega arith) (omega (arith, ranks .1, ranks .2)) (omega (arith, ranks .2)),
   );
+  passed-over = (refl, (refl, tt));
+  not-counted = refl;
+  older = (on-good, inr (inl refl), pauses 0 0 2 0 7 (omega arith) (omega arith) (omega arith) (omega arith) (omega (arith, ranks .0, ranks .2)) (omega (arith, ranks .2)));
+  not-newest = λ s. let e : _≡_ {A = ℕ} 0 1 = ap (λ (c : Cursor). c .leg) (s .0) in omega arith;
+  altered = (stays-at-end 0 0 1176 575, λ h. starred-cases .case-5 .1 (h .overlap 2 0 (omega arith) (omega arith) (λ e. omega (arith, e))));
+  begun-on-bad = begins 575 (omega arith);
+  not-handed-out = λ r.
+      ⊎-elim
+      (λ e. let z : _≡_ {A = ℕ} 3 1 = ap (λ (c : Cursor). c .leg) e in absurd (omega arith))
+      (λ h. ⊎-elim (λ e. let z : _≡_ {A = ℕ} 3 0 = ap (λ (c : Cursor). c .leg) e in absurd (omega arith)) (λ z. absurd z) h)
+      (r .1);
   no-legs = (
     (no-records, refl),
     inl refl,
@@ -149,4 +138,69 @@ runs-at-numbers = record {
     ),
   );
   no-places = below-none;
+}
+
+-- Cases 11 to 13. Plan A's place (2,3) is violated, and its ten places before that hold.
+paused-twice : Run pausedTwice planA
+paused-twice = (
+  begins 0 (omega arith),
+  inl refl,
+  pause 0 0 1176 0 10 (before-2-3 0 0 (omega arith)) 1 2 2 3 5 (at-1-2 0) (omega arith) (omega arith) (omega (arith, ranks .1, ranks .2)) (omega (arith, ranks .2)),
+)
+
+run-11 : Run case11 planA
+unfolding placeAt
+run-11 = (
+  paused-twice,
+  inl refl,
+  violate 0 0 1176 0 10 (before-2-3 0 0 (omega arith)) 2 3 2 3 0 5 rule.Overlap (here 0 0 1176 0 2 3 (omega arith) (omega arith)) (omega arith) (omega arith) (meets-at-2-3 0)
+      refl (omega arith) (omega (arith, ranks .2)) (omega arith),
+)
+
+run-12 : Run case12 (moved planA 2 576)
+run-12 = (
+  (
+    planA,
+    run-11,
+    inl refl,
+    granted 0 0 1176 0 2 3 2 576 2 0 (omega arith) (here 0 0 1176 0 2 3 (omega arith) (omega arith)) (omega arith) (inr (refl, refl)) (omega arith) (omega arith),
+  ),
+  inl refl,
+  on (at 1 2 0) 5 (NothingViolated (at 1 3 0) 5) (moved-2 0 0 1176 0 576)
+      (end 1 0 1176 576 12 (accepted 1) 2 0 5 (here 1 0 1176 576 2 0 (omega arith) (omega arith)) (omega (arith, ranks .2, ranks .3)) (omega (arith, ranks .3))),
+)
+
+run-13 : Run case13 (moved planA 0 600)
+unfolding placeAt
+run-13 = (
+  (
+    planA,
+    paused-twice,
+    inl refl,
+    granted 0 0 1176 0 2 3 0 600 0 0 (omega arith) (here 0 0 1176 0 2 3 (omega arith) (omega arith)) (omega arith) (inr (refl, refl)) (omega (arith, ranks .0, ranks .2))
+        (omega arith),
+  ),
+  inl refl,
+  on (at 1 0 0) 5 (Violated (at 1 1 1) 5 rule.Hop) (moved-0 0 0 1176 0 600)
+      (violate 1 600 1176 0 4 (before-1-1 1 0) 0 0 1 1 4 5 rule.Hop (here 1 600 1176 0 0 0 (omega arith) (omega arith)) (omega arith) (omega arith) (late-at-1-1 1 0) refl
+      (omega (arith, ranks .0, ranks .1)) (omega (arith, ranks .1)) (omega arith)),
+)
+
+pub cases-as-runs : CasesAsRuns
+cases-as-runs = record {
+  case-11 = run-11;
+  case-12 = run-12;
+  case-13 = run-13;
+  own-leg = (
+    good,
+    on-good,
+    inl refl,
+    granted 0 0 1176 576 1 2 1 1200 1 0 (omega arith) (at-1-2 576) (omega arith) (inr (refl, refl)) (omega arith) (omega arith),
+  );
+  started-again = (
+    (run-12, subst (λ (t : List ℕ). Starts t (Granted (at 1 0 0))) (moved-2 0 0 1176 0 576) (shape 1 0 1176 576, refl)),
+    inl refl,
+    on (at 1 0 0) 12 (NothingViolated (at 1 3 0) 12) (moved-2 0 0 1176 0 576)
+        (end 1 0 1176 576 12 (accepted 1) 0 0 12 (here 1 0 1176 576 0 0 (omega arith) (omega arith)) (omega (arith, ranks .0, ranks .3)) (omega (arith, ranks .3))),
+  );
 }

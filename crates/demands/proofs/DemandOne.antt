@@ -1,6 +1,5 @@
 -- Demand 1, from the statements and theorems of each call. Assumes nothing.
 use Rattle.numbers.proofs.OneNumber.{read-number-one-answer, write-number-one-answer}
-use Rattle.decimal.proofs.OneAnswer.{read-decimal-one-answer}
 use Rattle.files.proofs.OneAnswer.{read-plan-one-answer, write-plan-one-answer, read-cursor-one-answer, write-cursor-one-answer}
 use Rattle.checker.proofs.OneAnswer.{start-one-answer, slice-one-answer, move-one-answer}
 use Rattle.host.proofs.OneAnswer.{host-start-one-answer, host-slice-one-answer, host-slice-full-one-answer, host-move-one-answer}
@@ -12,7 +11,6 @@ demand-one = record {
   one-answer = record {
     read-number = read-number-one-answer;
     write-number = write-number-one-answer;
-    read-decimal = read-decimal-one-answer;
     read-plan = read-plan-one-answer;
     write-plan = write-plan-one-answer;
     read-cursor = read-cursor-one-answer;

@@ -7,6 +7,7 @@ use mathlib.Core.Logic.{_⊎_, inl, inr, ⊎-elim}
 use native.Mathlib.Nat.{eq-or-lt-of-le}
 use native.Mathlib.Omega.{arith}
 use Rattle.basics.proofs.Splits.{lt-or-ge}
+use Rattle.numbers.specs.Number.{maxWord}
 use Rattle.table.specs.Layout.{revisionOf, legCount}
 use Rattle.shape.specs.Shape.{WellFormedTable}
 use Rattle.shape.proofs.OneShape.{well-no-fault}
@@ -17,14 +18,14 @@ use Rattle.places.specs.Order.{rank, IsPlace, placeCount, HoldFrom}
 use Rattle.places.proofs.Ranks.{place-rank, rank-is-one, order-is-by-leg}
 use Rattle.checker.specs.Cursors.{cursorRank, CursorRight}
 use Rattle.checker.specs.Slices.{startCursor, Starts, Slices, Went}
-use Rattle.checker.specs.Moves.{MoveRight}
+use Rattle.checker.specs.Moves.{MoveRight, MoveFault}
 use Rattle.checker.proofs.OneAnswer.{right-no-fault}
 use Rattle.checker.specs.declared.Grant.the-variants.{Granted, Refused}
 use Rattle.checker.specs.declared.SliceAnswer.{SliceAnswer}
 use Rattle.checker.specs.declared.SliceAnswer.the-variants as answer
 use Rattle.demands.specs.Verdicts.{Verdict, violated, nothing-violated, Gives, FirstViolated, RightVerdict}
-use Rattle.demands.specs.Runs.{Call, start, slice, move-leg, cursorOf, Run, Renews, newest, KeepsOn, Since, budgets, HasSlice, HasVerdict}
-use Rattle.demands.specs.DemandThree.{Sound, RunsAreSound, RunsEndInTime, DemandThree}
+use Rattle.demands.specs.Runs.{Call, start, slice, move-leg, cursorOf, Run, Renews, notRefused, newest, Since, budgets, HasSlice, HasVerdict}
+use Rattle.demands.specs.DemandThree.{Sound, RunsAreSound, RunsEndInTime, RunsGoOn, DemandThree}
 use Rattle.demands.proofs.Verdicts.{rules-keep-places, right-verdict}
 use Rattle.demands.proofs.DemandTwo.{start-right, start-rank, demand-two}
 use Rattle.demands.proofs.Runs.{Kept, run-keeps, right-moved}
@@ -136,65 +137,87 @@ renewed (move-leg c leg offset (Granted d)) (call ∷ earlier) t (u, r, out, m) 
     subst (λ (v : List ℕ). CursorRight v d) (sym e) (right-moved u c d leg offset (subst (MoveRight u c leg offset d) e m))
 renewed (move-leg c leg offset (Refused k p d)) (call ∷ earlier) t r n = absurd n
 
--- How far the newest cursor has come where no verdict was given.
-record Progress (t : List ℕ) (part : List Call) (last : Call) : Type 0 where
-  right : CursorRight t (newest part last)
-  far : budgets part ≤ cursorRank (newest part last)
-  at : HasSlice part → IsPlace t (newest part last .leg) (newest part last .place)
+-- How far the newest cursor has come where no verdict was given, by calls that were not refused.
+record Progress (t : List ℕ) (made : List Call) (last : Call) : Type 0 where
+  right : CursorRight t (newest made last)
+  far : budgets made ≤ cursorRank (newest made last)
+  at : HasSlice made → IsPlace t (newest made last .leg) (newest made last .place)
 
-module _ (t : List ℕ) (part : List Call) (last : Call) where
-  slice-step : (c : Cursor) (b : ℕ) (r : SliceAnswer) → c ≡ newest part last → Slices t c b r → Progress t part last
-      → HasVerdict (slice c b r ∷ part) ⊎ Progress t (slice c b r ∷ part) last
-  slice-step c b (answer.Violated d n r) e s g = inl (inl (violated (d .leg) (d .place) r, refl))
-  slice-step c b (answer.NothingViolated d n) e s g = inl (inl (nothing-violated, refl))
-  slice-step c b (answer.Paused d n) e s g =
-      let w = s .1 in
-      let x = ap cursorRank e in
-      inr (record {
-        right = record { shape = s .0 .shape; revision = w .went .revision; stands = inl (w .place) };
-        far = omega (arith, g .far, x, w .went .steps, w .used);
-        at = λ h. w .place;
-      })
-  slice-step c b (answer.Refused k p d) e s g = absurd (right-no-fault (subst (CursorRight t) (sym e) (g .right)) (s .0))
-
-  refused-step : (c : Cursor) (leg offset k p : ℕ) (d : Cursor) → c ≡ newest part last → d ≡ c → Progress t part last
-      → Progress t (move-leg c leg offset (Refused k p d) ∷ part) last
-  refused-step c leg offset k p d e f g =
-      let x : d ≡ newest part last = f ∙ e in
-      record {
-        right = subst (CursorRight t) (sym x) (g .right);
-        far = omega (arith, g .far, ap cursorRank x);
-        at = λ h. subst (λ (y : Cursor). IsPlace t (y .leg) (y .place)) (sym x) (g .at h);
-      }
+-- A slice that paused went on by its whole budget.
+paused-step : (t : List ℕ) (made : List Call) (last : Call) (c : Cursor) (b : ℕ) (d : Cursor) (n : ℕ) → c ≡ newest made last
+    → Slices t c b (answer.Paused d n) → Progress t made last → Progress t (slice c b (answer.Paused d n) ∷ made) last
+paused-step t made last c b d n e s g =
+    let w = s .1 in
+    let x = ap cursorRank e in
+    record {
+      right = record { shape = s .0 .shape; revision = w .went .revision; stands = inl (w .place) };
+      far = omega (arith, g .far, x, w .went .steps, w .used);
+      at = λ h. w .place;
+    }
 
 -- One call more. Behind it stand the calls y ∷ ys.
 step : (call y : Call) (ys : List Call) (t : List ℕ) (part : List Call) (last : Call)
-    → Run (call ∷ y ∷ ys) t → KeepsOn (newest part last) call → (Run (y ∷ ys) t → HasVerdict part ⊎ Progress t part last)
-    → HasVerdict (call ∷ part) ⊎ Progress t (call ∷ part) last
-step (start g) y ys t part last r k i = absurd k
-step (slice c b a) y ys t part last (r, out, s) e i =
-    ⊎-elim (λ (v : HasVerdict part). inl (inr v)) (λ (g : Progress t part last). slice-step t part last c b a e s g) (i r)
-step (move-leg c leg offset (Granted d)) y ys t part last r k i = absurd k
-step (move-leg c leg offset (Refused l p d)) y ys t part last (u, r, out, m) e i =
-    ⊎-elim
-    (λ (v : HasVerdict part). inl v)
-    (λ (g : Progress t part last). inr (refused-step t part last c leg offset l p d e (m .1) g))
-    (i (subst (Run (y ∷ ys)) (sym (m .2)) r))
+    → Run (call ∷ y ∷ ys) t → Since (notRefused (call ∷ part)) last
+    → (Run (y ∷ ys) t → Since (notRefused part) last → HasVerdict part ⊎ Progress t (notRefused part) last)
+    → HasVerdict (call ∷ part) ⊎ Progress t (notRefused (call ∷ part)) last
+step (start (Granted d)) y ys t part last r s i = absurd s
+step (start (Refused k p d)) y ys t part last r s i = i (r .0) s
+step (slice c b (answer.Violated d n q)) y ys t part last r s i = inl (inl (violated (d .leg) (d .place) q, refl))
+step (slice c b (answer.NothingViolated d n)) y ys t part last r s i = inl (inl (nothing-violated, refl))
+step (slice c b (answer.Paused d n)) y ys t part last r s i =
+    ⊎-elim (λ (v : HasVerdict part). inl (inr v)) (λ (g : Progress t (notRefused part) last). inr (paused-step t (notRefused part) last c b d n (s .0) (r .2) g))
+    (i (r .0) (s .1))
+step (slice c b (answer.Refused k p d)) y ys t part last r s i =
+    ⊎-elim (λ (v : HasVerdict part). inl (inr v)) (λ (g : Progress t (notRefused part) last). inr g) (i (r .0) s)
+step (move-leg c leg offset (Granted d)) y ys t part last r s i = absurd s
+step (move-leg c leg offset (Refused l p d)) y ys t part last (u, r, out, m) s i = i (subst (Run (y ∷ ys)) (sym (m .2)) r) s
 
 progress : (part : List Call) (last : Call) (earlier : List Call) (t : List ℕ)
-    → Run (part ++ last ∷ earlier) t → Renews last → Since part last → HasVerdict part ⊎ Progress t part last
+    → Run (part ++ last ∷ earlier) t → Renews last → Since (notRefused part) last → HasVerdict part ⊎ Progress t (notRefused part) last
 progress [] last earlier t r n s = inr (record { right = renewed last earlier t r n; far = omega arith; at = λ h. absurd h })
-progress (call ∷ []) last earlier t r n s =
-    step call last earlier t [] last r (s .0) (λ q. progress [] last earlier t q n (s .1))
-progress (call ∷ x ∷ xs) last earlier t r n s =
-    step call x (xs ++ last ∷ earlier) t (x ∷ xs) last r (s .0) (λ q. progress (x ∷ xs) last earlier t q n (s .1))
+progress (call ∷ []) last earlier t r n s = step call last earlier t [] last r s (λ q z. progress [] last earlier t q n z)
+progress (call ∷ x ∷ xs) last earlier t r n s = step call x (xs ++ last ∷ earlier) t (x ∷ xs) last r s (λ q z. progress (x ∷ xs) last earlier t q n z)
 
 pub runs-end-in-time : RunsEndInTime
 runs-end-in-time part last earlier t r n s h enough =
     ⊎-elim
     (λ (v : HasVerdict part). v)
-    (λ (g : Progress t part last). absurd (omega (arith, g .far, place-rank (g .at h), enough)))
+    (λ (g : Progress t (notRefused part) last). absurd (omega (arith, g .far, place-rank (g .at h), enough)))
     (progress part last earlier t r n s)
 
+-- The newest cursor of a run is right, whatever was refused after it.
+abbrev NewestRight : List ℕ → List Call → Type 0
+NewestRight t [] = Unit {0}
+NewestRight t (latest ∷ before) = CursorRight t (cursorOf latest)
+
+newest-right : (calls : List Call) (t : List ℕ) → Run calls t → NewestRight t (notRefused calls)
+newest-right [] t r = absurd r
+newest-right (start (Granted d) ∷ []) t r = start-right r
+newest-right (start (Refused k p d) ∷ []) t r = absurd r
+newest-right (slice c b a ∷ []) t r = absurd r
+newest-right (move-leg c leg offset g ∷ []) t r = absurd r
+newest-right (start (Granted d) ∷ call ∷ earlier) t (r, s) = start-right s
+newest-right (start (Refused k p d) ∷ call ∷ earlier) t (r, s) = newest-right (call ∷ earlier) t r
+newest-right (slice c b (answer.Violated d n q) ∷ call ∷ earlier) t (r, out, s) =
+    record { shape = s .0 .shape; revision = s .1 .went .revision; stands = inl (s .1 .place) }
+newest-right (slice c b (answer.NothingViolated d n) ∷ call ∷ earlier) t (r, out, s) =
+    record { shape = s .0 .shape; revision = s .1 .went .revision; stands = inr (s .1 .end) }
+newest-right (slice c b (answer.Paused d n) ∷ call ∷ earlier) t (r, out, s) =
+    record { shape = s .0 .shape; revision = s .1 .went .revision; stands = inl (s .1 .place) }
+newest-right (slice c b (answer.Refused k p d) ∷ call ∷ earlier) t (r, out, s) = newest-right (call ∷ earlier) t r
+newest-right (move-leg c leg offset (Granted d) ∷ call ∷ earlier) t r = renewed (move-leg c leg offset (Granted d)) (call ∷ earlier) t r tt
+newest-right (move-leg c leg offset (Refused k p d) ∷ call ∷ earlier) t (u, r, out, m) = newest-right (call ∷ earlier) t (subst (Run (call ∷ earlier)) (sym (m .2)) r)
+
+-- What is refused of a right cursor: nothing of a slice, and of a move a leg that is not there or a revision that cannot rise.
+pub move-refused : {t : List ℕ} {c : Cursor} {leg k p : ℕ} → CursorRight t c → leg < legCount t → revisionOf t < maxWord → MoveFault t c leg k p → ⊥
+move-refused r below rises (inl f) = right-no-fault r f
+move-refused r below rises (inr w) = ⊎-elim (λ x. omega (arith, x .not-below, below)) (λ x. omega (arith, x .last, rises)) (w .cause)
+
+pub runs-go-on : RunsGoOn
+runs-go-on = record {
+  slice = λ calls t latest before b k p d r e s. right-no-fault (subst (NewestRight t) e (newest-right calls t r)) (s .0);
+  move-leg = λ calls t latest before leg offset k p d u r e below rises m. move-refused (subst (NewestRight t) e (newest-right calls t r)) below rises (m .0);
+}
+
 pub demand-three : DemandThree
-demand-three = record { sound = runs-are-sound; in-time = runs-end-in-time; shape = λ calls t r. run-keeps calls t r .shape }
+demand-three = record { sound = runs-are-sound; in-time = runs-end-in-time; go-on = runs-go-on; shape = λ calls t r. run-keeps calls t r .shape }

@@ -1,11 +1,14 @@
--- In a run of the calls for C the newest cursor is right and the table well-formed, so no start is refused, nor a slice that goes on from there, where there is room;
--- and every result but paused tells a verdict. With that, demand 3 for C. Assumes nothing.
+-- In a run of the calls for C the newest cursor is right and the table well-formed, so no start is refused, nor a slice that goes on from there, nor a move of one of
+-- its legs, where there is room; and every result but paused tells a verdict. With that, demand 3 for C. Assumes nothing.
 use Prim.Native.Nat.{ℕ, _≤_, _<_}
 use mathlib.Core.Path.{_≡_, refl, ap, subst}
 use mathlib.Core.List.{List, [], _∷_}
 use mathlib.Core.Logic.{inl, inr}
 use lib.ListN.{length}
 use native.Mathlib.Omega.{arith}
+use Rattle.numbers.specs.Number.{maxWord, noRoom}
+use Rattle.table.specs.Layout.{revisionOf, legCount, Sized}
+use Rattle.files.specs.Reading.{IsFile}
 use Rattle.files.specs.Cursors.{ReadsCursor}
 use Rattle.files.specs.Theorems.{maxCursorBytes}
 use Rattle.files.specs.declared.Cursor.{Cursor}
@@ -18,21 +21,23 @@ use Rattle.rules.specs.declared.Rule.the-variants as rule
 use Rattle.places.specs.Order.{placeCount}
 use Rattle.checker.specs.Cursors.{CursorRight}
 use Rattle.checker.specs.Slices.{Starts, Slices}
+use Rattle.checker.specs.Moves.{Moves}
 use Rattle.checker.specs.declared.Grant.{Grant}
 use Rattle.checker.specs.declared.Grant.the-variants as grant
 use Rattle.checker.specs.declared.SliceAnswer.{SliceAnswer}
 use Rattle.checker.specs.declared.SliceAnswer.the-variants as answer
 use Rattle.checker.proofs.OneAnswer.{right-no-fault}
 use Rattle.host.specs.Answers.{refusedResult, ruleResult, sliceAnswered, startAnswered, resultAlone}
-use Rattle.host.specs.Calls.{HostStarts, HostSlices}
+use Rattle.host.specs.Calls.{Lent, AfterMove, HostStarts, HostSlices, HostMoves}
 use Rattle.host.specs.declared.Answer.{Answer}
 use Rattle.host.proofs.OneAnswer.{saved-one, saved-not-unread}
+use Rattle.host.proofs.MoveRoom.{move-room-is-enough}
 use Rattle.demands.specs.Verdicts.{Verdict, violated, nothing-violated}
 use Rattle.demands.specs.Runs.{Call, cursorOfAnswer, cursorOf, Run}
 use Rattle.demands.specs.Runs as runs
 use Rattle.demands.specs.HostRuns.{savedIn, HostCall, start, slice, move-leg, leftBy, NotRefused}
 use Rattle.demands.specs.DemandThreeForC.{HostGives, HostRunsGoOn, DemandThreeForC}
-use Rattle.demands.proofs.DemandThree.{renewed}
+use Rattle.demands.proofs.DemandThree.{renewed, move-refused}
 use Rattle.demands.proofs.Runs.{run-keeps}
 use Rattle.demands.proofs.HostCalls.{slice-carried}
 use Rattle.demands.proofs.HostRuns.{Mirrors, Carried, carried, left-is, told-to-c, host-runs-are-sound, host-runs-end-in-time}
@@ -82,6 +87,14 @@ starts-go-on calls plan out a out′ i h (inr (t, f, inr x)) =
     let w = subst WellFormedTable (same-file (i .file) f) (run-keeps (i .latest ∷ i .earlier) (i .table) (i .run) .shape) in
     start-answers t (placeCount t) (x .1 .given) a w (x .1 .starts) (x .1 .answer)
 
+-- What was read of the newest bytes is right.
+given-right : (latest : HostCall) (earlier : List HostCall) (plan t : List ℕ) (c : Cursor) → Carried (latest ∷ earlier) plan → IsFile Sized plan t
+    → ReadsCursor (savedIn (leftBy latest)) (read.Saved c) → CursorRight t c
+given-right latest earlier plan t c i f g =
+    let r = newest-right latest (i .latest) (i .earlier) (i .table) (i .mirrored .0) (i .run) in
+    let e = saved-one (savedIn (leftBy latest)) (cursorOf (i .latest)) c (left-is latest (i .latest) (i .mirrored .0)) g in
+    subst (λ (d : Cursor). CursorRight t d) e (subst (λ (u : List ℕ). CursorRight u (cursorOf (i .latest))) (same-file (i .file) f) r)
+
 slices-go-on : (latest : HostCall) (earlier : List HostCall) (plan : List ℕ) (budget : ℕ) (out : List ℕ) (a : Answer) (out′ : List ℕ)
     → Carried (latest ∷ earlier) plan → maxCursorBytes ≤ length out → HostSlices plan (savedIn (leftBy latest)) budget out a out′ → NotRefused a
 slices-go-on latest earlier plan b out a out′ i h (inl x) = absurd (file-no-fault (i .file) (x .fault))
@@ -89,10 +102,27 @@ slices-go-on latest earlier plan b out a out′ i h (inr (t, f, inl x)) =
     absurd (saved-not-unread (savedIn (leftBy latest)) (cursorOf (i .latest)) (x .number) (x .at) (left-is latest (i .latest) (i .mirrored .0)) (x .fault))
 slices-go-on latest earlier plan b out a out′ i h (inr (t, f, inr (c, g, inl x))) = absurd (omega (arith, x .fault .fewer, h))
 slices-go-on latest earlier plan b out a out′ i h (inr (t, f, inr (c, g, inr x))) =
-    let r = newest-right latest (i .latest) (i .earlier) (i .table) (i .mirrored .0) (i .run) in
-    let e = saved-one (savedIn (leftBy latest)) (cursorOf (i .latest)) c (left-is latest (i .latest) (i .mirrored .0)) g in
-    let k = subst (λ (d : Cursor). CursorRight t d) e (subst (λ (u : List ℕ). CursorRight u (cursorOf (i .latest))) (same-file (i .file) f) r) in
-    slice-answers t c b (x .1 .given) a k (x .1 .slices) (x .1 .answer)
+    slice-answers t c b (x .1 .given) a (given-right latest earlier plan t c i f g) (x .1 .slices) (x .1 .answer)
+
+-- A granted move has room for its file, and from a right cursor no other fault is left.
+move-answers : (t : List ℕ) (c : Cursor) (leg offset : ℕ) (m : Lent) (g : Grant) (u : List ℕ) (a : Answer) (m′ : Lent)
+    → CursorRight t c → leg < legCount t → revisionOf t < maxWord → (a .result ≡ refusedResult noRoom → ⊥) → Moves t c leg offset g u → AfterMove g u m a m′ → NotRefused a
+move-answers t c leg offset m (grant.Granted d) u a m′ r below rises room x (inl y) = absurd (room (omega (arith, ap resultAlone (y .answer), y .fault .number)))
+move-answers t c leg offset m (grant.Granted d) u a m′ r below rises room x (inr y) = omega (arith, ap resultAlone (y .1 .answer))
+move-answers t c leg offset m (grant.Refused k p d) u a m′ r below rises room x y = absurd (move-refused r below rises (x .0))
+
+moves-go-on : (latest : HostCall) (earlier : List HostCall) (plan t : List ℕ) (leg offset : ℕ) (m : Lent) (a : Answer) (m′ : Lent)
+    → Carried (latest ∷ earlier) plan → IsFile Sized plan t → leg < legCount t → revisionOf t < maxWord → maxCursorBytes ≤ length (m .out)
+    → (a .result ≡ refusedResult noRoom → ⊥) → HostMoves plan (savedIn (leftBy latest)) leg offset m a m′ → NotRefused a
+moves-go-on latest earlier plan t leg offset m a m′ i is below rises h room (inl x) = absurd (file-no-fault (i .file) (x .fault))
+moves-go-on latest earlier plan t leg offset m a m′ i is below rises h room (inr (u, f, inl x)) =
+    absurd (saved-not-unread (savedIn (leftBy latest)) (cursorOf (i .latest)) (x .number) (x .at) (left-is latest (i .latest) (i .mirrored .0)) (x .fault))
+moves-go-on latest earlier plan t leg offset m a m′ i is below rises h room (inr (u, f, inr (c, g, inl x))) = absurd (omega (arith, x .fault .fewer, h))
+moves-go-on latest earlier plan t leg offset m a m′ i is below rises h room (inr (u, f, inr (c, g, inr x))) =
+    let k = given-right latest earlier plan u c i f g in
+    let same = same-file is f in
+    move-answers u c leg offset m (x .1 .given) (x .1 .table) a m′ k
+    (subst (λ (v : List ℕ). leg < legCount v) same below) (subst (λ (v : List ℕ). revisionOf v < maxWord) same rises) room (x .1 .moves) (x .1 .after)
 
 verdict-of : (x : SliceAnswer) (a : Answer) (out : List ℕ) → NotRefused a → a ≡ sliceAnswered x → ReadsCursor (savedIn out) (read.Saved (cursorOfAnswer x))
     → (a .result ≡ 1 → ⊥) → (v : Verdict) × HostGives a out v
@@ -105,6 +135,9 @@ pub host-runs-go-on : HostRunsGoOn
 host-runs-go-on = record {
   start = λ calls plan out a out′ r h x. starts-go-on calls plan out a out′ (carried calls plan r) h x;
   slice = λ latest earlier plan b out a out′ r h x. slices-go-on latest earlier plan b out a out′ (carried (latest ∷ earlier) plan r) h x;
+  move-leg = λ latest earlier plan t leg offset m a m′ r is below rises h room x.
+      moves-go-on latest earlier plan t leg offset m a m′ (carried (latest ∷ earlier) plan r) is below rises h
+      (move-room-is-enough plan (savedIn (leftBy latest)) leg offset m a m′ h room x) x;
   verdict = λ plan cursor b a out y p.
       let s = slice-carried plan cursor b (y .out) a out (y .not-refused) (y .slices) in verdict-of (s .told) a out (y .not-refused) (s .answer) (s .left) p;
 }

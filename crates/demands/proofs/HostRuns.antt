@@ -1,5 +1,6 @@
 -- A run of the calls for C is a run of start, slice and move, call by call, so its verdicts are theirs, and come when theirs do. Assumes nothing.
 use Prim.Native.Nat.{ℕ, _+_, _≤_}
+use mathlib.Core.Bool.{false}
 use mathlib.Core.Path.{_≡_, refl, _∙_, sym, ap, subst}
 use mathlib.Core.List.{List, [], _∷_, _++_}
 use mathlib.Core.Logic.{inl, inr, ⊎-elim}
@@ -213,6 +214,29 @@ newest-is [] h (d ∷ cs) c m n = absurd m
 newest-is (k ∷ hs) h [] c m n = absurd m
 newest-is (k ∷ hs) h (d ∷ cs) c m n = left-is k d (m .0)
 
+-- None of the calls of the mirror was refused.
+mirror-made : (h : HostCall) (c : Call) → Mirrors h c → runs.refused c ≡ false
+mirror-made (start a out) (runs.start (grant.Granted d)) m = refl
+mirror-made (start a out) (runs.start (grant.Refused k p d)) m = absurd m
+mirror-made (start a out) (runs.slice c b x) m = absurd m
+mirror-made (start a out) (runs.move-leg c l o g) m = absurd m
+mirror-made (slice s n a out) (runs.start g) m = absurd m
+mirror-made (slice s n a out) (runs.slice c b (answer.Violated d k r)) m = refl
+mirror-made (slice s n a out) (runs.slice c b (answer.NothingViolated d k)) m = refl
+mirror-made (slice s n a out) (runs.slice c b (answer.Paused d k)) m = refl
+mirror-made (slice s n a out) (runs.slice c b (answer.Refused k p d)) m = absurd (omega (arith, ap resultAlone (m .answer), m .not-refused))
+mirror-made (slice s n a out) (runs.move-leg c l o g) m = absurd m
+mirror-made (move-leg s l o a q) (runs.start g) m = absurd m
+mirror-made (move-leg s l o a q) (runs.slice c b x) m = absurd m
+mirror-made (move-leg s l o a q) (runs.move-leg c k p (grant.Granted d)) m = refl
+mirror-made (move-leg s l o a q) (runs.move-leg c k p (grant.Refused i j d)) m = absurd m
+
+all-made : (hs : List HostCall) (cs : List Call) → AllMirror hs cs → runs.notRefused cs ≡ cs
+all-made [] [] m = refl
+all-made [] (c ∷ cs) m = absurd m
+all-made (h ∷ hs) [] m = absurd m
+all-made (h ∷ hs) (c ∷ cs) m = rw (mirror-made h c (m .0), all-made hs cs (m .1))
+
 -- What the mirror of a part of slices is: a part given the newest cursor each time, with the same budgets, and with a verdict only where the part has one.
 pub record PartIs (hs : List HostCall) (cs : List Call) (c : Call) : Type 0 where
   pub since : runs.Since cs c
@@ -258,7 +282,10 @@ in-time-of : (first : HostCall) (part : List HostCall) (last : HostCall) (earlie
 in-time-of first part last earlier t fs [] m n run r s b = absurd n
 in-time-of first part last earlier t fs (c ∷ bs) m n run r s b =
     let p = part-is (first ∷ part) last fs c m (n .0) s in
-    p .verdict (runs-end-in-time fs c bs t run (renews-too last c (n .0) r) (p .since) (has-slice part last first fs m s) (omega (arith, b, p .budgets)))
+    let made = all-made (first ∷ part) fs m in
+    let since = subst (λ (cs : List Call). runs.Since cs c) (sym made) (p .since) in
+    let ran = subst runs.HasSlice (sym made) (has-slice part last first fs m s) in
+    p .verdict (runs-end-in-time fs c bs t run (renews-too last c (n .0) r) since ran (omega (arith, b, p .budgets, ap runs.budgets made)))
 
 pub host-runs-end-in-time : HostRunsEndInTime
 host-runs-end-in-time first part last earlier plan t run r s f b =

@@ -7,4 +7,6 @@ pub mod SavedCursors
 pub mod HostCalls
 pub mod HostRuns
 pub mod HostGoOn
+pub mod PlanTables
 pub mod AtNumbers
+pub mod HostAtNumbers

@@ -1,7 +1,7 @@
--- Runs at numbers: Plan A with leg 2 at 576, which has twelve places and is accepted; and a table with no legs.
+-- Runs at numbers: Plan A with leg 2 at 576, which has twelve places and is accepted, and at 575, which is not; and a table with no legs.
 use Prim.Native.Nat.{ℕ}
 use mathlib.Core.Path.{_≡_}
-use mathlib.Core.List.{List, [], _∷_}
+use mathlib.Core.List.{List, [], _∷_, _++_}
 use Rattle.table.specs.Records.{moved}
 use Rattle.table.specs.PlanA.{planWith, offsetsA}
 use Rattle.files.specs.declared.Cursor.{Cursor}
@@ -11,7 +11,7 @@ use Rattle.checker.specs.Slices.{Slices}
 use Rattle.checker.specs.declared.Grant.the-variants.{Granted, Refused}
 use Rattle.checker.specs.declared.SliceAnswer.the-variants.{NothingViolated, Paused}
 use Rattle.checker.specs.declared.SliceAnswer.the-variants as answer
-use Rattle.demands.specs.Runs.{Call, start, slice, move-leg, Run, Since, budgets, HasVerdict}
+use Rattle.demands.specs.Runs.{Call, start, slice, move-leg, Run, notRefused, Since, budgets, HasVerdict}
 
 abbrev pub good : List ℕ
 good = planWith (offsetsA 0 1176 576)
@@ -30,6 +30,14 @@ at revision leg place = record { revision = revision; leg = leg; place = place }
 abbrev pub begun : List Call
 begun = slice (at 0 0 0) 5 (Paused (at 0 1 2) 5) ∷ start (Granted (at 0 0 0)) ∷ []
 
+-- Two slices after a move, and between them one that was refused, being given a cursor of the old revision.
+abbrev pub overStale : List Call
+overStale =
+    slice (at 1 1 3) 1 (Paused (at 1 2 0) 1)
+    ∷ slice (at 0 1 2) 5 (answer.Refused 8 0 (at 0 1 2))
+    ∷ slice (at 1 1 2) 1 (Paused (at 1 1 3) 1)
+    ∷ []
+
 pub record RunsAtNumbers : Type 0 where
   pub twelve : placeCount good ≡ 12
   -- With budgets of 5 and 6 no verdict need come: one place is left. With 5 and 7 it comes, though the budget is just used up.
@@ -46,12 +54,19 @@ pub record RunsAtNumbers : Type 0 where
   pub stale : Run (slice (at 0 1 2) 5 (answer.Refused 8 0 (at 0 1 2)) ∷ move-leg (at 0 1 2) 2 700 (Granted (at 1 1 2)) ∷ begun) (moved good 2 700)
   -- A refused move leaves the table and the cursor, and is no new beginning.
   pub refused : Run (move-leg (at 0 1 2) 3 700 (Refused 10 0 (at 0 1 2)) ∷ begun) good
-  pub goes-on : Since (move-leg (at 0 1 2) 3 700 (Refused 10 0 (at 0 1 2)) ∷ slice (at 0 0 0) 5 (Paused (at 0 1 2) 5) ∷ []) (start (Granted (at 0 0 0)))
+  pub goes-on : Since (notRefused (move-leg (at 0 1 2) 3 700 (Refused 10 0 (at 0 1 2)) ∷ slice (at 0 0 0) 5 (Paused (at 0 1 2) 5) ∷ [])) (start (Granted (at 0 0 0)))
+  -- A refused slice is passed over: the newest cursor is the one before it, and its budget does not count.
+  pub over-stale : Run (overStale ++ move-leg (at 0 1 2) 2 700 (Granted (at 1 1 2)) ∷ begun) (moved good 2 700)
+  pub passed-over : Since (notRefused overStale) (move-leg (at 0 1 2) 2 700 (Granted (at 1 1 2)))
+  pub not-counted : budgets (notRefused overStale) ≡ 2
   -- With an older cursor than the newest budgets of 5 and 7 give no verdict, and such a part is none that counts.
   pub older : Run (slice (at 0 0 0) 7 (Paused (at 0 2 0) 7) ∷ begun) good
-  pub not-newest : Since (slice (at 0 0 0) 7 (Paused (at 0 2 0) 7) ∷ slice (at 0 0 0) 5 (Paused (at 0 1 2) 5) ∷ []) (start (Granted (at 0 0 0))) → ⊥
-  -- A cursor that no call handed out, here at the end of a table that breaks a rule, would be believed: demand 3 asks that cursors are not altered.
+  pub not-newest : Since (notRefused (slice (at 0 0 0) 7 (Paused (at 0 2 0) 7) ∷ slice (at 0 0 0) 5 (Paused (at 0 1 2) 5) ∷ [])) (start (Granted (at 0 0 0))) → ⊥
+  -- A cursor that no call handed out, here at the end of a table that breaks a rule, would be believed: demand 3 asks that cursors are not altered. No run has
+  -- such a slice.
   pub altered : Slices bad (at 0 3 0) 0 (NothingViolated (at 0 3 0) 0) × (RulesHold bad → ⊥)
+  pub begun-on-bad : Run begun bad
+  pub not-handed-out : Run (slice (at 0 3 0) 0 (NothingViolated (at 0 3 0) 0) ∷ begun) bad → ⊥
   -- No legs: no places, and a budget of 0 is enough once a slice has run.
   pub no-legs : Run (slice (at 0 0 0) 0 (NothingViolated (at 0 0 0) 0) ∷ start (Granted (at 0 0 0)) ∷ []) none
   pub no-places : placeCount none ≡ budgets (slice (at 0 0 0) 0 (NothingViolated (at 0 0 0) 0) ∷ [])

@@ -6,7 +6,6 @@ use mathlib.Core.List.{List}
 use Rattle.numbers.specs.Calls.{WritesNumber}
 use Rattle.numbers.specs.Theorems.{ReadNumberOneAnswer, WriteNumberOneAnswer}
 use Rattle.numbers.specs.declared.Written.the-variants as written
-use Rattle.decimal.specs.Theorems.{ReadDecimalOneAnswer}
 use Rattle.files.specs.Plan.{ReadsPlan, WritesPlan}
 use Rattle.files.specs.Cursors.{WritesCursor}
 use Rattle.files.specs.Theorems.{ReadPlanOneAnswer, WritePlanOneAnswer, ReadCursorOneAnswer, WriteCursorOneAnswer}
@@ -24,7 +23,6 @@ use Rattle.checker.specs.declared.SliceAnswer.the-variants as answer
 pub record OneAnswerEach : Type 0 where
   pub read-number : ReadNumberOneAnswer
   pub write-number : WriteNumberOneAnswer
-  pub read-decimal : ReadDecimalOneAnswer
   pub read-plan : ReadPlanOneAnswer
   pub write-plan : WritePlanOneAnswer
   pub read-cursor : ReadCursorOneAnswer

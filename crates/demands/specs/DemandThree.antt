@@ -2,15 +2,22 @@
 -- table, and cursors are not altered, each verdict is that of a whole check of the table as it stands then. With the newest cursor each time, a verdict
 -- has come since the start or last granted move once at least one slice has run since then and the budgets since then add up to at least the number of
 -- places.
-use Prim.Native.Nat.{ℕ, _≤_}
+use Prim.Native.Nat.{ℕ, _≤_, _<_}
+use mathlib.Core.Path.{_≡_}
 use mathlib.Core.List.{List, _∷_, _++_}
+use Rattle.numbers.specs.Number.{maxWord}
+use Rattle.table.specs.Layout.{revisionOf, legCount}
 use Rattle.shape.specs.Shape.{WellFormedTable}
 use Rattle.files.specs.declared.Cursor.{Cursor}
 use Rattle.places.specs.Order.{placeCount}
+use Rattle.checker.specs.Slices.{Slices}
+use Rattle.checker.specs.Moves.{Moves}
+use Rattle.checker.specs.declared.Grant.the-variants.{Refused}
 use Rattle.checker.specs.declared.SliceAnswer.{SliceAnswer}
+use Rattle.checker.specs.declared.SliceAnswer.the-variants as answer
 use Rattle.demands.specs.Verdicts.{Verdict, Gives, RightVerdict}
 use Rattle.demands.specs.DemandTwo.{WholeCheck}
-use Rattle.demands.specs.Runs.{Call, slice, Run, Renews, Since, budgets, HasSlice, HasVerdict}
+use Rattle.demands.specs.Runs.{Call, slice, cursorOf, Run, Renews, notRefused, Since, budgets, HasSlice, HasVerdict}
 
 -- Sound: in every run each verdict is what the rules, in their unending meaning, say of the table as it stands then. There is a whole check of that
 -- table, and each gives this verdict.
@@ -25,13 +32,23 @@ RunsAreSound =
     (calls : List Call) (t : List ℕ) (c : Cursor) (budget : ℕ) (r : SliceAnswer) (v : Verdict)
     → Run (slice c budget r ∷ calls) t → Gives r v → Sound t v
 
--- In time: of the part of a run since its last start or granted move, each call having been given the newest cursor, some slice gave a verdict, if a
--- slice ran in it and the budgets of its slices add up to at least the number of places.
+-- In time: with the newest cursor each time, a verdict has come since the start or last granted move once at least one slice has run since then and the
+-- budgets since then add up to at least the number of places. The calls since then are the part. What was refused in it is passed over: its budget does not
+-- count, and its cursor is not the newest. Every other call in it is a slice, given the cursor in the latest answer that was not a refusal.
 abbrev pub RunsEndInTime : Type 0
 RunsEndInTime =
     (part : List Call) (last : Call) (earlier : List Call) (t : List ℕ)
-    → Run (part ++ last ∷ earlier) t → Renews last → Since part last
-    → HasSlice part → placeCount t ≤ budgets part → HasVerdict part
+    → Run (part ++ last ∷ earlier) t → Renews last → Since (notRefused part) last
+    → HasSlice (notRefused part) → placeCount t ≤ budgets (notRefused part) → HasVerdict part
+
+-- So nothing is lost by passing over what was refused: in a run no slice that is given the newest cursor is refused, nor a move of a leg of the table, where
+-- the revision can rise.
+pub record RunsGoOn : Type 0 where
+  pub slice : (calls : List Call) (t : List ℕ) (latest : Call) (before : List Call) (budget k p : ℕ) (d : Cursor)
+      → Run calls t → notRefused calls ≡ latest ∷ before → Slices t (cursorOf latest) budget (answer.Refused k p d) → ⊥
+  pub move-leg : (calls : List Call) (t : List ℕ) (latest : Call) (before : List Call) (leg offset k p : ℕ) (d : Cursor) (u : List ℕ)
+      → Run calls t → notRefused calls ≡ latest ∷ before → leg < legCount t → revisionOf t < maxWord
+      → Moves t (cursorOf latest) leg offset (Refused k p d) u → ⊥
 
 -- The table stays well-formed, so that no start of a run is refused.
 abbrev pub RunsKeepShape : Type 0
@@ -40,4 +57,5 @@ RunsKeepShape = (calls : List Call) (t : List ℕ) → Run calls t → WellForme
 pub record DemandThree : Type 0 where
   pub sound : RunsAreSound
   pub in-time : RunsEndInTime
+  pub go-on : RunsGoOn
   pub shape : RunsKeepShape

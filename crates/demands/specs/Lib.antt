@@ -6,3 +6,5 @@ pub mod DemandThree
 pub mod HostRuns
 pub mod DemandThreeForC
 pub mod AtNumbers
+pub mod CasesAsRuns
+pub mod HostAtNumbers

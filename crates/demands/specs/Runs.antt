@@ -1,9 +1,11 @@
 -- Runs of the three calls (demand 3): a granted start followed by any mix of further starts, slices and moves, granted or refused, each given any cursor
 -- handed out earlier in the run, the table changed by the run's moves alone. The steps are the public calls' own statements.
 use Prim.Native.Nat.{ℕ, _+_}
+use mathlib.Core.Bool.{Bool, true, false}
 use mathlib.Core.Path.{_≡_}
 use mathlib.Core.List.{List, [], _∷_}
 use mathlib.Core.Logic.{_⊎_}
+use Rattle.basics.specs.Pick.{pick}
 use Rattle.files.specs.declared.Cursor.{Cursor}
 use Rattle.checker.specs.Slices.{Starts, Slices}
 use Rattle.checker.specs.Moves.{Moves}
@@ -62,22 +64,35 @@ Renews (slice c budget r) = ⊥
 Renews (move-leg c leg offset (Granted d)) = Unit {0}
 Renews (move-leg c leg offset (Refused k p d)) = ⊥
 
--- The newest cursor is the one in the last answer: that of the latest call of the part, or of the call before the part.
+-- A refused call. It changed nothing and gave back the cursor that it was given.
+abbrev pub notGranted : Grant → Bool
+notGranted (Granted d) = false
+notGranted (Refused k p d) = true
+
+abbrev pub refused : Call → Bool
+refused (start g) = notGranted g
+refused (slice c budget (answer.Violated d n r)) = false
+refused (slice c budget (answer.NothingViolated d n)) = false
+refused (slice c budget (answer.Paused d n)) = false
+refused (slice c budget (answer.Refused k p d)) = true
+refused (move-leg c leg offset g) = notGranted g
+
+-- The calls without the refused ones, which are passed over: whatever cursor they were given, they count for nothing.
+abbrev pub notRefused : List Call → List Call
+notRefused [] = []
+notRefused (call ∷ part) = pick (refused call) (notRefused part) (call ∷ notRefused part)
+
+-- Of calls that were not refused: the newest cursor is the one in the last answer, that of the latest call of the part, or of the call before the part.
 abbrev pub newest : List Call → Call → Cursor
 newest [] last = cursorOf last
 newest (call ∷ part) last = cursorOf call
 
--- A slice or a refused move that was given the cursor c.
-abbrev pub KeepsOn : Cursor → Call → Type 0
-KeepsOn c (start g) = ⊥
-KeepsOn c (slice d budget r) = d ≡ c
-KeepsOn c (move-leg d leg offset (Granted e)) = ⊥
-KeepsOn c (move-leg d leg offset (Refused k p e)) = d ≡ c
-
--- The part of a run since the call last: no start and no granted move is in it, and each call was given the newest cursor.
+-- The part since the call last has slices alone, each given the newest cursor.
 abbrev pub Since : List Call → Call → Type 0
 Since [] last = Unit {0}
-Since (call ∷ part) last = KeepsOn (newest part last) call × Since part last
+Since (start g ∷ part) last = ⊥
+Since (slice c budget r ∷ part) last = (c ≡ newest part last) × Since part last
+Since (move-leg c leg offset g ∷ part) last = ⊥
 
 -- What the budgets of the slices of a part add up to.
 abbrev pub budgets : List Call → ℕ

@@ -11,7 +11,7 @@ use Rattle.table.specs.Layout.{maxLegs, legCount}
 use Rattle.rules.specs.Places.{placesOf, PlaceHolds}
 use Rattle.places.specs.Order.{placesBelow, rank, Earlier, IsPlace, IsEnd, PlaceOrEnd, placeCount, HoldFrom}
 use Rattle.places.specs.Told.{LegHolds}
-use Rattle.places.specs.Theorems.{CountOfPlaces, OrderIsByLeg, RankIsOne, EndIsLast}
+use Rattle.places.specs.Theorems.{CountOfPlaces, OrderIsByLeg, RankIsOne, EndIsLast, RanksCountPlaces}
 
 pub below-none : placesBelow 0 ≡ 0
 unfolding placesBelow
@@ -140,3 +140,36 @@ order-by-leg t = order-is-by-leg
 
 pub end-is-last : EndIsLast
 end-is-last t a p = (end-rank, place-rank)
+
+-- A number below the places of the legs below g is the rank of one of these places: the last such leg has it, or an earlier one.
+record Ranked (g n : ℕ) : Type 0 where
+  leg : ℕ
+  place : ℕ
+  below : leg < g
+  inside : place < placesOf leg
+  ranked : rank leg place ≡ n
+
+ranked-below : (g n : ℕ) → n < placesBelow g → Ranked g n
+ranked-below zero n h = absurd (omega (arith, below-none))
+ranked-below (suc g) n h =
+    let more = below-more g in
+    let next : suc g ≡ g + 1 = omega arith in
+    let all = ap placesBelow next in
+    ⊎-elim
+    (λ (l : n < placesBelow g).
+    let r = ranked-below g n l in
+    record { leg = r .leg; place = r .place; below = omega (arith, r .below); inside = r .inside; ranked = r .ranked })
+    (λ (l : placesBelow g ≤ n). record { leg = g; place = n - placesBelow g; below = omega arith; inside = omega arith; ranked = omega arith })
+    (lt-or-ge n (placesBelow g))
+
+pub ranks-count-places : RanksCountPlaces
+ranks-count-places t n h =
+    let r = ranked-below (legCount t) n h in
+    let here : IsPlace t (r .leg) (r .place) = record { leg = r .below; place = r .inside } in
+    record {
+      leg = r .leg;
+      place = r .place;
+      is-place = here;
+      ranked = r .ranked;
+      only = λ b q i e. rank-is-one {t = t} b q (r .leg) (r .place) (inl i) (inl here) (e ∙ sym (r .ranked));
+    }

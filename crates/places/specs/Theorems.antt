@@ -22,3 +22,15 @@ RankIsOne = (t : List ℕ) (a p b q : ℕ) → PlaceOrEnd t a p → PlaceOrEnd t
 -- Exactly placeCount t places come before the end, and fewer before each place.
 abbrev pub EndIsLast : Type 0
 EndIsLast = (t : List ℕ) (a p : ℕ) → (IsEnd t a p → rank a p ≡ placeCount t) × (IsPlace t a p → rank a p < placeCount t)
+
+-- A rank is a count: each number below the number of places is the rank of a place, and of one alone. So the places earlier than (a,p), whose ranks are below
+-- its own, are as many as its rank says.
+pub record PlaceOfRank (t : List ℕ) (n : ℕ) : Type 0 where
+  pub leg : ℕ
+  pub place : ℕ
+  pub is-place : IsPlace t leg place
+  pub ranked : rank leg place ≡ n
+  pub only : (b q : ℕ) → IsPlace t b q → rank b q ≡ n → (b ≡ leg) × (q ≡ place)
+
+abbrev pub RanksCountPlaces : Type 0
+RanksCountPlaces = (t : List ℕ) (n : ℕ) → n < placeCount t → PlaceOfRank t n

@@ -1,0 +1,192 @@
+-- The run of the calls for C at numbers: the bytes are those of the tables and cursors of cases 11 and 12, by computing. Assumes nothing.
+use Prim.Native.Nat.{ℕ, _+_, _≤_}
+use mathlib.Core.Path.{_≡_, refl, _∙_, sym, ap, subst}
+use mathlib.Core.List.{List, [], _∷_, _++_}
+use mathlib.Core.Logic.{inl, inr, ⊎-elim}
+use lib.ListN.{length, getD}
+use native.Mathlib.Omega.{arith}
+use Rattle.numbers.specs.Number.{maxWord, groupsOf, bytesOf}
+use Rattle.numbers.specs.Series.{AllWords, fileOf, overlaid}
+use Rattle.table.specs.Layout.{Sized}
+use Rattle.table.specs.Records.{moved}
+use Rattle.table.specs.PlanA.{planA}
+use Rattle.files.specs.Reading.{IsFile}
+use Rattle.files.specs.Cursors.{ReadsCursor}
+use Rattle.files.specs.Theorems.{maxCursorBytes}
+use Rattle.files.specs.declared.Cursor.{Cursor}
+use Rattle.files.specs.declared.CursorRead.the-variants as read
+use Rattle.rules.specs.Places.{placeAt}
+use Rattle.rules.specs.declared.Rule.the-variants as rule
+use Rattle.checker.specs.Slices.{Slices}
+use Rattle.checker.specs.declared.Grant.the-variants.{Granted}
+use Rattle.checker.specs.declared.SliceAnswer.{SliceAnswer}
+use Rattle.checker.specs.declared.SliceAnswer.the-variants.{Violated, NothingViolated, Paused}
+use Rattle.host.specs.Answers.{answered, sliceAnswered, bytesAfterSlice, withCursor}
+use Rattle.host.specs.Calls.{lent}
+use Rattle.demands.specs.HostRuns.{upToClosing, savedIn, NotRefused, StartMade, SliceMade, MoveDone, HostRun}
+use Rattle.demands.specs.AtNumbers.{at}
+use Rattle.demands.specs.HostAtNumbers.{fileA, movedFile, zeros, saved, left, violatedInC, HostRunsAtNumbers}
+use Rattle.demands.proofs.PlanTables.{planTable, ranks, shape, here, granted, stays-at-end, pause, end, violate, on, moved-2, accepted, before-2-3, meets-at-2-3}
+
+-- Small numbers are words.
+abbrev total : List ℕ → ℕ
+total [] = 0
+total (w ∷ ws) = w + total ws
+
+small-words : (ws : List ℕ) → total ws ≤ maxWord → AllWords ws
+small-words [] h = tt
+small-words (w ∷ ws) h = (omega arith, small-words ws (omega arith))
+
+file-a : IsFile Sized fileA planA
+unfolding fileOf bytesOf groupsOf
+file-a = record { complete = shape 0 0 1176 0 .sized; words = small-words planA (omega arith); bytes = refl }
+
+moved-bytes : movedFile ≡ fileOf (moved planA 2 576)
+unfolding moved fileOf bytesOf groupsOf
+moved-bytes = refl
+
+file-moved : IsFile Sized movedFile (moved planA 2 576)
+file-moved = record {
+  complete = subst Sized (moved-2 0 0 1176 0 576) (shape 1 0 1176 576 .sized);
+  words = subst AllWords (moved-2 0 0 1176 0 576) (small-words (planTable 1 0 1176 576) (omega arith));
+  bytes = moved-bytes;
+}
+
+-- A cursor's bytes as they are read, as they are written to 15 lent bytes, and as they are found there again.
+record SavedSo (r l p : ℕ) : Type 0 where
+  reads : ReadsCursor (saved r l p) (read.Saved (at r l p))
+  written : left r l p ≡ withCursor (zeros 15) (at r l p)
+  found : saved r l p ≡ savedIn (left r l p)
+
+at-start : SavedSo 0 0 0
+unfolding fileOf bytesOf groupsOf overlaid upToClosing
+at-start = record { reads = record { complete = refl; words = small-words (saved 0 0 0) (omega arith); bytes = refl }; written = refl; found = refl }
+
+at-2-3 : SavedSo 0 2 3
+unfolding fileOf bytesOf groupsOf overlaid upToClosing
+at-2-3 = record { reads = record { complete = refl; words = small-words (saved 0 2 3) (omega arith); bytes = refl }; written = refl; found = refl }
+
+after-move : SavedSo 1 2 0
+unfolding fileOf bytesOf groupsOf overlaid upToClosing
+after-move = record { reads = record { complete = refl; words = small-words (saved 1 2 0) (omega arith); bytes = refl }; written = refl; found = refl }
+
+at-end : SavedSo 0 3 0
+unfolding fileOf bytesOf groupsOf overlaid upToClosing
+at-end = record { reads = record { complete = refl; words = small-words (saved 0 3 0) (omega arith); bytes = refl }; written = refl; found = refl }
+
+at-new-end : SavedSo 1 3 0
+unfolding fileOf bytesOf groupsOf overlaid upToClosing
+at-new-end = record { reads = record { complete = refl; words = small-words (saved 1 3 0) (omega arith); bytes = refl }; written = refl; found = refl }
+
+room : maxCursorBytes ≤ length (zeros 15)
+room = let n : length (zeros 15) ≡ 15 = refl in omega (arith, n)
+
+-- The calls, one by one.
+start-made : StartMade fileA (answered 0 12) (left 0 0 0)
+start-made = record {
+  out = zeros 15;
+  starts = inr (
+    planA,
+    file-a,
+    inr (
+      room,
+      record { given = Granted (at 0 0 0); starts = (shape 0 0 1176 0, refl); answer = ap (answered 0) (sym (ranks .3)); after = at-start .written },
+    ),
+  );
+  not-refused = omega arith;
+}
+
+slice-made : (plan t cursor : List ℕ) (c : Cursor) (budget : ℕ) (r : SliceAnswer) (out : List ℕ) → IsFile Sized plan t → ReadsCursor cursor (read.Saved c)
+    → Slices t c budget r → NotRefused (sliceAnswered r) → out ≡ bytesAfterSlice (zeros 15) r → SliceMade plan cursor budget (sliceAnswered r) out
+slice-made plan t cursor c budget r out f g s n e = record {
+  out = zeros 15;
+  slices = inr (t, f, inr (c, g, inr (room, record { given = r; slices = s; answer = refl; after = e })));
+  not-refused = n;
+}
+
+pauses : SliceMade fileA (saved 0 0 0) 10 (answered 1 10) (left 0 2 3)
+pauses =
+    slice-made fileA planA (saved 0 0 0) (at 0 0 0) 10 (Paused (at 0 2 3) 10) (left 0 2 3) file-a (at-start .reads)
+    (pause 0 0 1176 0 10 (before-2-3 0 0 (omega arith)) 0 0 2 3 10 (here 0 0 1176 0 0 0 (omega arith) (omega arith)) (omega arith) (omega arith)
+    (omega (arith, ranks .0, ranks .2)) (omega (arith, ranks .2)))
+    (omega arith) (at-2-3 .written)
+
+violates : SliceMade fileA (saved 0 2 3) 5 (answered 5 1) (left 0 2 3)
+unfolding placeAt
+violates =
+    slice-made fileA planA (saved 0 2 3) (at 0 2 3) 5 (Violated (at 0 2 3) 1 rule.Overlap) (left 0 2 3) file-a (at-2-3 .reads)
+    (violate 0 0 1176 0 10 (before-2-3 0 0 (omega arith)) 2 3 2 3 0 5 rule.Overlap (here 0 0 1176 0 2 3 (omega arith) (omega arith)) (omega arith) (omega arith)
+    (meets-at-2-3 0) refl (omega arith) (omega (arith, ranks .2)) (omega arith))
+    (omega arith) (at-2-3 .written)
+
+laid : movedFile ++ zeros 4 ≡ overlaid (zeros 46) 0 movedFile
+unfolding overlaid
+laid = refl
+
+moves : MoveDone fileA (saved 0 2 3) 2 576 (answered 0 42) (lent (movedFile ++ zeros 4) (left 1 2 0)) movedFile
+moves =
+    let long : _≡_ {A = ℕ} 42 (length (fileOf (moved planA 2 576))) = ap length moved-bytes in
+    let given : length (zeros 46) ≡ 46 = refl in
+    record {
+      m = lent (zeros 46) (zeros 15);
+      word = omega arith;
+      moves = inr (
+        planA,
+        file-a,
+        inr (
+          at 0 2 3,
+          at-2-3 .reads,
+          inr (
+            room,
+            record {
+              given = Granted (at 1 2 0);
+              table = moved planA 2 576;
+              moves = granted 0 0 1176 0 2 3 2 576 2 0 (omega arith) (here 0 0 1176 0 2 3 (omega arith) (omega arith)) (omega arith) (inr (refl, refl)) (omega arith) (omega arith);
+              after = inr (
+                omega (arith, long, given),
+                record {
+                  answer = ap (answered 0) long;
+                  after =
+                      ap (λ (f : List ℕ). lent f (left 1 2 0)) (laid ∙ ap (overlaid (zeros 46) 0) moved-bytes)
+                      ∙ ap (lent (overlaid (zeros 46) 0 (fileOf (moved planA 2 576)))) (after-move .written);
+                },
+              );
+            },
+          ),
+        ),
+      );
+      not-refused = omega arith;
+      new = refl;
+    }
+
+accepts : SliceMade movedFile (saved 1 2 0) 5 (answered 0 5) (left 1 3 0)
+accepts =
+    slice-made movedFile (moved planA 2 576) (saved 1 2 0) (at 1 2 0) 5 (NothingViolated (at 1 3 0) 5) (left 1 3 0) file-moved (after-move .reads)
+    (on (at 1 2 0) 5 (NothingViolated (at 1 3 0) 5) (moved-2 0 0 1176 0 576)
+    (end 1 0 1176 576 12 (accepted 1) 2 0 5 (here 1 0 1176 576 2 0 (omega arith) (omega arith)) (omega (arith, ranks .2, ranks .3)) (omega (arith, ranks .3))))
+    (omega arith) (at-new-end .written)
+
+violates-in-c : HostRun violatedInC fileA
+violates-in-c = ((start-made, inl (at-start .found), pauses), inl (at-2-3 .found), violates)
+
+pub host-runs-at-numbers : HostRunsAtNumbers
+host-runs-at-numbers = record {
+  violates = violates-in-c;
+  tells-place = inr (record {
+    rule = rule.Overlap;
+    cursor = at 0 2 3;
+    result = refl;
+    saved = subst (λ (s : List ℕ). ReadsCursor s (read.Saved (at 0 2 3))) (at-2-3 .found) (at-2-3 .reads);
+    is = refl;
+  });
+  accepts = ((fileA, violates-in-c, inl (at-2-3 .found), moves), inl (after-move .found), accepts);
+  tells-none = inl (refl, refl);
+  altered =
+      slice-made fileA planA (saved 0 3 0) (at 0 3 0) 0 (NothingViolated (at 0 3 0) 0) (left 0 3 0) file-a (at-end .reads) (stays-at-end 0 0 1176 0) (omega arith)
+      (at-end .written);
+  not-left = λ r.
+      ⊎-elim
+      (λ e. let z : _≡_ {A = ℕ} 3 0 = ap (λ (s : List ℕ). getD s 1 0) (e ∙ sym (at-start .found)) in absurd (omega arith))
+      (λ z. absurd z)
+      (r .1);
+}

@@ -1,0 +1,57 @@
+-- A run of the calls for C at numbers, byte by byte: document 01's cases 11 and 12 with Plan A's file.
+use Prim.Native.Nat.{ℕ, zero, suc}
+use mathlib.Core.List.{List, [], _∷_, _++_}
+use Rattle.rules.specs.declared.Rule.the-variants as rule
+use Rattle.host.specs.Answers.{answered}
+use Rattle.host.specs.Calls.{lent}
+use Rattle.demands.specs.Verdicts.{violated, nothing-violated}
+use Rattle.demands.specs.HostRuns.{HostCall, start, slice, move-leg, SliceMade, HostRun}
+use Rattle.demands.specs.DemandThreeForC.{HostGives}
+
+-- Plan A's file, 41 bytes; and with revision 1 and leg 2 at 576, 42 bytes.
+abbrev pub fileA : List ℕ
+fileA =
+    0x00 ∷ 0x02 ∷ 0x02 ∷ 0x03 ∷ 0x64 ∷
+    0x01 ∷ 0x02 ∷ 0x08 ∷ 0xF4 ∷ 0x03 ∷ 0x02 ∷ 0x03 ∷ 0x08 ∷ 0xF4 ∷ 0x03 ∷
+    0xA0 ∷ 0x8D ∷ 0x06 ∷ 0xB0 ∷ 0x12 ∷ 0x40 ∷ 0x00 ∷ 0x02 ∷ 0xF0 ∷ 0x93 ∷ 0x09 ∷ 0xD0 ∷ 0x0F ∷ 0x40 ∷ 0x02 ∷ 0x01 ∷
+    0x00 ∷ 0x00 ∷ 0x00 ∷ 0x00 ∷ 0x01 ∷ 0x98 ∷ 0x09 ∷ 0x01 ∷ 0x00 ∷ 0x00 ∷ []
+
+abbrev pub movedFile : List ℕ
+movedFile =
+    0x01 ∷ 0x02 ∷ 0x02 ∷ 0x03 ∷ 0x64 ∷
+    0x01 ∷ 0x02 ∷ 0x08 ∷ 0xF4 ∷ 0x03 ∷ 0x02 ∷ 0x03 ∷ 0x08 ∷ 0xF4 ∷ 0x03 ∷
+    0xA0 ∷ 0x8D ∷ 0x06 ∷ 0xB0 ∷ 0x12 ∷ 0x40 ∷ 0x00 ∷ 0x02 ∷ 0xF0 ∷ 0x93 ∷ 0x09 ∷ 0xD0 ∷ 0x0F ∷ 0x40 ∷ 0x02 ∷ 0x01 ∷
+    0x00 ∷ 0x00 ∷ 0x00 ∷ 0x00 ∷ 0x01 ∷ 0x98 ∷ 0x09 ∷ 0x01 ∷ 0x00 ∷ 0xC0 ∷ 0x04 ∷ []
+
+-- A saved cursor of three bytes, and 15 lent bytes with it in front. All of them were 0 before the first call.
+abbrev pub zeros : ℕ → List ℕ
+zeros zero = []
+zeros (suc n) = 0 ∷ zeros n
+
+abbrev pub saved : ℕ → ℕ → ℕ → List ℕ
+saved revision leg place = revision ∷ leg ∷ place ∷ []
+
+abbrev pub left : ℕ → ℕ → ℕ → List ℕ
+left revision leg place = revision ∷ leg ∷ place ∷ zeros 12
+
+-- A start: granted, 12 places.
+abbrev pub begunInC : List HostCall
+begunInC = start (answered 0 12) (left 0 0 0) ∷ []
+
+-- A slice of 10 pauses at (2,3), and one of 5 more finds that place violated (5, overlap) with 1 step.
+abbrev pub violatedInC : List HostCall
+violatedInC = slice (saved 0 2 3) 5 (answered 5 1) (left 0 2 3) ∷ slice (saved 0 0 0) 10 (answered 1 10) (left 0 2 3) ∷ begunInC
+
+-- A move of leg 2 to 576, for which 46 bytes are lent: granted, 42 bytes, cursor (2,0) of revision 1. Then a slice of 5 accepts with 5 steps.
+abbrev pub acceptedInC : List HostCall
+acceptedInC =
+    slice (saved 1 2 0) 5 (answered 0 5) (left 1 3 0) ∷ move-leg (saved 0 2 3) 2 576 (answered 0 42) (lent (movedFile ++ zeros 4) (left 1 2 0)) ∷ violatedInC
+
+pub record HostRunsAtNumbers : Type 0 where
+  pub violates : HostRun violatedInC fileA
+  pub tells-place : HostGives (answered 5 1) (left 0 2 3) (violated 2 3 rule.Overlap)
+  pub accepts : HostRun acceptedInC movedFile
+  pub tells-none : HostGives (answered 0 5) (left 1 3 0) nothing-violated
+  -- A saved cursor that no call left, here that of the end, would be believed, and no run has such a slice.
+  pub altered : SliceMade fileA (saved 0 3 0) 0 (answered 0 0) (left 0 3 0)
+  pub not-left : HostRun (slice (saved 0 3 0) 0 (answered 0 0) (left 0 3 0) ∷ begunInC) fileA → ⊥
