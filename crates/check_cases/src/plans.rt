@@ -37,6 +37,10 @@ pub(crate) const PLAN_A: [u32; 32] = [
 ];
 
 // Where words of it stand.
+const OTHER_RATE: usize = 11;
+
+const OTHER_PROPAGATION: usize = 12;
+
 pub(crate) const FIRST_DEADLINE: usize = 14;
 
 pub(crate) const SECOND_PERIOD: usize = 18;
@@ -68,4 +72,11 @@ pub(crate) fn with(at: usize, word: u32) -> [u32; 32] {
 // Plan A with leg 2 at 576, where nothing is violated.
 pub(crate) fn accepted() -> [u32; 32] {
     with(OFFSET_2, 576)
+}
+
+// Plan B, in which no two links and no two frames on one link are alike, and nothing is violated (crates/table/specs/PlanA.antt).
+pub(crate) fn plan_b() -> [u32; 32] {
+    let links = changed(with(OTHER_RATE, 80), OTHER_PROPAGATION, 700);
+    let frames = changed(changed(links, SECOND_OCTETS, 1522), SECOND_DEADLINE, 12840);
+    changed(changed(frames, FIRST_DEADLINE, 7736), OFFSET_2, 576)
 }

@@ -54,6 +54,33 @@ fn two_of_one_leg() {
     calls::from(&t, 1, 3);
 }
 
+fn no_deadline_before_the_last_leg() {
+    show::text(b"A first deadline of 1, which is not for leg 0:\n");
+    calls::from(&plans::with(plans::FIRST_DEADLINE, 1), 0, 0);
+}
+
+fn unlike() {
+    show::text(
+        b"Plan B; with a first deadline of 7,735; with leg 1 at 1,175, at 94,240 and at 94,241:\n",
+    );
+    let t = plans::plan_b();
+    calls::from(&t, 0, 0);
+    calls::from(&plans::changed(t, plans::FIRST_DEADLINE, 7735), 0, 0);
+    calls::from(&plans::changed(t, plans::OFFSET_1, 1175), 0, 0);
+    calls::from(&plans::changed(t, plans::OFFSET_1, 94240), 0, 0);
+    calls::from(&plans::changed(t, plans::OFFSET_1, 94241), 0, 0);
+}
+
+fn unlike_on_one_link() {
+    show::text(b"Plan B with leg 2 at 575, at 37,760, at 37,761, at 137,760 and at 137,761:\n");
+    let t = plans::plan_b();
+    calls::from(&plans::changed(t, plans::OFFSET_2, 575), 0, 0);
+    calls::from(&plans::changed(t, plans::OFFSET_2, 37760), 0, 0);
+    calls::from(&plans::changed(t, plans::OFFSET_2, 37761), 0, 0);
+    calls::from(&plans::changed(t, plans::OFFSET_2, 137760), 0, 0);
+    calls::from(&plans::changed(t, plans::OFFSET_2, 137761), 0, 0);
+}
+
 pub(crate) fn all() {
     window();
     last_window();
@@ -61,4 +88,7 @@ pub(crate) fn all() {
     deadline();
     overlap();
     two_of_one_leg();
+    no_deadline_before_the_last_leg();
+    unlike();
+    unlike_on_one_link();
 }

@@ -204,7 +204,7 @@ module _ (n : PlanNumbers) where
     unfolding f2
     window-2-broken lt = window-broken plan 2 f2 is-2 lt
 
-    ready-0 : ReadyOf plan 0 (n .offset-0 + 1176)
+    pub ready-0 : ReadyOf plan 0 (n .offset-0 + 1176)
     unfolding plan f0
     ready-0 = let r = ready-of plan 0 f0 is-0 (omega arith) in record { same = omega (arith, r .same); small = omega (arith, r .small) }
 
