@@ -143,7 +143,8 @@ typedef struct conepalhui_answer conepalhui_answer;
  */
 
 /*
- * The refusals, each with the position that is told as its number. docs/REFUSALS.md has examples, and what to do.
+ * The refusals, each with its position, which an answer has as its number. docs/REFUSALS.md has examples, and what to
+ * do.
  *
  *   no.   cause                                                                     position
  *    1    the table has fewer than five words                                       0
