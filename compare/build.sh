@@ -39,11 +39,11 @@ make_if_old() { # NAME SOURCES... -- COMMAND...
 }
 
 build_comparison() {
-    build host staticlib target/staticlib/libhost.a
+    build_library
     find_c
     need rustc rustc
-    make_if_old driver .built/libhost.a include/conepalhui.h compare/driver.c -- \
-        "$c_compiler" -O2 -static -Iinclude compare/driver.c .built/libhost.a -o
+    make_if_old driver .built/libconepalhui.a include/conepalhui.h compare/driver.c -- \
+        "$c_compiler" -O2 -static -Iinclude compare/driver.c .built/libconepalhui.a -o
     make_if_old compare compare/*.rs -- rustc --edition 2021 -O compare/compare.rs -o
 }
 
@@ -60,7 +60,7 @@ rust_for_x86_64() {
 # Both sides of the benchmark are for x86-64. On Arm that takes Debian's packages for two processors and its emulator.
 build_benchmark() {
     local rust c_library=/usr/lib/x86_64-linux-gnu/libc.so
-    build host staticlib target/staticlib/libhost.a
+    build_library
     find_c
     if ((${#emulator[@]} == 0)); then
         need rustc rustc
@@ -73,7 +73,7 @@ build_benchmark() {
         need qemu-x86_64 qemu-user
     fi
     rust=$(rust_for_x86_64) || stop "there is no compiler of Rust for x86-64"
-    make_if_old bench .built/libhost.a compare/*.rs -- "$rust" --edition 2021 -C opt-level=3 --target "$rust_target" \
-        -C linker="$c_compiler" -L native=.built -l static=host compare/bench.rs -o
+    make_if_old bench .built/libconepalhui.a compare/*.rs -- "$rust" --edition 2021 -C opt-level=3 --target "$rust_target" \
+        -C linker="$c_compiler" -L native=.built -l static=conepalhui compare/bench.rs -o
     ((${#emulator[@]} == 0)) || emulator=(qemu-x86_64)
 }

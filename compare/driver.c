@@ -1,9 +1,9 @@
 /* Makes the calls that come on standard input, and writes what each gave to standard output.
 
    A call comes as its kind and two numbers (4 bytes each), the lengths of its four buffers (4 bytes each), and the bytes of
-   the buffers: plan, cursor, new plan, out. What goes back is the call's whole result (8 bytes) and every byte of the four
-   buffers, with the margin that lies before each. Behind each buffer lies a page that may not be touched. Numbers have
-   their lowest byte first. The kind FLUSH is no call: what was answered so far is written out. The end of the input ends
+   the buffers: plan, cursor, new plan, out. What goes back is the call's result and its number (4 bytes each; the number is
+   0 where the call gives none) and every byte of the four buffers, with the margin that lies before each. After each buffer
+   lies a page that may not be touched. Numbers have their lowest byte first. The kind FLUSH is no call: what was answered so far is written out. The end of the input ends
    the program.
 
    With an argument the program spoils something in each call, so that a comparison which misses that is seen: 0 to 3
@@ -27,7 +27,7 @@ static void fail(const char *what) {
     _exit(3);
 }
 
-/* Gives the end of MOST writable bytes, behind which nothing may be touched. */
+/* Gives the end of MOST writable bytes, after which nothing may be touched. */
 static uint8_t *lent_end(void) {
     size_t page = (size_t)sysconf(_SC_PAGESIZE);
     uint8_t *at = mmap(NULL, MOST + page, PROT_READ | PROT_WRITE, MAP_PRIVATE | MAP_ANONYMOUS, -1, 0);
@@ -35,10 +35,12 @@ static uint8_t *lent_end(void) {
     return at + MOST;
 }
 
-static uint64_t made(const uint32_t *head, uint8_t *const *at, const uint32_t *length) {
+static conepalhui_answer made(const uint32_t *head, uint8_t *const *at, const uint32_t *length) {
+    conepalhui_answer answer = {0, 0};
     switch (head[0]) {
     case SLICE:
-        return conepalhui_slice(at[PLAN], length[PLAN], at[CURSOR], length[CURSOR], head[1], at[OUT], length[OUT]);
+        answer.result = conepalhui_slice(at[PLAN], length[PLAN], at[CURSOR], length[CURSOR], head[1], at[OUT], length[OUT]);
+        return answer;
     case SLICE_FULL:
         return conepalhui_slice_full(at[PLAN], length[PLAN], at[CURSOR], length[CURSOR], head[1], at[OUT], length[OUT]);
     case START:
@@ -48,7 +50,7 @@ static uint64_t made(const uint32_t *head, uint8_t *const *at, const uint32_t *l
                                length[NEW_PLAN], at[OUT], length[OUT]);
     }
     fail("no such call");
-    return 0;
+    return answer;
 }
 
 /* Changes a byte of the buffer or before it. An empty buffer has no last byte. */
@@ -80,9 +82,10 @@ int main(int count, char **arguments) {
             memset(at[i] - MARGIN, 0xA5, MARGIN);
             if (fread(at[i], 1, length[i], stdin) != length[i]) fail("the input ends in a call");
         }
-        uint64_t result = made(head, at, length);
+        conepalhui_answer answer = made(head, at, length);
         if (count > 1) spoil(atoi(arguments[1]), at, length);
-        put(&result, sizeof result);
+        put(&answer.result, sizeof answer.result);
+        put(&answer.number, sizeof answer.number);
         for (int i = 0; i < BUFFERS; i++) put(at[i] - MARGIN, MARGIN + length[i]);
     }
     if (ferror(stdin) || fflush(stdout) != 0) fail("cannot read or write");

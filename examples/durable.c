@@ -120,3 +120,11 @@ int durable_replace(int folder, const char *name, const uint8_t *bytes, size_t l
     }
     return sync_whole(folder); /* The new name is in the folder, and is to stay there. */
 }
+
+int durable_remove(int folder, const char *name)
+{
+    if (unlinkat(folder, name, 0) == -1 && errno != ENOENT)
+        return -1;
+    /* Also where it was not there: an earlier run may have been killed before its removal was on the disk. */
+    return sync_whole(folder);
+}

@@ -1,6 +1,6 @@
 /*
- * durable.h: small files in one folder, read whole, and replaced so that a kill or a power cut at any moment leaves
- * the old file or the new one, and never a part of either.
+ * durable.h: small files in one folder, read whole, and replaced or removed so that a kill or a power cut at any moment
+ * leaves the old file or the new one, or none where it was removed, and never a part of either.
  */
 #ifndef DURABLE_H
 #define DURABLE_H
@@ -25,5 +25,11 @@ ssize_t durable_read(int folder, const char *name, uint8_t *bytes, size_t room);
  * characters, and the file name.new belongs to this call. A new file has the mode that the umask leaves of 0666.
  */
 int durable_replace(int folder, const char *name, const uint8_t *bytes, size_t length);
+
+/*
+ * Removes the file name, which need not be there. Gives 0 once a power cut would not bring it back. Gives -1 with errno
+ * otherwise: the file may then be there or not.
+ */
+int durable_remove(int folder, const char *name);
 
 #endif

@@ -3,19 +3,27 @@
  *
  *     host FOLDER BUDGET
  *
- * FOLDER/plan is the plan file. FOLDER/cursor is the saved cursor: where there is none, a new check begins. Each
- * slice looks at BUDGET places at most. Standard input gives the moves, a line 'LEG OFFSET' each. They are taken
- * between two slices, and also after a verdict, until standard input ends; then the exit status tells the last
- * verdict: 0 accepted, 1 violated. It is 2 where the plan is refused, and 4 for bad arguments and for files that
- * cannot be read or written.
+ * FOLDER/plan is the plan file. FOLDER/cursor is the saved cursor: where there is none, a new check begins. FOLDER/seen
+ * is a whole copy of the plan that the cursor is of. Each slice looks at BUDGET places at most. Standard input gives
+ * the moves, a line 'LEG OFFSET' each. They are taken between two slices, and also after a verdict, until standard
+ * input ends; then the exit status tells the last verdict: 0 accepted, 1 violated. It is 2 where the plan is refused,
+ * and 4 for bad arguments and for files that cannot be read or written.
  *
  * Every answer is a line. It is printed when all that it tells is on the disk: a move that is told as moved is in the
  * plan for good. Whoever misses the answer to a move makes it again, which does no harm.
  *
- * The program may be killed at any moment, and is then called again. A move saves the plan before the cursor, so a
- * saved cursor is never newer than the saved plan. Killed between the two, it leaves a cursor that is older than the
- * plan. The library refuses that one with 8, and the next run begins a new check: this costs time, and never a wrong
- * verdict.
+ * The program may be killed at any moment, and is then called again. While it does not run, the plan may be edited,
+ * exchanged, or put back from a backup. This costs time, and never a wrong verdict. Only this program writes cursor and
+ * seen. It saves the files in a fixed order, and each is on the disk before the next is touched:
+ *
+ *   a move saves plan, seen, cursor. Killed between two of them, it leaves a cursor that is older than the plan, which
+ *   the library refuses with 8.
+ *
+ *   a start removes the cursor, then saves seen, and then the first cursor. So an old cursor never stands beside the
+ *   copy of another plan of the same revision.
+ *
+ * At every moment, then, the saved cursor is one of the plan in seen, or is of another revision than that plan. It is
+ * believed where the library takes it, and plan and seen are the same byte by byte: so it is one of this plan.
  */
 #define _DEFAULT_SOURCE
 
@@ -56,7 +64,7 @@ static void tell(const char *format, ...)
     }
 }
 
-_Noreturn static void fail(const char *doing, const char *what)
+static void fail(const char *doing, const char *what)
 {
     fprintf(stderr, "host: cannot %s %s: %s\n", doing, what, strerror(errno));
     exit(FAILED);
@@ -100,36 +108,60 @@ static bool read_cursor(void)
 
 /* ---- The check */
 
-/* Says whether the saved cursor is one of the plan. A slice with a budget of 0 looks at nothing, and tells. */
+/* Says whether the library takes the saved cursor. A slice with a budget of 0 looks at nothing, and tells. */
 static bool cursor_fits(void)
 {
     uint8_t out[CONEPALHUI_CURSOR_BYTES];
-    uint64_t answer = conepalhui_slice_full(plan, plan_len, cursor, cursor_len, 0, out, sizeof out);
-    uint32_t refusal = conepalhui_refusal(conepalhui_result(answer));
+    conepalhui_answer answer = conepalhui_slice_full(plan, plan_len, cursor, cursor_len, 0, out, sizeof out);
+    uint32_t refusal = conepalhui_refusal(answer.result);
     if (refusal == 0)
         return true;
-    tell("cursor refused %u %u", (unsigned)refusal, (unsigned)conepalhui_number(answer));
+    tell("cursor refused %u %u", (unsigned)refusal, (unsigned)answer.number);
     return false;
 }
 
-/* Takes the check up, or begins a new one. The plan is tried first, so a refusal behind that is the cursor's. */
+/* Says whether the plan is the one that the saved cursor is of. */
+static bool plan_is_seen(void)
+{
+    static uint8_t seen[sizeof plan];
+    ssize_t length = durable_read(folder, "seen", seen, sizeof seen);
+    if (length == -1 && errno == ENOENT) {
+        tell("plan unseen");
+        return false;
+    }
+    if (length == -1)
+        fail("read the file", "seen");
+    if ((size_t)length == plan_len && memcmp(seen, plan, plan_len) == 0)
+        return true;
+    tell("plan changed");
+    return false;
+}
+
+/* Begins a new check from the first cursor, which the library gave. For the order see above. */
+static void save_start(const uint8_t *first)
+{
+    if (durable_remove(folder, "cursor") == -1)
+        fail("remove the", "cursor");
+    save("seen", plan, plan_len);
+    save_cursor(first);
+}
+
+/* Takes the check up, or begins a new one. The plan is tried first, so a refusal after that is the cursor's. */
 static void begin(void)
 {
-    uint8_t out[CONEPALHUI_CURSOR_BYTES];
-    uint64_t answer = conepalhui_start(plan, plan_len, out, sizeof out);
-    uint32_t refusal = conepalhui_refusal(conepalhui_result(answer));
+    uint8_t first[CONEPALHUI_CURSOR_BYTES];
+    conepalhui_answer answer = conepalhui_start(plan, plan_len, first, sizeof first);
+    uint32_t refusal = conepalhui_refusal(answer.result);
     if (refusal != 0) {
-        tell("plan refused %u %u", (unsigned)refusal, (unsigned)conepalhui_number(answer));
+        tell("plan refused %u %u", (unsigned)refusal, (unsigned)answer.number);
         exit(REFUSED);
     }
-    const char *how = "resumed";
-    if (!read_cursor() || !cursor_fits()) {
-        how = "started";
-        save_cursor(out);
-    }
+    bool resumed = read_cursor() && cursor_fits() && plan_is_seen();
+    if (!resumed)
+        save_start(first);
     struct conepalhui_place at = conepalhui_cursor_place(cursor);
-    tell("%s revision %u at %u %u of %u places", how, (unsigned)at.revision, (unsigned)at.leg, (unsigned)at.place,
-         (unsigned)conepalhui_number(answer));
+    tell("%s revision %u at %u %u of %u places", resumed ? "resumed" : "started", (unsigned)at.revision,
+         (unsigned)at.leg, (unsigned)at.place, (unsigned)answer.number);
 }
 
 /* Makes one slice. Gives its result: 0 or 2 to 5 is a verdict, 1 is none. */
@@ -137,9 +169,9 @@ static uint32_t slice(uint32_t budget)
 {
     static const char *const rules[] = {"window", "hop", "deadline", "overlap"};
     uint8_t out[CONEPALHUI_CURSOR_BYTES];
-    uint64_t answer = conepalhui_slice_full(plan, plan_len, cursor, cursor_len, budget, out, sizeof out);
-    uint32_t result = conepalhui_result(answer);
-    unsigned number = conepalhui_number(answer);
+    conepalhui_answer answer = conepalhui_slice_full(plan, plan_len, cursor, cursor_len, budget, out, sizeof out);
+    uint32_t result = answer.result;
+    unsigned number = answer.number;
     if (conepalhui_refusal(result) != 0) {
         tell("slice refused %u %u", (unsigned)conepalhui_refusal(result), number);
         exit(REFUSED);
@@ -161,17 +193,18 @@ static bool move(uint32_t leg, uint32_t offset)
 {
     static uint8_t new_plan[CONEPALHUI_PLAN_BYTES];
     uint8_t out[CONEPALHUI_CURSOR_BYTES];
-    uint64_t answer = conepalhui_move(plan, plan_len, cursor, cursor_len, leg, offset, new_plan, sizeof new_plan,
-                                      out, sizeof out);
-    uint32_t refusal = conepalhui_refusal(conepalhui_result(answer));
+    conepalhui_answer answer = conepalhui_move(plan, plan_len, cursor, cursor_len, leg, offset,
+                                               new_plan, sizeof new_plan, out, sizeof out);
+    uint32_t refusal = conepalhui_refusal(answer.result);
     if (refusal != 0) {
-        tell("move refused %u %u", (unsigned)refusal, (unsigned)conepalhui_number(answer));
+        tell("move refused %u %u", (unsigned)refusal, (unsigned)answer.number);
         return false;
     }
-    plan_len = conepalhui_number(answer);
+    plan_len = answer.number;
     memcpy(plan, new_plan, plan_len);
-    save("plan", plan, plan_len);
-    save_cursor(out); /* Behind the plan: see above. */
+    save("plan", plan, plan_len); /* For the order see above. */
+    save("seen", plan, plan_len);
+    save_cursor(out);
     struct conepalhui_place at = conepalhui_cursor_place(out);
     tell("moved %u %u revision %u at %u %u", (unsigned)leg, (unsigned)offset, (unsigned)at.revision,
          (unsigned)at.leg, (unsigned)at.place);
@@ -205,7 +238,7 @@ static bool read_input(bool wait)
 }
 
 /*
- * Gives the next line with its end, or null where no whole line is there yet. What stands behind the last end of line
+ * Gives the next line with its end, or null where no whole line is there yet. What stands after the last end of line
  * may be a part of a move, and is never taken. A line that is too long for a move is given as an empty one.
  */
 static const char *next_line(bool wait)
@@ -230,7 +263,7 @@ static const char *next_line(bool wait)
     return line;
 }
 
-/* Reads digits up to a mark. Gives what stands behind the mark, or null where it is no number of 32 bits. */
+/* Reads digits up to a mark. Gives what stands after the mark, or null where it is no number of 32 bits. */
 static const char *read_number(const char *text, char mark, uint32_t *number)
 {
     uint64_t value = 0;

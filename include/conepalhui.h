@@ -1,29 +1,53 @@
 /*
- * conepalhui.h: the calls of Conepalhui, for C (C99 or later) and C++.
+ * conepalhui.h: the calls of Conepalhui, for C (C99 or later) and C++ (C++98 or later).
  *
  * Conepalhui checks a network timetable (IEEE 802.1Qbv): whether every frame keeps its window, its hops and its
  * deadline, and whether two frames ever want one wire. The check is done in slices as small as one likes. Between two
  * slices all that is known of it is a cursor of at most 15 bytes, which the caller saves where it likes.
  *
  *     uint8_t cursor[CONEPALHUI_CURSOR_BYTES], next[CONEPALHUI_CURSOR_BYTES];
- *     uint64_t answer = conepalhui_start(plan, plan_len, cursor, sizeof cursor);
- *     if (conepalhui_result(answer) != CONEPALHUI_GRANTED)
+ *     conepalhui_answer answer = conepalhui_start(plan, plan_len, cursor, sizeof cursor);
+ *     if (answer.result != CONEPALHUI_GRANTED)
  *         return refused(answer);
  *     do {
  *         wait_until_idle();
  *         answer = conepalhui_slice_full(plan, plan_len, cursor, conepalhui_cursor_length(cursor), 200,
  *                                        next, sizeof next);
- *         if (conepalhui_refusal(conepalhui_result(answer)) != 0)
+ *         if (conepalhui_refusal(answer.result) != 0)
  *             return refused(answer);
  *         memcpy(cursor, next, conepalhui_cursor_length(next));
- *     } while (conepalhui_result(answer) == CONEPALHUI_PAUSED);
+ *     } while (answer.result == CONEPALHUI_PAUSED);
  *
  * A frame may be given another slot while the check is paused: conepalhui_move gives the new plan file and the cursor
- * to go on with, and the verdict will be that of a whole check of the new plan. This holds for any mix of slices and
- * moves after a start, as long as cursors are not altered and the plan is changed by moves alone. A plan that was
- * changed in any other way needs a new start: a cursor knows its plan by the revision, and is taken at its word.
+ * to go on with, and the verdict will be that of a whole check of the new plan.
  *
- * examples/host.c is a whole program that keeps plan and cursor in files and may be killed at any moment.
+ * ---- WHAT THE CALLER MUST KEEP TO. OTHERWISE A PLAN THAT BREAKS A RULE MAY BE TOLD AS 'NOTHING VIOLATED'. ----
+ *
+ *   1. The run. It begins with a start that is granted. Starts, slices and moves follow, in any order. A refused call
+ *      writes nothing and is no part of the run.
+ *   2. The plan. Each call is given the plan of that start or, once a move of the run was granted, the plan that the
+ *      last granted move wrote: the first bytes of new_plan, as many as the number beside its result says. Nothing
+ *      else changes the plan.
+ *   3. The cursor. Each slice and each move is given a cursor that a call since that very start left, of that very
+ *      plan: the first bytes of out, as many as conepalhui_cursor_length says, unaltered.
+ *   4. Before the start that begins a run, destroy every other saved cursor. A cursor of an earlier run, of another
+ *      plan or from a backup is never used again.
+ *
+ * Where 1 to 3 are kept, this is proved of every run (crates/demands/specs: HostRuns.antt, DemandThreeForC.antt):
+ *
+ *   - A slice that tells 0, or 2 to 5, tells the verdict of a whole check of the plan as it stands then.
+ *   - A verdict comes in time. Take the slices since the last start or move, each given the cursor that the call
+ *     before it left. If there is one, and their budgets add up to the number of places or more, one told a verdict.
+ *   - Where out has 15 bytes, no start is refused, and no slice that is given the cursor which the call before it left.
+ *
+ * THE LIBRARY CANNOT SEE WHETHER THEY ARE KEPT. A cursor knows its plan by the revision alone. It is refused where that
+ * is another one (8) or where the plan has no such place (9), and is believed otherwise. Take two plans of one revision
+ * and one number of legs, of which the first keeps the rules and the second does not. The last cursor of the first,
+ * given with the second, is answered with 0: nothing violated.
+ *
+ * So whoever keeps plan and cursor in files also keeps a whole copy of the plan that the cursor is of. Before a saved
+ * cursor is used, plan and copy are compared byte by byte, and where they differ a new check is started.
+ * examples/host.c does so: it shows in which order the three files are saved, and may be killed at any moment.
  */
 #ifndef CONEPALHUI_H
 #define CONEPALHUI_H
@@ -31,42 +55,69 @@
 #include <stddef.h>
 #include <stdint.h>
 
+/* The version of this header and of the archive that it belongs to. A NUMBER is 10000 MAJOR + 100 MINOR + PATCH. */
+#define CONEPALHUI_VERSION "1.0.0"
+#define CONEPALHUI_VERSION_MAJOR 1
+#define CONEPALHUI_VERSION_MINOR 0
+#define CONEPALHUI_VERSION_PATCH 0
+#define CONEPALHUI_VERSION_NUMBER 10000
+
+/*
+ * The edition of the rules: 1 is document 01 as it stands. What a plan file, a place and a cursor mean belongs to an
+ * edition. After an upgrade to another edition destroy every saved cursor and start the check anew.
+ */
+#define CONEPALHUI_EDITION 1
+
 /*
  * What holds of every call
  *
  * Any bytes and any numbers may be handed in. Each call ends, with an answer or a numbered refusal.
  *
- * Memory. A pointer and the length behind it lend that many bytes to the call, until it returns. A pointer may be
+ * Memory. A pointer and the length that follows it lend that many bytes to the call, until it returns. A pointer may be
  * null where its length is 0. plan and cursor are only read, and may overlap one another. out and new_plan are
  * written to: neither may overlap any other memory that is lent to the same call. While a call runs, nobody else may
  * write to the lent memory, nor read out and new_plan.
  *
- * A refusal writes nothing. So whoever keeps the cursor's bytes apart from out still has them. Otherwise the answer
- * lies in the first bytes of out (and of new_plan), and every byte behind it is what it was.
+ * A refusal writes nothing. Otherwise the answer lies in the first bytes of out (and of new_plan), and every byte after
+ * it is what it was.
  *
  * Nothing is kept between calls. There is no memory from the heap, no global state, no file and no lock: calls from
- * several threads at once do not concern each other. No call uses more than CONEPALHUI_STACK_BYTES of the stack.
+ * several threads at once do not concern each other.
  *
- * Linking. The archive is for x86-64 and the System V calling convention (Linux), in programs and in shared libraries.
- * Of other libraries it needs memset alone. 'rt staticlib host' proves it and writes target/staticlib/libhost.a.
+ * The stack. No call was seen to use more than CONEPALHUI_STACK_BYTES. This is measured and not proved: the test fills
+ * a stack with a known byte, makes each call on it, on a small plan and on one of 2,048 legs, and looks how much was
+ * written over. The most was two thirds of that number.
+ *
+ * Linking. './conepalhui library' proves the calls and builds the archive .built/libconepalhui.a. It is for x86-64 and
+ * the System V calling convention (Linux), in programs and in shared libraries, and needs memset alone of other
+ * libraries:
+ *
+ *     cc -Iinclude program.c .built/libconepalhui.a
  */
 
 #define CONEPALHUI_CURSOR_BYTES 15   /* room for every cursor; out must have this many bytes or more */
 #define CONEPALHUI_PLAN_BYTES 48665  /* no plan file is longer; room for every new plan */
 #define CONEPALHUI_MOVE_BYTES 5      /* a move makes a plan file longer by this many bytes at most */
-#define CONEPALHUI_STACK_BYTES 98304 /* a thread that calls needs this much stack beyond its own */
+#define CONEPALHUI_STACK_BYTES 98304 /* a thread that calls should have this much stack left */
 
-/* The results. Each call tells one of them: conepalhui_slice returns it, the others have it in the low 32 bits. */
+/* The results. Each call tells one of them: conepalhui_slice returns it, and the others give it in an answer. */
 enum {
     CONEPALHUI_NOTHING_VIOLATED = 0, /* a slice: nothing is violated from its cursor on, and the check is done */
     CONEPALHUI_GRANTED = 0,          /* start and move: done */
-    CONEPALHUI_PAUSED = 1,           /* a slice: the budget is used up, and all that was looked at holds */
+    CONEPALHUI_PAUSED = 1,           /* paused: the budget is used up, and all that was looked at holds */
     CONEPALHUI_WINDOW = 2,           /* violated: the frame is not through at the end of its period */
-    CONEPALHUI_HOP = 3,              /* violated: it is sent on before it has arrived from its previous link */
-    CONEPALHUI_DEADLINE = 4,         /* violated: it arrives at its last node after its deadline */
+    CONEPALHUI_HOP = 3,              /* violated: the frame is sent on before it has arrived from its previous link */
+    CONEPALHUI_DEADLINE = 4,         /* violated: the frame arrives at its last node after its deadline */
     CONEPALHUI_OVERLAP = 5,          /* violated: two frames want one link at some time */
     CONEPALHUI_REFUSED = 100         /* plus the number of the refusal, 101 to 115 */
 };
+
+/* What a start, a slice_full and a move give. */
+struct conepalhui_answer {
+    uint32_t result; /* one of those above */
+    uint32_t number; /* after a refusal its position; otherwise places, steps or bytes, as each call says below */
+};
+typedef struct conepalhui_answer conepalhui_answer;
 
 /*
  * Plans, places and cursors
@@ -92,10 +143,13 @@ enum {
  */
 
 /*
- * The refusals, with the position that is told beside each. docs/REFUSALS.md has examples, and what to do.
+ * The refusals, each with its position, which an answer has as its number. docs/REFUSALS.md has examples, and what to
+ * do.
  *
  *   no.   cause                                                                     position
+ *    1    the table has fewer than five words                                       0
  *    2    more links, streams or legs than are allowed, or too high a precision     0
+ *    3    the table has another length than its header says                         0
  *    4    a link out of range, or from a node to itself                             the lowest such link
  *    5    a link from and to the same nodes as an earlier one                       the lowest later link
  *    6    a stream out of range, or its first leg or leg count is wrong             the lowest such stream
@@ -103,17 +157,17 @@ enum {
  *    7    a leg's stream, its link or its route is wrong                            the lowest such leg
  *    8    the cursor is of another revision than the plan                           0
  *    9    the cursor is at no place of the plan, nor at its end                     0
- *   10    no such leg                                                               0
+ *   10    there is no such leg to move                                              0
  *   11    a move at revision 4,294,967,295                                          0
  *   12    the bytes end before the numbers do                                       the start of that number
  *   13    a number in more bytes than it needs, or above 4,294,967,295              the start of that number
- *   14    bytes left over behind the last number                                    the first such byte
+ *   14    bytes left over after the last number                                     the first such byte
  *   15    out has fewer than 15 bytes, or new_plan has no room for the new plan     0
  *
- * 1 (fewer than five words) and 3 (another length than the header says) are of tables in memory, and no call here gives
- * them: a plan file that is too short or too long is refused with 12 or 14.
+ * 1 and 3 are of tables in memory, and no call here gives them: a plan file that is too short or too long is refused
+ * with 12 or 14.
  *
- * Where several are due the first is told: of the plan 12 and 13 from left to right, 2 behind the fifth number, 14;
+ * Where several are due the first is told: of the plan 12 and 13 from left to right, 2 after the fifth number, 14;
  * of the cursor 12, 13, 14; 15 for out; then 4 to 11 in their order; and last 15 for new_plan. A 12, 13 or 14 of a
  * slice or a move lies in the plan exactly when conepalhui_start refuses that plan with it too, and otherwise in the
  * cursor.
@@ -126,28 +180,28 @@ extern "C" {
 /*
  * Begins a check. out gets the first cursor: the plan's revision, leg 0, place 0.
  *
- * Low 32 bits: 0 granted, or 100 + refusal. High 32 bits: how many places the plan has, or the refusal's position.
+ * Result: 0 granted, or 100 + refusal. Number: how many places the plan has, or the refusal's position.
  */
-uint64_t conepalhui_start(const uint8_t *plan, size_t plan_len, uint8_t *out, size_t out_len);
+conepalhui_answer conepalhui_start(const uint8_t *plan, size_t plan_len, uint8_t *out, size_t out_len);
 
 /*
  * Looks at the plan's places in order from the cursor on, at no more than budget of them, and stops sooner only at a
  * violated place or at the end. Any budget will do, 0 too. out gets the cursor to go on with:
  *
- *   0  nothing violated from the cursor on: the end. This is told as soon as the end is reached, not a slice later
- *   1  paused: the first place that was not looked at
+ *   0       nothing violated from the cursor on: the end. A slice that looks at the last place tells this at once
+ *   1       paused: the first place that was not looked at
  *   2 to 5  violated: that very place. Another slice from there tells it again
  *
  * The call reads the whole plan whatever the budget is, so a slice of a few hundred places costs less for each of
  * them than a slice of one.
  *
- * Low 32 bits: the result, or 100 + refusal. High 32 bits: the steps, which are the places that were looked at, or
- * the refusal's position.
+ * Result: 0 to 5, or 100 + refusal. Number: the steps, which are the places that were looked at, or the refusal's
+ * position.
  */
-uint64_t conepalhui_slice_full(const uint8_t *plan, size_t plan_len, const uint8_t *cursor, size_t cursor_len,
-                               uint32_t budget, uint8_t *out, size_t out_len);
+conepalhui_answer conepalhui_slice_full(const uint8_t *plan, size_t plan_len, const uint8_t *cursor, size_t cursor_len,
+                                        uint32_t budget, uint8_t *out, size_t out_len);
 
-/* The same slice. It returns the result alone, without the steps or the position. */
+/* The same slice. It returns the result alone, without the number. */
 uint32_t conepalhui_slice(const uint8_t *plan, size_t plan_len, const uint8_t *cursor, size_t cursor_len,
                           uint32_t budget, uint8_t *out, size_t out_len);
 
@@ -161,34 +215,52 @@ uint32_t conepalhui_slice(const uint8_t *plan, size_t plan_len, const uint8_t *c
  * saves both saves the new plan before the new cursor: then a saved cursor is never newer than the saved plan. Whoever
  * drops the new plan drops the new cursor too: it is of that plan alone.
  *
- * Low 32 bits: 0 granted, or 100 + refusal. High 32 bits: how many bytes the new plan file has, or the position.
+ * Result: 0 granted, or 100 + refusal. Number: how many bytes the new plan file has, or the refusal's position.
  */
-uint64_t conepalhui_move(const uint8_t *plan, size_t plan_len, const uint8_t *cursor, size_t cursor_len,
-                         uint32_t leg, uint32_t offset, uint8_t *new_plan, size_t new_plan_len,
-                         uint8_t *out, size_t out_len);
+conepalhui_answer conepalhui_move(const uint8_t *plan, size_t plan_len, const uint8_t *cursor, size_t cursor_len,
+                                  uint32_t leg, uint32_t offset, uint8_t *new_plan, size_t new_plan_len,
+                                  uint8_t *out, size_t out_len);
 
 #ifdef __cplusplus
 }
 #endif
 
-/* ---- Reading answers and cursors */
-
-/* The result in an answer: one of those above. */
-static inline uint32_t conepalhui_result(uint64_t answer)
-{
-    return (uint32_t)(answer & 0xFFFFFFFFu);
-}
-
-/* The number beside it: places, steps, the bytes of the new plan, or the position of a refusal. */
-static inline uint32_t conepalhui_number(uint64_t answer)
-{
-    return (uint32_t)(answer >> 32);
-}
+/* ---- Reading results and cursors */
 
 /* The number of the refusal that a result tells, or 0 where it tells none. */
 static inline uint32_t conepalhui_refusal(uint32_t result)
 {
     return result > CONEPALHUI_REFUSED ? result - CONEPALHUI_REFUSED : 0;
+}
+
+/* A result in words. The number 0 says two things, one of a slice and one of the other calls. */
+static inline const char *conepalhui_text(uint32_t result)
+{
+    switch (result) {
+    case CONEPALHUI_NOTHING_VIOLATED: return "after a slice: nothing violated; after a start or a move: granted";
+    case CONEPALHUI_PAUSED: return "paused: the budget is used up, and all that was looked at holds";
+    case CONEPALHUI_WINDOW: return "violated: the frame is not through at the end of its period";
+    case CONEPALHUI_HOP: return "violated: the frame is sent on before it has arrived from its previous link";
+    case CONEPALHUI_DEADLINE: return "violated: the frame arrives at its last node after its deadline";
+    case CONEPALHUI_OVERLAP: return "violated: two frames want one link at some time";
+    case CONEPALHUI_REFUSED + 1: return "the table has fewer than five words";
+    case CONEPALHUI_REFUSED + 2: return "more links, streams or legs than are allowed, or too high a precision";
+    case CONEPALHUI_REFUSED + 3: return "the table has another length than its header says";
+    case CONEPALHUI_REFUSED + 4: return "a link out of range, or from a node to itself";
+    case CONEPALHUI_REFUSED + 5: return "a link from and to the same nodes as an earlier one";
+    case CONEPALHUI_REFUSED + 6: return "a stream out of range, or its first leg or leg count is wrong; or "
+                                        "all streams are right, and have fewer legs than the header says";
+    case CONEPALHUI_REFUSED + 7: return "a leg's stream, its link or its route is wrong";
+    case CONEPALHUI_REFUSED + 8: return "the cursor is of another revision than the plan";
+    case CONEPALHUI_REFUSED + 9: return "the cursor is at no place of the plan, nor at its end";
+    case CONEPALHUI_REFUSED + 10: return "there is no such leg to move";
+    case CONEPALHUI_REFUSED + 11: return "a move at revision 4,294,967,295";
+    case CONEPALHUI_REFUSED + 12: return "the bytes end before the numbers do";
+    case CONEPALHUI_REFUSED + 13: return "a number in more bytes than it needs, or above 4,294,967,295";
+    case CONEPALHUI_REFUSED + 14: return "bytes left over after the last number";
+    case CONEPALHUI_REFUSED + 15: return "out has fewer than 15 bytes, or new_plan has no room for the new plan";
+    default: return "this is no result of Conepalhui";
+    }
 }
 
 /* How many bytes the cursor has that a call wrote to out. Only for such cursors: other bytes may have no end. */

@@ -5,11 +5,13 @@
  * number N, counted from 1, goes wrong in this way:
  *
  *   kill       the host is killed before the call is made
+ *   leave      the same, and the power is cut while a later host runs: what the folder was not synced for is still open
  *   fail       the call is not made, and fails for good: the disk is full, or broken
  *   interrupt  the call is not made, and fails with EINTR
- *   short      one byte is read or written, and every call before and behind it does the same
- *   lost       the power is cut before the call: no rename that the folder was not synced for is on the disk
- *   last       the power is cut before the call: of those renames only the last is on the disk
+ *   short      one byte is read or written, and every call before and after it does the same
+ *   lost       the power is cut before the call: no rename and no removal that the folder was not synced for is on the
+ *              disk
+ *   last       the power is cut before the call: of those only the last is on the disk
  *   torn       the power is cut before the call: of each file that was not synced nothing is on the disk
  */
 #define _DEFAULT_SOURCE
@@ -56,29 +58,59 @@ static bool is_kind(const char *name)
 
 /* ---- What a power cut takes */
 
-enum { MOST = 64, NAME = 32 };
+enum { MOST = 64, NAME = 48 };
 
-static bool synced;            /* whether the new file that is being written is on the disk */
-static char torn[MOST][NAME];  /* the files that were renamed before they were on the disk */
-static char moved[MOST][NAME]; /* the files that were renamed since the folder was on the disk */
-static int torn_count, moved_count, disk = -1;
+static bool synced;                 /* whether the new file that is being written is on the disk */
+static char torn[MOST][NAME];       /* the files that were renamed before they were on the disk */
+static char open_names[MOST][NAME]; /* the files that were renamed to or removed since the folder was on the disk */
+static int torn_count, open_count, disk = -1;
 
-static const char *kept_name(int which)
+/* The file as it was before change number which is kept under this name until the folder is on the disk. */
+static const char *kept_name(int which, const char *name)
 {
-    static char name[NAME];
-    snprintf(name, sizeof name, ".kept.%d", which);
-    return name;
+    static char kept[2 * NAME];
+    snprintf(kept, sizeof kept, ".kept.%d.%s", which, name);
+    return kept;
 }
 
-/* The file that a rename replaces is kept under another name until the folder is on the disk. */
-static void note_rename(int folder, const char *to)
+/* Where there was no such file, an empty one has this name. */
+static const char *none_name(int which, const char *name)
 {
-    if (moved_count == MOST || torn_count == MOST)
+    static char none[2 * NAME];
+    snprintf(none, sizeof none, ".none.%d.%s", which, name);
+    return none;
+}
+
+static bool is_there(int folder, const char *name)
+{
+    return faccessat(folder, name, F_OK, 0) == 0;
+}
+
+static void forget(int folder, int which)
+{
+    __real_unlinkat(folder, kept_name(which, open_names[which]), 0);
+    __real_unlinkat(folder, none_name(which, open_names[which]), 0);
+}
+
+/* A change of the folder: name is about to be replaced or removed. */
+static void note_change(int folder, const char *name)
+{
+    if (open_count == MOST)
         abort();
     disk = folder;
-    if (is_kind("lost") || is_kind("last"))
-        linkat(folder, to, folder, kept_name(moved_count), 0);
-    snprintf(moved[moved_count++], NAME, "%s", to);
+    snprintf(open_names[open_count], NAME, "%s", name);
+    if (is_kind("lost") || is_kind("last") || is_kind("leave")) {
+        if (linkat(folder, name, folder, kept_name(open_count, name), 0) == -1)
+            __real_close(__real_openat(folder, none_name(open_count, name), O_WRONLY | O_CREAT, 0666));
+    }
+    open_count++;
+}
+
+static void note_rename(int folder, const char *to)
+{
+    note_change(folder, to);
+    if (torn_count == MOST)
+        abort();
     if (!synced)
         snprintf(torn[torn_count++], NAME, "%s", to);
 }
@@ -92,25 +124,41 @@ static void note_sync(int fd)
         synced = true;
         return;
     }
-    while (moved_count > 0)
-        __real_unlinkat(fd, kept_name(--moved_count), 0);
+    while (open_count > 0)
+        forget(fd, --open_count);
 }
 
-static void undo_rename(int which)
+/* Takes over the changes that an earlier host left open. The power is not cut any more where the kind is another. */
+static void take_over(int folder)
 {
-    if (__real_renameat(disk, kept_name(which), disk, moved[which]) == -1)
-        __real_unlinkat(disk, moved[which], 0);
+    static const char *const names[] = {"plan", "seen", "cursor"};
+    disk = folder;
+    for (int i = 0; i < 3; i++)
+        if (is_there(folder, kept_name(open_count, names[i])) || is_there(folder, none_name(open_count, names[i]))) {
+            snprintf(open_names[open_count++], NAME, "%s", names[i]);
+            i = -1; /* The next change may be of any of them. */
+        }
+    while (!is_kind("lost") && !is_kind("last") && open_count > 0)
+        forget(folder, --open_count);
+}
+
+static void undo(int which)
+{
+    const char *name = open_names[which];
+    if (__real_renameat(disk, kept_name(which, name), disk, name) == -1)
+        __real_unlinkat(disk, name, 0);
 }
 
 static void cut_power(void)
 {
-    for (int i = moved_count - 1; i >= 0; i--)
-        if (is_kind("lost") || (is_kind("last") && i < moved_count - 1))
-            undo_rename(i);
+    const char *last = open_count > 0 ? open_names[open_count - 1] : "";
+    for (int i = open_count - 1; i >= 0; i--)
+        if (is_kind("lost") || (is_kind("last") && strcmp(open_names[i], last) != 0))
+            undo(i);
     for (int i = 0; i < torn_count && is_kind("torn"); i++)
         __real_close(__real_openat(disk, torn[i], O_WRONLY | O_TRUNC));
-    for (int i = 0; i < moved_count; i++)
-        __real_unlinkat(disk, kept_name(i), 0);
+    while (open_count > 0)
+        forget(disk, --open_count);
 }
 
 /* ---- What goes wrong */
@@ -142,6 +190,8 @@ int __wrap_openat(int folder, const char *name, int flags, ...)
     va_end(rest);
     if (goes_wrong(false, (flags & O_CREAT) != 0 ? ENOSPC : EIO))
         return -1;
+    if (disk == -1)
+        take_over(folder);
     if ((flags & O_CREAT) != 0)
         synced = false;
     return __real_openat(folder, name, flags, mode);
@@ -172,7 +222,11 @@ int __wrap_poll(struct pollfd *fds, nfds_t count, int timeout)
 
 int __wrap_unlinkat(int folder, const char *name, int flags)
 {
-    return goes_wrong(false, EIO) ? -1 : __real_unlinkat(folder, name, flags);
+    if (goes_wrong(false, EIO))
+        return -1;
+    if (is_there(folder, name) && strstr(name, ".new") == NULL)
+        note_change(folder, name);
+    return __real_unlinkat(folder, name, flags);
 }
 
 int __wrap_renameat(int folder, const char *from, int to_folder, const char *to)

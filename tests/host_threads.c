@@ -1,0 +1,179 @@
+/*
+ * host_threads.c: calls from several threads at once, each thread on a plan of its own.
+ *
+ *     host_threads ROUNDS PLAN...
+ *
+ * For each plan file there is a fixed row of calls: starts, slices, moves and refused calls, each given what the calls
+ * before it wrote. One thread alone makes the row first, and keeps each answer and every byte of the lent memory. Then
+ * all threads make their rows at the same time and compare, again and again until each has done so ROUNDS times. The
+ * exit status is 0 only where nothing differs. tests/host.test builds and runs it.
+ */
+#define _GNU_SOURCE
+
+#include "conepalhui.h"
+
+#include <pthread.h>
+#include <stdatomic.h>
+#include <stdbool.h>
+#include <stdio.h>
+#include <stdlib.h>
+#include <string.h>
+
+enum { THREADS = 8, CALLS = 40, OUT = 24, MOVES = CALLS / 5, ROOM = CONEPALHUI_PLAN_BYTES };
+
+/* All that one call gives: its answer, and what the memory is that it was lent to write to. */
+struct given {
+    conepalhui_answer answer;
+    uint8_t out[OUT], new_plan[ROOM];
+};
+
+struct row {
+    pthread_t thread;
+    const char *name;
+    uint8_t file[ROOM], plan[ROOM], cursor[OUT];
+    size_t file_len, plan_len, cursor_len;
+    size_t new_plan_len; /* so much is lent for a new plan: enough after all moves */
+    struct given alone[CALLS], now;
+    unsigned made, faults;
+};
+
+static struct row rows[THREADS];
+static unsigned row_count, rounds;
+static pthread_barrier_t gate;
+static atomic_uint busy; /* how many threads have not made all their rounds yet */
+
+static void stop(const char *what)
+{
+    fprintf(stderr, "host_threads: %s\n", what);
+    exit(2);
+}
+
+/* Makes one call of the row, with lent memory that is the same each time, and goes on from what it wrote. */
+static void make_call(struct row *row, unsigned which)
+{
+    struct given *now = &row->now;
+    memset(now->out, 0xA5, sizeof now->out);
+    memset(now->new_plan, 0xA5, row->new_plan_len);
+    switch (which % 5) {
+    case 0: /* a start, at first of the file as it was read */
+        now->answer = conepalhui_start(row->plan, row->plan_len, now->out, sizeof now->out);
+        break;
+    case 1:
+        now->answer = conepalhui_slice_full(row->plan, row->plan_len, row->cursor, row->cursor_len, 50 + which,
+                                            now->out, sizeof now->out);
+        break;
+    case 2:
+        now->answer = conepalhui_move(row->plan, row->plan_len, row->cursor, row->cursor_len, which % 3, 1000 * which,
+                                      now->new_plan, row->new_plan_len, now->out, sizeof now->out);
+        break;
+    case 3:
+        now->answer.number = 0;
+        now->answer.result = conepalhui_slice(row->plan, row->plan_len, row->cursor, row->cursor_len, which,
+                                              now->out, sizeof now->out);
+        break;
+    default: /* refused: a byte is missing at the end of the plan */
+        now->answer = conepalhui_slice_full(row->plan, row->plan_len - 1, row->cursor, row->cursor_len, which,
+                                            now->out, sizeof now->out);
+    }
+    if (conepalhui_refusal(now->answer.result) != 0)
+        return;
+    row->cursor_len = conepalhui_cursor_length(now->out);
+    memcpy(row->cursor, now->out, row->cursor_len);
+    if (which % 5 == 2) {
+        row->plan_len = now->answer.number;
+        memcpy(row->plan, now->new_plan, row->plan_len);
+    }
+}
+
+static void begin_row(struct row *row)
+{
+    row->plan_len = row->file_len;
+    memcpy(row->plan, row->file, row->file_len);
+    row->cursor_len = 0;
+}
+
+static bool is_same(const struct row *row, unsigned which)
+{
+    const struct given *now = &row->now, *alone = &row->alone[which];
+    return now->answer.result == alone->answer.result && now->answer.number == alone->answer.number &&
+           memcmp(now->out, alone->out, sizeof now->out) == 0 &&
+           memcmp(now->new_plan, alone->new_plan, row->new_plan_len) == 0;
+}
+
+static void make_row(struct row *row)
+{
+    begin_row(row);
+    for (unsigned which = 0; which < CALLS && row->faults == 0; which++) {
+        make_call(row, which);
+        row->made++;
+        row->faults += !is_same(row, which);
+    }
+}
+
+static void *run_rows(void *given)
+{
+    struct row *row = given;
+    pthread_barrier_wait(&gate);
+    for (unsigned round = 0; round < rounds && row->faults == 0; round++)
+        make_row(row);
+    busy--;
+    while (busy > 0 && row->faults == 0)
+        make_row(row);
+    return NULL;
+}
+
+static void read_plan(struct row *row, const char *name)
+{
+    FILE *file = fopen(name, "rb");
+    if (file == NULL)
+        stop("a plan cannot be opened");
+    row->name = name;
+    row->file_len = fread(row->file, 1, sizeof row->file, file);
+    row->new_plan_len = row->file_len + MOVES * CONEPALHUI_MOVE_BYTES;
+    fclose(file);
+    if (row->new_plan_len > ROOM)
+        stop("a plan is too long");
+}
+
+/* Makes the row alone. Moves have to be granted, slices to look at places, and the cut plan to be refused. */
+static void run_alone(struct row *row)
+{
+    unsigned seen[3] = {0, 0, 0};
+    begin_row(row);
+    for (unsigned which = 0; which < CALLS; which++) {
+        make_call(row, which);
+        row->alone[which] = row->now;
+        seen[0] += which % 5 == 2 && row->now.answer.result == CONEPALHUI_GRANTED;
+        seen[1] += which % 5 == 1 && row->now.answer.number > 0;
+        seen[2] += which % 5 == 4 && conepalhui_refusal(row->now.answer.result) == 12;
+    }
+    if (seen[0] != MOVES || seen[1] == 0 || seen[2] != CALLS / 5)
+        stop("a row of calls does not try what it is there for");
+}
+
+int main(int count, char **words)
+{
+    unsigned calls = 0, faults = 0;
+    if (count < 4 || count - 2 > THREADS)
+        stop("usage: host_threads ROUNDS PLAN PLAN...");
+    rounds = (unsigned)strtoul(words[1], NULL, 10);
+    row_count = (unsigned)count - 2;
+    busy = row_count;
+    pthread_barrier_init(&gate, NULL, row_count);
+    for (unsigned i = 0; i < row_count; i++) {
+        read_plan(&rows[i], words[i + 2]);
+        run_alone(&rows[i]);
+    }
+    for (unsigned i = 0; i < row_count; i++)
+        if (pthread_create(&rows[i].thread, NULL, run_rows, &rows[i]) != 0)
+            stop("a thread cannot be made");
+    for (unsigned i = 0; i < row_count; i++) {
+        pthread_join(rows[i].thread, NULL);
+        calls += rows[i].made;
+        faults += rows[i].faults;
+        if (rows[i].faults != 0)
+            printf("WRONG: another answer on %s than a single thread gets\n", rows[i].name);
+    }
+    printf("%u calls by %u threads at once, %u faults\n", calls, row_count, faults);
+    return faults == 0 && calls >= row_count * rounds * CALLS ? 0 : 1;
+}
