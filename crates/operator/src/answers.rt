@@ -71,11 +71,18 @@ pub(crate) fn refused(number: u32, at: usize, revision: u32) {
 fn lies_in(number: u32) {
     if number < checker::cursors::STALE_CURSOR {
         show::text(b"in the plan\n");
-    } else if number < checker::cursors::NO_LEG {
+    } else if is_of_cursor(number) {
         show::text(b"in the cursor\n");
     } else {
         show::text(b"in the move\n");
     }
+}
+
+pub(crate) fn is_of_cursor(number: u32) -> bool {
+    if number < checker::cursors::STALE_CURSOR {
+        return false;
+    }
+    number < checker::cursors::NO_LEG
 }
 
 // The refusal of the guard: the plan is not the one that was last seen with this cursor, or none was.
@@ -84,4 +91,11 @@ pub(crate) fn unknown(why: &[u8], revision: u32) {
     show::text(why);
     labelled(b" revision ", revision);
     show::text(b"\nin the plan\n");
+}
+
+// The refusal of a start where a check has begun: the cursor that stands there.
+pub(crate) fn begun(at: Cursor) {
+    told::place(b"refused begun", at);
+    labelled(b" revision ", at.revision);
+    show::text(b"\nin the cursor\n");
 }

@@ -1,6 +1,8 @@
 // Start, slice and move on files. Everything is written beside first, so that a full disk is met before any file is replaced.
 use crate::Order;
 use crate::answers;
+use crate::ours;
+use crate::ours::Standing;
 use crate::saved;
 use crate::saved::Saved;
 use basics::Holds;
@@ -34,6 +36,14 @@ fn legs_of(t: &[u32]) -> usize {
     table::wide(header_word(t, table::LEGS_AT))
 }
 
+// A refusal of a table and a cursor. A cursor that is refused is to be replaced by a start; where that will leave it, this is said at once.
+fn refused(cursor_path: &[u8], t: &[u32], number: u32, at: usize) {
+    answers::refused(number, at, header_word(t, table::REVISION_AT));
+    if answers::is_of_cursor(number) {
+        ours::judged(cursor_path, t);
+    }
+}
+
 // Replaces cursor and copy. The old cursor goes first: it must never stand beside the copy of another plan.
 fn begun(cursor_path: &[u8], plan: &[u8], c: Cursor) -> bool {
     if !saved::seen_beside(cursor_path, plan, b"") {
@@ -51,15 +61,32 @@ fn begun(cursor_path: &[u8], plan: &[u8], c: Cursor) -> bool {
     durable::put_in_place(cursor_path)
 }
 
-fn start(cursor_path: &[u8], plan: &[u8], t: &[u32]) {
+// Whether a start may replace what stands there. Where it may not, that is the answer, and it is written, or said of a file that is not ours.
+fn may_begin(cursor_path: &[u8], t: &[u32], anew: bool) -> bool {
+    let found = ours::judged(cursor_path, t);
+    match found {
+        Standing::Free => true,
+        Standing::Begun(c) => {
+            if !anew {
+                answers::begun(c);
+            }
+            anew
+        }
+        Standing::NotOurs => false,
+    }
+}
+
+fn start(cursor_path: &[u8], plan: &[u8], t: &[u32], anew: bool) {
     let told = checker::start(t);
     match told {
         Grant::Refused(number, at, _) => {
             answers::refused(number, at, header_word(t, table::REVISION_AT));
         }
         Grant::Granted(c) => {
-            if begun(cursor_path, plan, c) {
-                answers::granted(c, legs_of(t));
+            if may_begin(cursor_path, t, anew) {
+                if begun(cursor_path, plan, c) {
+                    answers::granted(c, legs_of(t));
+                }
             }
         }
     }
@@ -79,7 +106,7 @@ fn gone_on(cursor_path: &[u8], plan: &[u8], c: Cursor) -> bool {
 fn sliced(cursor_path: &[u8], plan: &[u8], t: &[u32], told: SliceAnswer) {
     match told {
         SliceAnswer::Refused(number, at, _) => {
-            answers::refused(number, at, header_word(t, table::REVISION_AT));
+            refused(cursor_path, t, number, at);
         }
         SliceAnswer::Violated(c, steps, rule) => {
             if gone_on(cursor_path, plan, c) {
@@ -101,14 +128,8 @@ fn sliced(cursor_path: &[u8], plan: &[u8], t: &[u32], told: SliceAnswer) {
 
 fn slice(cursor_path: &[u8], plan: &[u8], t: &[u32], budget: u32) {
     let at = saved::cursor(cursor_path);
-    match at {
-        Saved::Failed => {}
-        Saved::Refused(number, position) => {
-            answers::unread(number, position, b"in the cursor\n");
-        }
-        Saved::At(c) => {
-            sliced(cursor_path, plan, t, checker::slice(t, c, budget));
-        }
+    if let Saved::At(c) = at {
+        sliced(cursor_path, plan, t, checker::slice(t, c, budget));
     }
 }
 
@@ -160,7 +181,7 @@ fn moved(
     let told = checker::move_leg(t, c, leg, offset);
     match told {
         Grant::Refused(number, at, _) => {
-            answers::refused(number, at, header_word(t, table::REVISION_AT));
+            refused(cursor_path, t, number, at);
         }
         Grant::Granted(d) => {
             if saved::is_known(cursor_path, old, c.revision) {
@@ -179,21 +200,15 @@ fn move_leg(
     offset: u32,
 ) {
     let at = saved::cursor(cursor_path);
-    match at {
-        Saved::Failed => {}
-        Saved::Refused(number, position) => {
-            answers::unread(number, position, b"in the cursor\n");
-        }
-        Saved::At(c) => {
-            moved(plan_path, cursor_path, plan, t, c, leg, offset);
-        }
+    if let Saved::At(c) = at {
+        moved(plan_path, cursor_path, plan, t, c, leg, offset);
     }
 }
 
 fn on_table(order: Order, plan_path: &[u8], cursor_path: &[u8], plan: &[u8], t: &mut [u32]) {
     match order {
-        Order::Start => {
-            start(cursor_path, plan, t);
+        Order::Start(anew) => {
+            start(cursor_path, plan, t, anew);
         }
         Order::Slice(budget) => {
             slice(cursor_path, plan, t, budget);

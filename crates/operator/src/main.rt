@@ -1,14 +1,15 @@
-// What an operator and a planner do with files: start PLAN CURSOR, slice PLAN CURSOR BUDGET, move PLAN CURSOR LEG OFFSET. The first line that it writes
-// is the answer; where a file cannot be read or written, or an argument is wrong, it writes none and says so on standard error.
+// What an operator and a planner do with files: start PLAN CURSOR [--anew], slice PLAN CURSOR BUDGET, move PLAN CURSOR LEG OFFSET. The first line that it
+// writes is the answer; where a file cannot be read or written or is not ours, or an argument is wrong, it writes none and says so on standard error.
 use decimal::Decimal;
 
 mod answers;
 mod calls;
+mod ours;
 mod saved;
 
-// What is asked for.
+// What is asked for. A start says whether a check that has begun may be dropped.
 pub(crate) enum Order {
-    Start,
+    Start(bool),
     Slice(u32),
     Move(u32, u32),
     Wrong,
@@ -27,6 +28,8 @@ const PLAN_AT: usize = 2;
 const CURSOR_AT: usize = 3;
 
 const FIRST_NUMBER_AT: usize = 4;
+
+const ANEW_AT: usize = 4;
 
 fn not_a_number(what: &[u8], why: &[u8]) -> Word {
     answers::say(what);
@@ -56,6 +59,19 @@ fn number_at(i: usize, what: &[u8]) -> Word {
     word_of(&text[..n], what)
 }
 
+fn start_order() -> Order {
+    let mut text = io::buffer();
+    let n = os::arg(ANEW_AT, &mut text);
+    if os::errno() == libc::EINVAL {
+        return Order::Start(false);
+    }
+    if calls::are_same(&text[..n], b"--anew") {
+        return Order::Start(true);
+    }
+    answers::say(b"after the files a start takes --anew and nothing else\n");
+    Order::Wrong
+}
+
 fn slice_order() -> Order {
     let budget = number_at(FIRST_NUMBER_AT, b"the budget");
     match budget {
@@ -78,7 +94,7 @@ fn move_order() -> Order {
 
 fn order_of(verb: &[u8]) -> Order {
     if calls::are_same(verb, b"start") {
-        return Order::Start;
+        return start_order();
     }
     if calls::are_same(verb, b"slice") {
         return slice_order();

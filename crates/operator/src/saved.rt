@@ -1,4 +1,6 @@
 // The saved cursor, and what was last seen of its plan beside it.
+use crate::answers;
+use crate::ours;
 use basics::Holds;
 use durable::FileRead;
 use files::Cursor;
@@ -9,12 +11,13 @@ use numbers::Written;
 // One byte more than the largest file, so that a byte left over is seen.
 const CURSOR_ROOM: usize = files::MAX_CURSOR_BYTES + 1;
 
-const SEEN_ROOM: usize = seen::MAX_SEEN_BYTES + 1;
+pub(crate) const SEEN_ROOM: usize = seen::MAX_SEEN_BYTES + 1;
 
-// A cursor file: its cursor, a refusal's number and position, or no file that can be read.
+// A cursor file: its cursor, a refusal's number and position, that there is none, or that it cannot be read.
 pub(crate) enum Saved {
     At(Cursor),
     Refused(u32, usize),
+    Missing,
     Failed,
 }
 
@@ -29,21 +32,36 @@ fn read_in(bytes: &[u8], n: usize) -> Saved {
     }
 }
 
-pub(crate) fn cursor(path: &[u8]) -> Saved {
+pub(crate) fn found(path: &[u8]) -> Saved {
     let mut bytes = [0u8; CURSOR_ROOM];
     let read = durable::file(path, &mut bytes);
     match read {
         FileRead::Bytes(n) => read_in(&bytes, n),
-        FileRead::Missing => {
-            os::fail(path);
-            Saved::Failed
-        }
+        FileRead::Missing => Saved::Missing,
         FileRead::Failed => Saved::Failed,
     }
 }
 
-// Whether the plan is one that was last seen. Where it is not, that is the answer, and it is written.
-fn known_in(bytes: &[u8], n: usize, plan: &[u8], revision: u32) -> bool {
+// The cursor to go on with. Where it is missing or refused, that is said or is the answer, which is written.
+pub(crate) fn cursor(path: &[u8]) -> Saved {
+    let at = found(path);
+    match at {
+        Saved::At(c) => Saved::At(c),
+        Saved::Refused(number, position) => {
+            answers::unread(number, position, b"in the cursor\n");
+            ours::no_cursor(path);
+            Saved::Failed
+        }
+        Saved::Missing => {
+            os::fail(path);
+            Saved::Failed
+        }
+        Saved::Failed => Saved::Failed,
+    }
+}
+
+// Whether the plan is one that was last seen. Where it is not, that is the answer, and it is written; and it is said where the copy is none.
+fn known_in(path: &[u8], bytes: &[u8], n: usize, plan: &[u8], revision: u32) -> bool {
     if bytes.len() < n {
         return false;
     }
@@ -51,21 +69,27 @@ fn known_in(bytes: &[u8], n: usize, plan: &[u8], revision: u32) -> bool {
     match told {
         Holds::Yes => true,
         Holds::No => {
-            crate::answers::unknown(b"changed", revision);
+            answers::unknown(b"changed", revision);
+            ours::is_copy(path, bytes, n);
             false
         }
     }
 }
 
-pub(crate) fn is_known(path: &[u8], plan: &[u8], revision: u32) -> bool {
+// Reads the copy beside a cursor.
+pub(crate) fn seen_file(path: &[u8], bytes: &mut [u8]) -> FileRead {
     let mut name = io::buffer();
     let n = durable::ended(path, b".seen", &mut name);
+    durable::file(&name[..n], bytes)
+}
+
+pub(crate) fn is_known(path: &[u8], plan: &[u8], revision: u32) -> bool {
     let mut bytes = [0u8; SEEN_ROOM];
-    let read = durable::file(&name[..n], &mut bytes);
+    let read = seen_file(path, &mut bytes);
     match read {
-        FileRead::Bytes(m) => known_in(&bytes, m, plan, revision),
+        FileRead::Bytes(n) => known_in(path, &bytes, n, plan, revision),
         FileRead::Missing => {
-            crate::answers::unknown(b"unseen", revision);
+            answers::unknown(b"unseen", revision);
             false
         }
         FileRead::Failed => false,

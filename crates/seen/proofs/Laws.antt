@@ -1,7 +1,7 @@
 -- The number in front says where the first plan ends, and no other reading of what was seen is there. Assumes nothing.
 use Prim.Native.Nat.{ℕ, _+_, _-_, _≤_, _<_}
 use mathlib.Core.Path.{_≡_, refl, _∙_, sym, ap}
-use mathlib.Core.List.{List, _++_}
+use mathlib.Core.List.{List, [], _++_}
 use mathlib.Core.Logic.{_⊎_, inl, inr}
 use lib.ListN.{length, take, drop, length-drop, length-append, take-append-drop}
 use lib.Seq.{take-all, take-at, drop-at, length-take-le}
@@ -9,11 +9,15 @@ use native.Mathlib.Omega.{arith}
 use Rattle.basics.specs.declared.Holds.{Holds}
 use Rattle.basics.specs.declared.Holds.the-variants.{Yes, No}
 use Rattle.basics.specs.Tells.{Tells}
-use Rattle.numbers.specs.Number.{maxWord, bytesOf, Stands, NoNumber}
-use Rattle.numbers.specs.Calls.{ReadsNumber, NumberStands}
+use Rattle.numbers.specs.Number.{bytesOf, NoNumber}
+use Rattle.numbers.specs.Calls.{NumberStands}
 use Rattle.numbers.specs.declared.Number.the-variants as number
 use Rattle.numbers.proofs.OneNumber.{read-number-one-answer, word-not-refused}
-use Rattle.seen.specs.Seen.{Kept, Known, KnownParts}
+use Rattle.table.specs.Layout.{maxTableWords}
+use Rattle.table.proofs.Sizes.{table-words-at-most}
+use Rattle.files.specs.Plan.{PlanUnread}
+use Rattle.files.proofs.OneAnswer.{file-no-fault}
+use Rattle.seen.specs.Seen.{Kept, Known, KnownParts, PlanFile, Copy, PlanParts}
 
 -- The parts of a slice as they are lent.
 pub front : (s : List ℕ) (at : ℕ) → take (at - 0) (drop 0 s) ≡ take at s
@@ -32,52 +36,81 @@ told-either s at p No h f g = either
     either (inl e) = f (front s at ∙ e)
     either (inr e) = g (behind s at h ∙ e)
 
-module _ (s p : List ℕ) where
-  -- What stands behind the number.
-  plans-behind : {n next : ℕ} (h : NumberStands s 0 n next) → drop next s ≡ h .stands .rest
-  plans-behind {n} {next} h =
-      let e = h .ends in
-      ap (drop next) (h .stands .there) ∙ drop-at (bytesOf n) (h .stands .rest) next (omega arith)
+-- What stands behind the number.
+plans-behind : (s : List ℕ) {n next : ℕ} (h : NumberStands s 0 n next) → drop next s ≡ h .stands .rest
+plans-behind s {n} {next} h =
+    let e = h .ends in
+    ap (drop next) (h .stands .there) ∙ drop-at (bytesOf n) (h .stands .rest) next (omega arith)
 
-  -- A plan in one of the parts is known.
-  pub parts-known : {n next : ℕ} → NumberStands s 0 n next → n ≤ length (drop next s) → KnownParts (drop next s) n p → Known s p
-  parts-known {n} {next} h room is =
-      let size = length-take-le n (drop next s) room in
-      record {
-        first = take n (drop next s);
-        other = drop n (drop next s);
-        kept =
-            record {
-              size = omega (arith, h .word);
-              whole = h .stands .there ∙ rw (size, take-append-drop, plans-behind h);
-            };
-        is = is;
-      }
+-- The number in front says where the first plan ends.
+pub kept-parts : (s : List ℕ) {n next : ℕ} → NumberStands s 0 n next → n ≤ length (drop next s) → Kept s (take n (drop next s)) (drop n (drop next s))
+kept-parts s {n} {next} h room =
+    let size = length-take-le n (drop next s) room in
+    record {
+      size = omega (arith, h .word);
+      whole = h .stands .there ∙ rw (size, take-append-drop, plans-behind s h);
+    }
 
-  -- The number that was read is the one that was kept.
-  pub known-parts : {n next : ℕ} → NumberStands s 0 n next → Known s p
-      → (next ≤ length s) × (n ≤ length (drop next s)) × KnownParts (drop next s) n p
-  known-parts {n} {next} h k =
-      let m = length (k .first) in
-      let again : NumberStands s 0 m (0 + length (bytesOf m)) =
-      record { word = k .kept .size; stands = record { rest = k .first ++ k .other; there = k .kept .whole }; ends = refl } in
-      let one = read-number-one-answer s 0 (number.Value n next) (number.Value m (0 + length (bytesOf m))) h again in
-      let n-is : n ≡ m = cc in
-      let next-is : next ≡ 0 + length (bytesOf m) = cc in
-      let rest-is : drop next s ≡ k .first ++ k .other = rw next-is (plans-behind again) in
-      let l = ap length (k .kept .whole) ∙ length-append (bytesOf m) (k .first ++ k .other) in
-      let l′ = ap length rest-is ∙ length-append (k .first) (k .other) in
-      (omega arith, omega arith, in-parts n-is rest-is (k .is))
-    where
-      in-parts : n ≡ length (k .first) → drop next s ≡ k .first ++ k .other → (k .first ≡ p) ⊎ (k .other ≡ p) → KnownParts (drop next s) n p
-      in-parts e r (inl i) = inl (ap (take n) r ∙ take-at (k .first) (k .other) n (sym e) ∙ i)
-      in-parts e r (inr i) = inr (ap (drop n) r ∙ drop-at (k .first) (k .other) n (sym e) ∙ i)
+-- The number of what was kept.
+kept-number : {s f o : List ℕ} → Kept s f o → NumberStands s 0 (length f) (0 + length (bytesOf (length f)))
+kept-number {f = f} {o = o} k =
+    record { word = k .size; stands = record { rest = f ++ o; there = k .whole }; ends = refl }
 
-  -- Where there is no number, nothing is known.
-  pub none-known : (k : ℕ) → NoNumber s 0 k → Known s p → ⊥
-  none-known k f h = word-not-refused s 0 (length (h .first)) k (h .kept .size) (record { rest = h .first ++ h .other; there = h .kept .whole }) f
+-- The number that was read is the one that was kept.
+pub kept-behind : (s f o : List ℕ) {n next : ℕ} → NumberStands s 0 n next → Kept s f o
+    → (next ≤ length s) × (n ≡ length f) × (drop next s ≡ f ++ o)
+kept-behind s f o {n} {next} h k =
+    let m = length f in
+    let again : NumberStands s 0 m (0 + length (bytesOf m)) = record { word = k .size; stands = record { rest = f ++ o; there = k .whole }; ends = refl } in
+    let one = read-number-one-answer s 0 (number.Value n next) (number.Value m (0 + length (bytesOf m))) h again in
+    let n-is : n ≡ m = cc in
+    let next-is : next ≡ 0 + length (bytesOf m) = cc in
+    let l = ap length (k .whole) ∙ length-append (bytesOf m) (f ++ o) in
+    (omega arith, n-is, rw next-is (plans-behind s again))
 
-  -- The parts tell.
-  pub told-parts : {n next : ℕ} (r : Holds) → NumberStands s 0 n next → n ≤ length (drop next s) → Tells (KnownParts (drop next s) n p) r → Tells (Known s p) r
-  told-parts Yes h room i = parts-known h room i
-  told-parts No h room f = λ k. f (known-parts h k .2)
+-- Where there is no number, or fewer bytes than it says, nothing was kept.
+pub none-kept : (s : List ℕ) (k : ℕ) → NoNumber s 0 k → (f o : List ℕ) → Kept s f o → ⊥
+none-kept s k none f o h = word-not-refused s 0 (length f) k (h .size) (record { rest = f ++ o; there = h .whole }) none
+
+pub cut-kept : (s : List ℕ) {n next : ℕ} → NumberStands s 0 n next → (length s < next) ⊎ (length s - next < n) → (f o : List ℕ) → Kept s f o → ⊥
+cut-kept s {n} {next} h (inl less) f o k = let b = kept-behind s f o h k in omega (arith, b .0)
+cut-kept s {n} {next} h (inr less) f o k =
+    let b = kept-behind s f o h k in
+    let l = ap length (b .2) ∙ length-append f o in
+    omega (arith, b .0, b .1, length-drop next s)
+
+-- The two plans that were kept are the only ones.
+kept-once : (s f o g p : List ℕ) → Kept s f o → Kept s g p → (g ≡ f) × (p ≡ o)
+kept-once s f o g p k h =
+    let b = kept-behind s g p (kept-number k) h in
+    let c = kept-behind s f o (kept-number k) k in
+    let both : f ++ o ≡ g ++ p = sym (c .2) ∙ b .2 in (
+      sym (take-at g p (length f) (sym (b .1))) ∙ ap (take (length f)) (sym both) ∙ take-at f o (length f) refl,
+      sym (drop-at g p (length f) (sym (b .1))) ∙ ap (drop (length f)) (sym both) ∙ drop-at f o (length f) refl,
+    )
+
+-- What the two plans tell.
+pub told-known : (s f o p : List ℕ) (r : Holds) → Kept s f o → Tells ((f ≡ p) ⊎ (o ≡ p)) r → Tells (Known s p) r
+told-known s f o p Yes k i = record { first = f; other = o; kept = k; is = i }
+told-known s f o p No k neither = λ h. let e = kept-once s f o (h .first) (h .other) k (h .kept) in neither (rw (e .0, e .1) at (h .is))
+
+pub told-copy : (s f o : List ℕ) (r : Holds) → Kept s f o → Tells (PlanFile f × ((o ≡ []) ⊎ PlanFile o)) r → Tells (Copy s) r
+told-copy s f o Yes k i = record { first = f; other = o; kept = k; plan = i .0; rest = i .1 }
+told-copy s f o No k others = λ h.
+    let e = kept-once s f o (h .first) (h .other) k (h .kept) in
+    others (rw (e .0) at (h .plan), rw (e .1) at (h .rest))
+
+-- There is room for every table, so whatever is refused is no plan file.
+pub refused-no-plan : (s : List ℕ) (room k p : ℕ) → maxTableWords ≤ room → PlanUnread s room k p → PlanFile s → ⊥
+refused-no-plan s room k p h (inl f) (t, file) = file-no-fault file f
+refused-no-plan s room k p h (inr x) (t, file) = omega (arith, x .2 .long, table-words-at-most .1 (x .2 .table) (x .2 .file .complete))
+
+-- Where a plan file stands in front, what is behind it tells.
+pub told-plans : (s : List ℕ) (at : ℕ) (r : Holds) → at ≤ length s → (at ≡ length s → ⊥)
+    → PlanFile (take (at - 0) (drop 0 s)) → Tells (PlanFile (take (length s - at) (drop at s))) r → Tells (PlanParts s at) r
+told-plans s at Yes h more f i = (rw (front s at) at f, inr (rw (behind s at h) at i))
+told-plans s at No h more f none = λ x. either (x .1)
+  where
+    either : (drop at s ≡ []) ⊎ PlanFile (drop at s) → ⊥
+    either (inl e) = let l = ap length e in more (omega (arith, length-drop at s))
+    either (inr i) = none (rw (behind s at h) i)

@@ -1,10 +1,14 @@
 -- What was last seen of a plan.
 use Prim.Native.Nat.{ℕ, _≤_}
 use mathlib.Core.Path.{_≡_}
-use mathlib.Core.List.{List, _++_}
+use mathlib.Core.List.{List, [], _++_}
 use mathlib.Core.Logic.{_⊎_}
 use lib.ListN.{length, take, drop}
 use Rattle.numbers.specs.Number.{maxWord, bytesOf}
+use Rattle.table.specs.Layout.{Sized}
+use Rattle.files.specs.Reading.{IsFile}
+use Rattle.seen.specs.declared.Parts.{Parts}
+use Rattle.seen.specs.declared.Parts.the-variants as parts
 
 -- What was seen is how many bytes the first plan has, as a number, then that plan, then the other one or nothing.
 pub record Kept (s first other : List ℕ) : Type 0 where
@@ -21,3 +25,24 @@ pub record Known (s p : List ℕ) : Type 0 where
 -- Of two plans one behind the other, the first of which has so many bytes, p is the one or the other.
 abbrev pub KnownParts : List ℕ → ℕ → List ℕ → Type 0
 KnownParts s at p = (take at s ≡ p) ⊎ (drop at s ≡ p)
+
+-- p is a plan file.
+abbrev pub PlanFile : List ℕ → Type 0
+PlanFile p = (t : List ℕ) × IsFile Sized p t
+
+-- s is what is kept beside a cursor: the first plan is a plan file, and the other is one or nothing.
+pub record Copy (s : List ℕ) : Type 0 where
+  pub first : List ℕ
+  pub other : List ℕ
+  pub kept : Kept s first other
+  pub plan : PlanFile first
+  pub rest : (other ≡ []) ⊎ PlanFile other
+
+-- Of two plans one behind the other, the first of which has so many bytes, that is a plan file, and the other is one or nothing.
+abbrev pub PlanParts : List ℕ → ℕ → Type 0
+PlanParts s at = PlanFile (take at s) × ((drop at s ≡ []) ⊎ PlanFile (drop at s))
+
+-- Where the first plan begins in s and how many bytes it has; or s is nothing that was seen.
+abbrev pub Splits : List ℕ → Parts → Type 0
+Splits s (parts.At next n) = (next ≤ length s) × (n ≤ length (drop next s)) × Kept s (take n (drop next s)) (drop n (drop next s))
+Splits s parts.Nowhere = (first other : List ℕ) → Kept s first other → ⊥

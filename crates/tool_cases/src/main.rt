@@ -1,4 +1,4 @@
-// Reads decimal digits around every limit, and compares byte strings and copies of plans, and prints each answer.
+// Reads decimal digits around every limit, compares byte strings and copies of plans, tells copies from other bytes, and prints each answer.
 use basics::Holds;
 use decimal::Decimal;
 
@@ -133,6 +133,37 @@ fn none_known() {
     known(b"\xFF\xFF\xFF\xFF\x1Fnew", b"new");
 }
 
+fn copy(seen: &[u8]) {
+    show::text(b"copy ");
+    show::bytes(seen);
+    show::text(b"      ");
+    holds(seen::is_copy(seen));
+}
+
+// The empty plan at revision 0 and at revision 9, and a plan of one link.
+fn all_copies() {
+    copy(b"\x05\x00\x00\x00\x00\x00");
+    copy(b"\x05\x09\x00\x00\x00\x00\x00\x00\x00\x00\x00");
+    copy(b"\x09\x00\x01\x00\x00\x00\x00\x01\x08\x00\x00\x00\x00\x00\x00");
+    copy(b"\x05\x00\x00\x00\x00\x00\x00\x01\x00\x00\x00\x00\x01\x08\x00");
+}
+
+fn no_copies() {
+    copy(b"");
+    copy(b"\x00");
+    copy(b"\x80");
+    copy(b"\x00\x00\x00\x00\x00\x00");
+    copy(b"\x04\x00\x00\x00\x00");
+    copy(b"\x06\x00\x00\x00\x00\x00");
+    copy(b"\x06\x00\x00\x00\x00\x00\x00");
+    copy(b"\x05\x00\x00\x00\x00\x00\x00");
+    copy(b"\x05\x00\x00\x00\x00\x00\x09\x00\x00\x00\x00\x00");
+    copy(b"\x05\x00\x01\x00\x00\x00\x00\x01\x08\x00");
+    copy(b"\x85\x00\x00\x00\x00\x00\x00");
+    copy(b"\x04note");
+    copy(b"\x23!/bin/sh\x0Aecho what a script says here");
+}
+
 fn main() {
     values();
     too_large();
@@ -140,4 +171,6 @@ fn main() {
     all_same();
     all_known();
     none_known();
+    all_copies();
+    no_copies();
 }

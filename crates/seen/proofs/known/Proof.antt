@@ -1,80 +1,54 @@
--- `seen::known` meets its contract: the number in front says where the first plan ends. Assumes nothing.
-use Prim.Native.Nat.{ℕ, _≤_}
-use mathlib.Core.Path.{_≡_, ap}
-use lib.ListN.{length, drop}
-use native.Mathlib.Omega.{arith}
+-- `seen::known` meets its contract: there is one way to split what was seen, and its parts tell. Assumes nothing.
 use borrow.Author.Needs.{needs}
-use Rattle.numbers.specs.Calls.{NumberStands}
-use Rattle.seen.proofs.Laws.{behind, known-parts, none-known, told-parts}
+use Rattle.seen.specs.Seen.{Splits}
+use Rattle.seen.specs.declared.Parts.the-variants as parts
+use Rattle.seen.proofs.Laws.{behind, told-known}
 use Rattle.seen.proofs.known.Statement.{statement}
 use Rattle.seen.proofs.known.Tie as tie
 
--- The number that was read.
-stands : (c : tie.After-read) → NumberStands (c .before .before .before .before .before .args .seen .now) 0 (c .read .given .0 .0) (c .read .given .0 .1 .0)
-stands c = rw (c .read .given .1) at (c .before .before .read-number .ensures)
+-- Where the first plan stands.
+stands : (c : tie.After-parts) → Splits (c .before .before .before .before .before .args .seen .now) (parts.At (c .parts .given .0 .0) (c .parts .given .0 .1 .0))
+stands c = rw (c .parts .given .1) at (c .before .before .split .ensures)
 
-read-number-requires : tie.Need-read-number-requires
-read-number-requires c κs = search needs
+split-requires : tie.Need-split-requires
+split-requires c κs = search needs
 
 enum-told : tie.Need-enum-told
 enum-told c = search needs
 
-enum-known-read : tie.Need-enum-known-read
-enum-known-read c = search needs
+enum-known-parts : tie.Need-enum-known-parts
+enum-known-parts c = search needs
 
-returns : tie.Need-returns
-returns c = λ k. let p = known-parts _ _ (stands (c .before .before)) k in let p0 = p .0 in omega arith
+sub-known-part : tie.Need-sub-known-part
+sub-known-part c = stands (c .before) .0
 
-sub-plans : tie.Need-sub-plans
-sub-plans c = search needs
+part-known-part-start : tie.Need-part-known-part-start
+part-known-part-start c = stands (c .before) .0
 
-part-plans-start : tie.Need-part-plans-start
-part-plans-start c = search needs
-
-part-plans-end : tie.Need-part-plans-end
-part-plans-end c = search needs
-
-wide-requires : tie.Need-wide-requires
-wide-requires c κs = search needs
-
-returns-2 : tie.Need-returns-2
-returns-2 c = λ k.
-    let w = c .before .before .before .before .before in
-    let s = w .before .before .before .before .before .args .seen .now in
-    let p = known-parts _ _ (stands w) k in
-    let p0 = p .0 in
-    let p1 = p .1 in
-    let b = ap length (behind s (w .read .given .0 .1 .0) (omega arith)) in
-    omega arith
+part-known-part-end : tie.Need-part-known-part-end
+part-known-part-end c = search needs
 
 known-part-requires : tie.Need-known-part-requires
-known-part-requires c κs = search needs
+known-part-requires c κs = let p = stands (c .before .before) in rw (behind _ _ (p .0)) (p .1)
 
-returns-3 : tie.Need-returns-3
-returns-3 c = let r = rw (c .enum-told .given .1) at (c .before .before .read-number .ensures) in none-known _ _ _ (r .1)
+returns : tie.Need-returns
+returns c = λ k. let none = rw (c .enum-told .given .1) at (c .before .before .split .ensures) in none (k .first) (k .other) (k .kept)
 
-returns-4 : tie.Need-returns-4
-returns-4 c =
-    let w = c .before .before .before .before .before .before in
-    let s = w .before .before .before .before .before .args .seen .now in
-    let b = behind s (w .read .given .0 .1 .0) (omega arith) in
-    let l = ap length b in
-    let e = c .before .before .wide .ensures in
-    told-parts _ _ (c .known-part .result) (stands w) (omega arith) (rw (b, e) at (c .known-part .ensures))
+returns-2 : tie.Need-returns-2
+returns-2 c =
+    let p = stands (c .before .before .before) in
+    told-known _ _ _ _ (c .known-part .result) (p .2) (rw (behind _ _ (p .0)) at (c .known-part .ensures))
 
 pub known-spec : {M : Type 1} → statement M
 known-spec =
     tie.close
     (tie.spec
-    read-number-requires
+    split-requires
     enum-told
-    enum-known-read
-    returns
-    sub-plans
-    part-plans-start
-    part-plans-end
-    wide-requires
-    returns-2
+    enum-known-parts
+    sub-known-part
+    part-known-part-start
+    part-known-part-end
     known-part-requires
-    returns-3
-    returns-4)
+    returns
+    returns-2)

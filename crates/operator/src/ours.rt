@@ -1,0 +1,150 @@
+// What a start may replace: a saved cursor and a copy that are ours. Any other file of such a name is left as it is, and standard error says so.
+use crate::answers;
+use crate::saved;
+use crate::saved::Saved;
+use basics::Holds;
+use checker::SliceAnswer;
+use durable::FileRead;
+use files::Cursor;
+
+// What stands where a start makes its files: nothing that would be lost, the cursor of a check that has begun, or a file that is not ours.
+pub(crate) enum Standing {
+    Free,
+    Begun(Cursor),
+    NotOurs,
+}
+
+// What stands beside a cursor: nothing, a copy, or a file that is none.
+enum Beside {
+    Nothing,
+    Copy,
+    NotOurs,
+}
+
+fn left_as_it_is() {
+    answers::say(
+        b". It was left as it is: give the cursor another name, or remove this file by hand\n",
+    );
+}
+
+pub(crate) fn no_cursor(path: &[u8]) {
+    answers::say(path);
+    answers::say(b" is no saved cursor");
+    left_as_it_is();
+}
+
+fn no_copy(path: &[u8]) {
+    answers::say(path);
+    answers::say(b".seen is no copy of a plan as it is kept beside a cursor");
+    left_as_it_is();
+}
+
+// Three bytes of any text have the form of a saved cursor.
+fn perhaps_no_cursor(path: &[u8]) {
+    answers::say(path);
+    answers::say(
+        b" may be no saved cursor: as one it is of another plan or revision, and there is no ",
+    );
+    answers::say(path);
+    answers::say(b".seen");
+    left_as_it_is();
+}
+
+// Whether bytes, of which the first n were read, are a copy. Where they are none, that is said.
+pub(crate) fn is_copy(path: &[u8], bytes: &[u8], n: usize) -> bool {
+    if bytes.len() < n {
+        return false;
+    }
+    let told = seen::is_copy(&bytes[0..n]);
+    match told {
+        Holds::Yes => true,
+        Holds::No => {
+            no_copy(path);
+            false
+        }
+    }
+}
+
+fn copy_beside(path: &[u8]) -> Beside {
+    let mut bytes = [0u8; saved::SEEN_ROOM];
+    let read = saved::seen_file(path, &mut bytes);
+    match read {
+        FileRead::Missing => Beside::Nothing,
+        FileRead::Failed => Beside::NotOurs,
+        FileRead::Bytes(n) => {
+            if is_copy(path, &bytes, n) {
+                return Beside::Copy;
+            }
+            Beside::NotOurs
+        }
+    }
+}
+
+fn is_first(c: Cursor) -> bool {
+    if c.leg == 0 {
+        return c.place == 0;
+    }
+    false
+}
+
+// Whether the proved call goes on with a cursor.
+fn is_of(t: &[u32], c: Cursor) -> bool {
+    let told = checker::slice(t, c, 0);
+    match told {
+        SliceAnswer::Refused(_, _, _) => false,
+        SliceAnswer::Violated(_, _, _) => true,
+        SliceAnswer::NothingViolated(_, _) => true,
+        SliceAnswer::Paused(_, _) => true,
+    }
+}
+
+// A cursor at the first place has nothing to lose.
+fn of_cursor(c: Cursor) -> Standing {
+    if is_first(c) {
+        return Standing::Free;
+    }
+    Standing::Begun(c)
+}
+
+fn of_unseen_cursor(path: &[u8], t: &[u32], c: Cursor) -> Standing {
+    if is_first(c) {
+        return Standing::Free;
+    }
+    if is_of(t, c) {
+        return Standing::Begun(c);
+    }
+    perhaps_no_cursor(path);
+    Standing::NotOurs
+}
+
+fn with_cursor(path: &[u8], t: &[u32], c: Cursor) -> Standing {
+    let copy = copy_beside(path);
+    match copy {
+        Beside::Nothing => of_unseen_cursor(path, t, c),
+        Beside::Copy => of_cursor(c),
+        Beside::NotOurs => Standing::NotOurs,
+    }
+}
+
+fn without_cursor(path: &[u8]) -> Standing {
+    let copy = copy_beside(path);
+    match copy {
+        Beside::Nothing => Standing::Free,
+        Beside::Copy => Standing::Free,
+        Beside::NotOurs => Standing::NotOurs,
+    }
+}
+
+// What stands where a start of a table makes its files.
+pub(crate) fn judged(path: &[u8], t: &[u32]) -> Standing {
+    let found = saved::found(path);
+    match found {
+        Saved::Missing => without_cursor(path),
+        Saved::At(c) => with_cursor(path, t, c),
+        Saved::Refused(_, _) => {
+            no_cursor(path);
+            Standing::NotOurs
+        }
+        Saved::Failed => Standing::NotOurs,
+    }
+}
