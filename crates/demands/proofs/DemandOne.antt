@@ -4,33 +4,36 @@ use Rattle.files.proofs.OneAnswer.{read-plan-one-answer, write-plan-one-answer,
 use Rattle.checker.proofs.OneAnswer.{start-one-answer, slice-one-answer, move-one-answer}
 use Rattle.host.proofs.OneAnswer.{host-start-one-answer, host-slice-one-answer, host-slice-full-one-answer, host-move-one-answer}
 use Rattle.host.proofs.Outcomes.{host-refusals-write-nothing}
-use Rattle.demands.specs.DemandOne.{DemandOne}
+use Rattle.demands.specs.DemandOne.{OneAnswerEach, RefusalsLoseNothing, DemandOne}
+
+pub one-answer-each : OneAnswerEach
+one-answer-each = record {
+  read-number = read-number-one-answer;
+  write-number = write-number-one-answer;
+  read-plan = read-plan-one-answer;
+  write-plan = write-plan-one-answer;
+  read-cursor = read-cursor-one-answer;
+  write-cursor = write-cursor-one-answer;
+  start = start-one-answer;
+  slice = slice-one-answer;
+  move-leg = move-one-answer;
+  host-start = host-start-one-answer;
+  host-slice = host-slice-one-answer;
+  host-slice-full = host-slice-full-one-answer;
+  host-move = host-move-one-answer;
+}
+
+pub refusals-lose-nothing : RefusalsLoseNothing
+refusals-lose-nothing = record {
+  write-number = λ x at k p b b′ w. w .kept;
+  read-plan = λ s b b′ k p w. w .1;
+  write-plan = λ t b b′ k p w. w .2;
+  write-cursor = λ c d b b′ k p w. (w .0 .kept, w .1);
+  start = λ t d k p w. w .1;
+  slice = λ t c d b k p w. w .1;
+  move-leg = λ t t′ c d leg offset k p w. (w .2, w .1);
+  host = host-refusals-write-nothing;
+}
 
 pub demand-one : DemandOne
-demand-one = record {
-  one-answer = record {
-    read-number = read-number-one-answer;
-    write-number = write-number-one-answer;
-    read-plan = read-plan-one-answer;
-    write-plan = write-plan-one-answer;
-    read-cursor = read-cursor-one-answer;
-    write-cursor = write-cursor-one-answer;
-    start = start-one-answer;
-    slice = slice-one-answer;
-    move-leg = move-one-answer;
-    host-start = host-start-one-answer;
-    host-slice = host-slice-one-answer;
-    host-slice-full = host-slice-full-one-answer;
-    host-move = host-move-one-answer;
-  };
-  nothing-lost = record {
-    write-number = λ x at k p b b′ w. w .kept;
-    read-plan = λ s b b′ k p w. w .1;
-    write-plan = λ t b b′ k p w. w .2;
-    write-cursor = λ c d b b′ k p w. (w .0 .kept, w .1);
-    start = λ t d k p w. w .1;
-    slice = λ t c d b k p w. w .1;
-    move-leg = λ t t′ c d leg offset k p w. (w .2, w .1);
-    host = host-refusals-write-nothing;
-  };
-}
+demand-one = record { one-answer = one-answer-each; nothing-lost = refusals-lose-nothing }

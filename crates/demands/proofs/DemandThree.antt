@@ -25,7 +25,7 @@ use Rattle.checker.specs.declared.SliceAnswer.{SliceAnswer}
 use Rattle.checker.specs.declared.SliceAnswer.the-variants as answer
 use Rattle.demands.specs.Verdicts.{Verdict, violated, nothing-violated, Gives, FirstViolated, RightVerdict}
 use Rattle.demands.specs.Runs.{Call, start, slice, move-leg, cursorOf, Run, Renews, notRefused, newest, Since, budgets, HasSlice, HasVerdict}
-use Rattle.demands.specs.DemandThree.{Sound, RunsAreSound, RunsEndInTime, RunsGoOn, DemandThree}
+use Rattle.demands.specs.DemandThree.{Sound, RunsAreSound, RunsEndInTime, RunsGoOn, RunsKeepShape, DemandThree}
 use Rattle.demands.proofs.Verdicts.{rules-keep-places, right-verdict}
 use Rattle.demands.proofs.DemandTwo.{start-right, start-rank, demand-two}
 use Rattle.demands.proofs.Runs.{Kept, run-keeps, right-moved}
@@ -219,5 +219,8 @@ runs-go-on = record {
   move-leg = λ calls t latest before leg offset k p d u r e below rises m. move-refused (subst (NewestRight t) e (newest-right calls t r)) below rises (m .0);
 }
 
+pub runs-keep-shape : RunsKeepShape
+runs-keep-shape calls t r = run-keeps calls t r .shape
+
 pub demand-three : DemandThree
-demand-three = record { sound = runs-are-sound; in-time = runs-end-in-time; go-on = runs-go-on; shape = λ calls t r. run-keeps calls t r .shape }
+demand-three = record { sound = runs-are-sound; in-time = runs-end-in-time; go-on = runs-go-on; shape = runs-keep-shape }
