@@ -39,6 +39,8 @@
  *   - A verdict comes in time. Take the slices since the last start or move, each given the cursor that the call
  *     before it left. If there is one, and their budgets add up to the number of places or more, one told a verdict.
  *   - Where out has 15 bytes, no start is refused, and no slice that is given the cursor which the call before it left.
+ *     Nor is a move of a leg of the plan with that cursor, where new_plan has plan_len + 5 bytes and the revision is
+ *     below 4,294,967,295.
  *
  * THE LIBRARY CANNOT SEE WHETHER THEY ARE KEPT. A cursor knows its plan by the revision alone. It is refused where that
  * is another one (8) or where the plan has no such place (9), and is believed otherwise. Take two plans of one revision
