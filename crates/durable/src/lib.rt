@@ -67,7 +67,7 @@ fn within(n: usize, buffer: &[u8]) -> usize
 // Internal: writes three parts, one after the other, beside a file, and brings them to the disk. What a run that was cut off left there goes.
 pub fn write_beside(path: &[u8], first: &[u8], second: &[u8], third: &[u8]) -> bool {
     let mut name = io::buffer();
-    let n = ended(path, b".new", &mut name);
+    let n = ended(path, b".conepalhui-new", &mut name);
     let beside = &name[..n];
     os::unlink(beside);
     let fd = os::create(beside);
@@ -102,7 +102,7 @@ fn write_parts(fd: i32, first: &[u8], second: &[u8], third: &[u8]) -> bool {
 // Internal: gives what was written beside a file its name, and brings the folder to the disk.
 pub fn put_in_place(path: &[u8]) -> bool {
     let mut name = io::buffer();
-    let n = ended(path, b".new", &mut name);
+    let n = ended(path, b".conepalhui-new", &mut name);
     if os::rename(&name[..n], path) < 0 {
         os::fail(path);
         return false;
