@@ -5,12 +5,14 @@ use mathlib.Core.List.{List, _∷_}
 use mathlib.Core.Logic.{inl, inr, ⊎-elim}
 use native.Mathlib.Omega.{arith}
 use Rattle.table.specs.Records.{moved}
-use Rattle.table.specs.PlanA.{planA}
+use Rattle.table.specs.PlanA.{offsetsA, planA}
+use Rattle.table.proofs.MovedPlans.{moved-0, moved-2}
 use Rattle.shape.specs.Shape.{WellFormedTable}
 use Rattle.shape.proofs.StreamLaws.{legs-none}
 use Rattle.files.specs.declared.Cursor.{Cursor}
-use Rattle.rules.specs.Places.{placeAt}
 use Rattle.rules.specs.declared.Rule.the-variants as rule
+use Rattle.rules.proofs.Placing.{hop-rule, overlap-rule}
+use Rattle.rules.proofs.CasePlaces.{meets-at-2-3, late-at-1-1}
 use Rattle.rules.proofs.AtNumbers.{starred-cases}
 use Rattle.places.specs.Order.{rank, PlaceOrEnd}
 use Rattle.places.proofs.Ranks.{below-none}
@@ -21,7 +23,7 @@ use Rattle.checker.specs.declared.SliceAnswer.the-variants as answer
 use Rattle.demands.specs.Runs.{slice, move-leg, Run}
 use Rattle.demands.specs.AtNumbers.{good, none, at, begun, RunsAtNumbers}
 use Rattle.demands.specs.CasesAsRuns.{pausedTwice, case11, case12, case13, CasesAsRuns}
-use Rattle.demands.proofs.PlanTables.{planTable, ranks, shape, here, right, granted, stays-at-end, pause, end, violate, on, moved-0, moved-2, accepted, before-2-3, meets-at-2-3, before-1-1, late-at-1-1}
+use Rattle.demands.proofs.PlanTables.{planTable, ranks, shape, here, right, granted, stays-at-end, pause, end, violate, on, accepted, before-2-3, before-1-1}
 
 -- The first slice of 5, wherever leg 2 is.
 begins : (o2 : ℕ) → o2 + 576 ≤ 150000 → Run begun (planTable 0 0 1176 o2)
@@ -59,11 +61,11 @@ move-ahead = (
 
 goes-on-ahead : (p b q : ℕ) → p < 4 → b < 3 → q < 3 + b → rank 1 p + 1 ≡ rank b q → rank b q ≤ 10 → Slices (moved good 2 700) (at 1 1 p) 1 (Paused (at 1 b q) 1)
 goes-on-ahead p b q k l h e le =
-    on (at 1 1 p) 1 (Paused (at 1 b q) 1) (moved-2 0 0 1176 576 700) (pause 1 0 1176 700 10 (before-2-3 1 700 (omega arith)) 1 p b q 1 (here 1 0 1176 700 1 p (omega arith) k) l h e le)
+    on (at 1 1 p) 1 (Paused (at 1 b q) 1) (moved-2 (offsetsA 0 1176 576) 700) (pause 1 0 1176 700 10 (before-2-3 1 700 (omega arith)) 1 p b q 1 (here 1 0 1176 700 1 p (omega arith) k) l h e le)
 
 stale-cursor : Slices (moved good 2 700) (at 0 1 2) 5 (answer.Refused 8 0 (at 0 1 2))
 stale-cursor =
-    on (at 0 1 2) 5 (answer.Refused 8 0 (at 0 1 2)) (moved-2 0 0 1176 576 700)
+    on (at 0 1 2) 5 (answer.Refused 8 0 (at 0 1 2)) (moved-2 (offsetsA 0 1176 576) 700)
     (inr (record { shape = shape 1 0 1176 700; at = refl; cause = inl (record { number = refl; other = λ e. absurd (omega (arith, e)) }) }), refl)
 
 -- A table with no record at all.
@@ -149,12 +151,10 @@ paused-twice = (
 )
 
 run-11 : Run case11 planA
-unfolding placeAt
 run-11 = (
   paused-twice,
   inl refl,
-  violate 0 0 1176 0 10 (before-2-3 0 0 (omega arith)) 2 3 2 3 0 5 rule.Overlap (here 0 0 1176 0 2 3 (omega arith) (omega arith)) (omega arith) (omega arith) (meets-at-2-3 0)
-      refl (omega arith) (omega (arith, ranks .2)) (omega arith),
+  violate 0 0 1176 0 10 (before-2-3 0 0 (omega arith)) 2 3 2 3 0 5 rule.Overlap (here 0 0 1176 0 2 3 (omega arith) (omega arith)) (omega arith) (omega arith) (meets-at-2-3 0) (overlap-rule 0) (omega arith) (omega (arith, ranks .2)) (omega arith),
 )
 
 run-12 : Run case12 (moved planA 2 576)
@@ -166,12 +166,11 @@ run-12 = (
     granted 0 0 1176 0 2 3 2 576 2 0 (omega arith) (here 0 0 1176 0 2 3 (omega arith) (omega arith)) (omega arith) (inr (refl, refl)) (omega arith) (omega arith),
   ),
   inl refl,
-  on (at 1 2 0) 5 (NothingViolated (at 1 3 0) 5) (moved-2 0 0 1176 0 576)
+  on (at 1 2 0) 5 (NothingViolated (at 1 3 0) 5) (moved-2 (offsetsA 0 1176 0) 576)
       (end 1 0 1176 576 12 (accepted 1) 2 0 5 (here 1 0 1176 576 2 0 (omega arith) (omega arith)) (omega (arith, ranks .2, ranks .3)) (omega (arith, ranks .3))),
 )
 
 run-13 : Run case13 (moved planA 0 600)
-unfolding placeAt
 run-13 = (
   (
     planA,
@@ -181,8 +180,8 @@ run-13 = (
         (omega arith),
   ),
   inl refl,
-  on (at 1 0 0) 5 (Violated (at 1 1 1) 5 rule.Hop) (moved-0 0 0 1176 0 600)
-      (violate 1 600 1176 0 4 (before-1-1 1 0) 0 0 1 1 4 5 rule.Hop (here 1 600 1176 0 0 0 (omega arith) (omega arith)) (omega arith) (omega arith) (late-at-1-1 1 0) refl
+  on (at 1 0 0) 5 (Violated (at 1 1 1) 5 rule.Hop) (moved-0 (offsetsA 0 1176 0) 600)
+      (violate 1 600 1176 0 4 (before-1-1 1) 0 0 1 1 4 5 rule.Hop (here 1 600 1176 0 0 0 (omega arith) (omega arith)) (omega arith) (omega arith) (late-at-1-1 1) hop-rule
       (omega (arith, ranks .0, ranks .1)) (omega (arith, ranks .1)) (omega arith)),
 )
 
@@ -198,9 +197,9 @@ cases-as-runs = record {
     granted 0 0 1176 576 1 2 1 1200 1 0 (omega arith) (at-1-2 576) (omega arith) (inr (refl, refl)) (omega arith) (omega arith),
   );
   started-again = (
-    (run-12, subst (λ (t : List ℕ). Starts t (Granted (at 1 0 0))) (moved-2 0 0 1176 0 576) (shape 1 0 1176 576, refl)),
+    (run-12, subst (λ (t : List ℕ). Starts t (Granted (at 1 0 0))) (sym (moved-2 (offsetsA 0 1176 0) 576)) (shape 1 0 1176 576, refl)),
     inl refl,
-    on (at 1 0 0) 12 (NothingViolated (at 1 3 0) 12) (moved-2 0 0 1176 0 576)
+    on (at 1 0 0) 12 (NothingViolated (at 1 3 0) 12) (moved-2 (offsetsA 0 1176 0) 576)
         (end 1 0 1176 576 12 (accepted 1) 0 0 12 (here 1 0 1176 576 0 0 (omega arith) (omega arith)) (omega (arith, ranks .0, ranks .3)) (omega (arith, ranks .3))),
   );
 }

@@ -5,18 +5,23 @@ use mathlib.Core.List.{List, [], _∷_, _++_}
 use mathlib.Core.Logic.{inl, inr, ⊎-elim}
 use lib.ListN.{length, getD}
 use native.Mathlib.Omega.{arith}
-use Rattle.numbers.specs.Number.{maxWord, groupsOf, bytesOf}
+use Rattle.numbers.specs.Number.{maxWord}
 use Rattle.numbers.specs.Series.{AllWords, fileOf, overlaid}
+use Rattle.numbers.proofs.Computed.{fileBytes, file-is}
+use Rattle.numbers.proofs.Overlay.{overlaid-front}
 use Rattle.table.specs.Layout.{Sized}
 use Rattle.table.specs.Records.{moved}
-use Rattle.table.specs.PlanA.{planA}
+use Rattle.table.specs.PlanA.{offsetsA, planA}
+use Rattle.table.proofs.MovedPlans.{moved-2}
 use Rattle.files.specs.Reading.{IsFile}
 use Rattle.files.specs.Cursors.{ReadsCursor}
-use Rattle.files.specs.Theorems.{maxCursorBytes}
+use Rattle.files.specs.Theorems.{maxCursorBytes, planAFile}
 use Rattle.files.specs.declared.Cursor.{Cursor}
 use Rattle.files.specs.declared.CursorRead.the-variants as read
-use Rattle.rules.specs.Places.{placeAt}
+use Rattle.files.proofs.AtNumbers.{plan-a-file}
 use Rattle.rules.specs.declared.Rule.the-variants as rule
+use Rattle.rules.proofs.Placing.{overlap-rule}
+use Rattle.rules.proofs.CasePlaces.{meets-at-2-3}
 use Rattle.checker.specs.Slices.{Slices}
 use Rattle.checker.specs.declared.Grant.the-variants.{Granted}
 use Rattle.checker.specs.declared.SliceAnswer.{SliceAnswer}
@@ -25,8 +30,8 @@ use Rattle.host.specs.Answers.{answered, sliceAnswered, bytesAfterSlice, withCu
 use Rattle.host.specs.Calls.{lent}
 use Rattle.demands.specs.HostRuns.{upToClosing, savedIn, NotRefused, StartMade, SliceMade, MoveDone, HostRun}
 use Rattle.demands.specs.AtNumbers.{at}
-use Rattle.demands.specs.HostAtNumbers.{fileA, movedFile, zeros, saved, left, violatedInC, HostRunsAtNumbers}
-use Rattle.demands.proofs.PlanTables.{planTable, ranks, shape, here, granted, stays-at-end, pause, end, violate, on, moved-2, accepted, before-2-3, meets-at-2-3}
+use Rattle.demands.specs.HostAtNumbers.{movedFile, zeros, saved, left, violatedInC, HostRunsAtNumbers}
+use Rattle.demands.proofs.PlanTables.{planTable, ranks, shape, here, granted, stays-at-end, pause, end, violate, on, accepted, before-2-3}
 
 -- Small numbers are words.
 abbrev total : List ℕ → ℕ
@@ -37,18 +42,20 @@ small-words : (ws : List ℕ) → total ws ≤ maxWord → AllWords ws
 small-words [] h = tt
 small-words (w ∷ ws) h = (omega arith, small-words ws (omega arith))
 
-file-a : IsFile Sized fileA planA
-unfolding fileOf bytesOf groupsOf
-file-a = record { complete = shape 0 0 1176 0 .sized; words = small-words planA (omega arith); bytes = refl }
+file-a : IsFile Sized planAFile planA
+file-a = record { complete = shape 0 0 1176 0 .sized; words = small-words planA (omega arith); bytes = sym plan-a-file }
+
+-- Plan A with leg 2 moved to 576.
+move-2 : moved planA 2 576 ≡ planTable 1 0 1176 576
+move-2 = moved-2 (offsetsA 0 1176 0) 576
 
 moved-bytes : movedFile ≡ fileOf (moved planA 2 576)
-unfolding moved fileOf bytesOf groupsOf
-moved-bytes = refl
+moved-bytes = sym (ap fileOf move-2 ∙ file-is (planTable 1 0 1176 576))
 
 file-moved : IsFile Sized movedFile (moved planA 2 576)
 file-moved = record {
-  complete = subst Sized (moved-2 0 0 1176 0 576) (shape 1 0 1176 576 .sized);
-  words = subst AllWords (moved-2 0 0 1176 0 576) (small-words (planTable 1 0 1176 576) (omega arith));
+  complete = subst Sized (sym move-2) (shape 1 0 1176 576 .sized);
+  words = subst AllWords (sym move-2) (small-words (planTable 1 0 1176 576) (omega arith));
   bytes = moved-bytes;
 }
 
@@ -58,31 +65,41 @@ record SavedSo (r l p : ℕ) : Type 0 where
   written : left r l p ≡ withCursor (zeros 15) (at r l p)
   found : saved r l p ≡ savedIn (left r l p)
 
+-- So it is where the bytes of its three numbers are these numbers.
+saved-so : (r l p : ℕ) → fileBytes (saved r l p) ≡ saved r l p → r + l + p ≤ maxWord → saved r l p ≡ savedIn (left r l p) → SavedSo r l p
+saved-so r l p e small found =
+    let bytes : fileOf (saved r l p) ≡ saved r l p = file-is (saved r l p) ∙ e in
+    record {
+      reads = record { complete = refl; words = small-words (saved r l p) (omega arith); bytes = sym bytes };
+      written = sym (ap (overlaid (zeros 15) 0) bytes ∙ overlaid-front (zeros 15) (saved r l p));
+      found = found;
+    }
+
 at-start : SavedSo 0 0 0
-unfolding fileOf bytesOf groupsOf overlaid upToClosing
-at-start = record { reads = record { complete = refl; words = small-words (saved 0 0 0) (omega arith); bytes = refl }; written = refl; found = refl }
+unfolding upToClosing
+at-start = saved-so 0 0 0 refl (omega arith) refl
 
 at-2-3 : SavedSo 0 2 3
-unfolding fileOf bytesOf groupsOf overlaid upToClosing
-at-2-3 = record { reads = record { complete = refl; words = small-words (saved 0 2 3) (omega arith); bytes = refl }; written = refl; found = refl }
+unfolding upToClosing
+at-2-3 = saved-so 0 2 3 refl (omega arith) refl
 
 after-move : SavedSo 1 2 0
-unfolding fileOf bytesOf groupsOf overlaid upToClosing
-after-move = record { reads = record { complete = refl; words = small-words (saved 1 2 0) (omega arith); bytes = refl }; written = refl; found = refl }
+unfolding upToClosing
+after-move = saved-so 1 2 0 refl (omega arith) refl
 
 at-end : SavedSo 0 3 0
-unfolding fileOf bytesOf groupsOf overlaid upToClosing
-at-end = record { reads = record { complete = refl; words = small-words (saved 0 3 0) (omega arith); bytes = refl }; written = refl; found = refl }
+unfolding upToClosing
+at-end = saved-so 0 3 0 refl (omega arith) refl
 
 at-new-end : SavedSo 1 3 0
-unfolding fileOf bytesOf groupsOf overlaid upToClosing
-at-new-end = record { reads = record { complete = refl; words = small-words (saved 1 3 0) (omega arith); bytes = refl }; written = refl; found = refl }
+unfolding upToClosing
+at-new-end = saved-so 1 3 0 refl (omega arith) refl
 
 room : maxCursorBytes ≤ length (zeros 15)
 room = let n : length (zeros 15) ≡ 15 = refl in omega (arith, n)
 
 -- The calls, one by one.
-start-made : StartMade fileA (answered 0 12) (left 0 0 0)
+start-made : StartMade planAFile (answered 0 12) (left 0 0 0)
 start-made = record {
   out = zeros 15;
   starts = inr (
@@ -104,26 +121,24 @@ slice-made plan t cursor c budget r out f g s n e = record {
   not-refused = n;
 }
 
-pauses : SliceMade fileA (saved 0 0 0) 10 (answered 1 10) (left 0 2 3)
+pauses : SliceMade planAFile (saved 0 0 0) 10 (answered 1 10) (left 0 2 3)
 pauses =
-    slice-made fileA planA (saved 0 0 0) (at 0 0 0) 10 (Paused (at 0 2 3) 10) (left 0 2 3) file-a (at-start .reads)
+    slice-made planAFile planA (saved 0 0 0) (at 0 0 0) 10 (Paused (at 0 2 3) 10) (left 0 2 3) file-a (at-start .reads)
     (pause 0 0 1176 0 10 (before-2-3 0 0 (omega arith)) 0 0 2 3 10 (here 0 0 1176 0 0 0 (omega arith) (omega arith)) (omega arith) (omega arith)
     (omega (arith, ranks .0, ranks .2)) (omega (arith, ranks .2)))
     (omega arith) (at-2-3 .written)
 
-violates : SliceMade fileA (saved 0 2 3) 5 (answered 5 1) (left 0 2 3)
-unfolding placeAt
+violates : SliceMade planAFile (saved 0 2 3) 5 (answered 5 1) (left 0 2 3)
 violates =
-    slice-made fileA planA (saved 0 2 3) (at 0 2 3) 5 (Violated (at 0 2 3) 1 rule.Overlap) (left 0 2 3) file-a (at-2-3 .reads)
+    slice-made planAFile planA (saved 0 2 3) (at 0 2 3) 5 (Violated (at 0 2 3) 1 rule.Overlap) (left 0 2 3) file-a (at-2-3 .reads)
     (violate 0 0 1176 0 10 (before-2-3 0 0 (omega arith)) 2 3 2 3 0 5 rule.Overlap (here 0 0 1176 0 2 3 (omega arith) (omega arith)) (omega arith) (omega arith)
-    (meets-at-2-3 0) refl (omega arith) (omega (arith, ranks .2)) (omega arith))
+    (meets-at-2-3 0) (overlap-rule 0) (omega arith) (omega (arith, ranks .2)) (omega arith))
     (omega arith) (at-2-3 .written)
 
 laid : movedFile ++ zeros 4 ≡ overlaid (zeros 46) 0 movedFile
-unfolding overlaid
-laid = refl
+laid = sym (overlaid-front (zeros 46) movedFile)
 
-moves : MoveDone fileA (saved 0 2 3) 2 576 (answered 0 42) (lent (movedFile ++ zeros 4) (left 1 2 0)) movedFile
+moves : MoveDone planAFile (saved 0 2 3) 2 576 (answered 0 42) (lent (movedFile ++ zeros 4) (left 1 2 0)) movedFile
 moves =
     let long : _≡_ {A = ℕ} 42 (length (fileOf (moved planA 2 576))) = ap length moved-bytes in
     let given : length (zeros 46) ≡ 46 = refl in
@@ -162,11 +177,11 @@ moves =
 accepts : SliceMade movedFile (saved 1 2 0) 5 (answered 0 5) (left 1 3 0)
 accepts =
     slice-made movedFile (moved planA 2 576) (saved 1 2 0) (at 1 2 0) 5 (NothingViolated (at 1 3 0) 5) (left 1 3 0) file-moved (after-move .reads)
-    (on (at 1 2 0) 5 (NothingViolated (at 1 3 0) 5) (moved-2 0 0 1176 0 576)
+    (on (at 1 2 0) 5 (NothingViolated (at 1 3 0) 5) move-2
     (end 1 0 1176 576 12 (accepted 1) 2 0 5 (here 1 0 1176 576 2 0 (omega arith) (omega arith)) (omega (arith, ranks .2, ranks .3)) (omega (arith, ranks .3))))
     (omega arith) (at-new-end .written)
 
-violates-in-c : HostRun violatedInC fileA
+violates-in-c : HostRun violatedInC planAFile
 violates-in-c = ((start-made, inl (at-start .found), pauses), inl (at-2-3 .found), violates)
 
 pub host-runs-at-numbers : HostRunsAtNumbers
@@ -179,10 +194,10 @@ host-runs-at-numbers = record {
     saved = subst (λ (s : List ℕ). ReadsCursor s (read.Saved (at 0 2 3))) (at-2-3 .found) (at-2-3 .reads);
     is = refl;
   });
-  accepts = ((fileA, violates-in-c, inl (at-2-3 .found), moves), inl (after-move .found), accepts);
+  accepts = ((planAFile, violates-in-c, inl (at-2-3 .found), moves), inl (after-move .found), accepts);
   tells-none = inl (refl, refl);
   altered =
-      slice-made fileA planA (saved 0 3 0) (at 0 3 0) 0 (NothingViolated (at 0 3 0) 0) (left 0 3 0) file-a (at-end .reads) (stays-at-end 0 0 1176 0) (omega arith)
+      slice-made planAFile planA (saved 0 3 0) (at 0 3 0) 0 (NothingViolated (at 0 3 0) 0) (left 0 3 0) file-a (at-end .reads) (stays-at-end 0 0 1176 0) (omega arith)
       (at-end .written);
   not-left = λ r.
       ⊎-elim

@@ -1,6 +1,7 @@
 -- A run of the calls for C at numbers, byte by byte: document 01's cases 11 and 12 with Plan A's file.
 use Prim.Native.Nat.{ℕ, zero, suc}
 use mathlib.Core.List.{List, [], _∷_, _++_}
+use Rattle.files.specs.Theorems.{planAFile}
 use Rattle.rules.specs.declared.Rule.the-variants as rule
 use Rattle.host.specs.Answers.{answered}
 use Rattle.host.specs.Calls.{lent}
@@ -8,14 +9,7 @@ use Rattle.demands.specs.Verdicts.{violated, nothing-violated}
 use Rattle.demands.specs.HostRuns.{HostCall, start, slice, move-leg, SliceMade, HostRun}
 use Rattle.demands.specs.DemandThreeForC.{HostGives}
 
--- Plan A's file, 41 bytes; and with revision 1 and leg 2 at 576, 42 bytes.
-abbrev pub fileA : List ℕ
-fileA =
-    0x00 ∷ 0x02 ∷ 0x02 ∷ 0x03 ∷ 0x64 ∷
-    0x01 ∷ 0x02 ∷ 0x08 ∷ 0xF4 ∷ 0x03 ∷ 0x02 ∷ 0x03 ∷ 0x08 ∷ 0xF4 ∷ 0x03 ∷
-    0xA0 ∷ 0x8D ∷ 0x06 ∷ 0xB0 ∷ 0x12 ∷ 0x40 ∷ 0x00 ∷ 0x02 ∷ 0xF0 ∷ 0x93 ∷ 0x09 ∷ 0xD0 ∷ 0x0F ∷ 0x40 ∷ 0x02 ∷ 0x01 ∷
-    0x00 ∷ 0x00 ∷ 0x00 ∷ 0x00 ∷ 0x01 ∷ 0x98 ∷ 0x09 ∷ 0x01 ∷ 0x00 ∷ 0x00 ∷ []
-
+-- Plan A's file with revision 1 and leg 2 at 576, 42 bytes.
 abbrev pub movedFile : List ℕ
 movedFile =
     0x01 ∷ 0x02 ∷ 0x02 ∷ 0x03 ∷ 0x64 ∷
@@ -48,10 +42,10 @@ acceptedInC =
     slice (saved 1 2 0) 5 (answered 0 5) (left 1 3 0) ∷ move-leg (saved 0 2 3) 2 576 (answered 0 42) (lent (movedFile ++ zeros 4) (left 1 2 0)) ∷ violatedInC
 
 pub record HostRunsAtNumbers : Type 0 where
-  pub violates : HostRun violatedInC fileA
+  pub violates : HostRun violatedInC planAFile
   pub tells-place : HostGives (answered 5 1) (left 0 2 3) (violated 2 3 rule.Overlap)
   pub accepts : HostRun acceptedInC movedFile
   pub tells-none : HostGives (answered 0 5) (left 1 3 0) nothing-violated
   -- A saved cursor that no call left, here that of the end, would be believed, and no run has such a slice.
-  pub altered : SliceMade fileA (saved 0 3 0) 0 (answered 0 0) (left 0 3 0)
-  pub not-left : HostRun (slice (saved 0 3 0) 0 (answered 0 0) (left 0 3 0) ∷ begunInC) fileA → ⊥
+  pub altered : SliceMade planAFile (saved 0 3 0) 0 (answered 0 0) (left 0 3 0)
+  pub not-left : HostRun (slice (saved 0 3 0) 0 (answered 0 0) (left 0 3 0) ∷ begunInC) planAFile → ⊥

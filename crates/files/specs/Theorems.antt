@@ -76,9 +76,8 @@ abbrev pub CursorBytesAtMost : Type 0
 CursorBytesAtMost = (maxCursorBytes ≡ 15) × ((c : Cursor) → length (cursorFile c) ≤ maxCursorBytes)
 
 -- Plan A's file, 41 bytes.
-abbrev pub PlanAFile : Type 0
-PlanAFile =
-    fileOf planA ≡
+abbrev pub planAFile : List ℕ
+planAFile =
     0x00 ∷ 0x02 ∷ 0x02 ∷ 0x03 ∷ 0x64 ∷
     0x01 ∷ 0x02 ∷ 0x08 ∷ 0xF4 ∷ 0x03 ∷
     0x02 ∷ 0x03 ∷ 0x08 ∷ 0xF4 ∷ 0x03 ∷
@@ -87,3 +86,6 @@ PlanAFile =
     0x00 ∷ 0x00 ∷ 0x00 ∷
     0x00 ∷ 0x01 ∷ 0x98 ∷ 0x09 ∷
     0x01 ∷ 0x00 ∷ 0x00 ∷ []
+
+abbrev pub PlanAFile : Type 0
+PlanAFile = fileOf planA ≡ planAFile

@@ -25,7 +25,7 @@ use Rattle.rules.specs.Times.{preambleOctets, wireTime, holdTime, lastin
 use Rattle.rules.specs.Rules.{Window, Hop, Deadline, Overlap}
 use Rattle.rules.specs.Steps.{FrameOf, ReadyOf, SlotOf}
 use Rattle.rules.specs.declared.Frame.{Frame}
-use Rattle.rules.proofs.Judging.{window-kept, window-broken, hop-kept, hop-broken, not-last-has-no-deadline, deadline-kept, other-links-never-meet, same-link-told}
+use Rattle.rules.proofs.Judging.{window-kept, window-broken, first-has-no-hop, hop-kept, hop-broken, not-last-has-no-deadline, deadline-kept, other-links-never-meet, same-link-told}
 
 -- The frame of a leg whose record, stream and link are known, and whose frame lasts w.
 abbrev frameWith : Leg → Stream → Link → ℕ → Frame
@@ -74,7 +74,7 @@ frame-of t a l s k w e f g is small =
       due = small .deadline;
     }
 
-pub ready-of : (t : List ℕ) (a : ℕ) (f : Frame) → FrameOf t a f → precisionOf t ≤ maxPrecision → ReadyOf t a (f .start + f .wire + f .propagation + precisionOf t)
+ready-of : (t : List ℕ) (a : ℕ) (f : Frame) → FrameOf t a f → precisionOf t ≤ maxPrecision → ReadyOf t a (f .start + f .wire + f .propagation + precisionOf t)
 ready-of t a f is p = record {
   same = omega (arith, is .start, is .wire .same, is .propagation);
   small = omega (arith, is .small, is .wire .to, is .short);
@@ -112,6 +112,13 @@ module _ (n : PlanNumbers) where
 
   abbrev pub w2 : ℕ
   w2 = (n .octets-1 + preambleOctets) * 8
+
+  -- When legs 1 and 2 are ready: after their own wire time and propagation, and the precision.
+  abbrev pub r1 : ℕ
+  r1 = n .offset-1 + w1 + n .propagation-1 + 100
+
+  abbrev pub r2 : ℕ
+  r2 = n .offset-2 + w2 + 600
 
   unfoldable pub f0 : Frame
   f0 = record { offset = n .offset-0; start = n .offset-0; wire = 576; hold = 576; propagation = 500; link = 0; period = n .period-0; deadline = n .deadline-0; first = 0; end = 2 }
@@ -208,13 +215,21 @@ module _ (n : PlanNumbers) where
     unfolding plan f0
     ready-0 = let r = ready-of plan 0 f0 is-0 (omega arith) in record { same = omega (arith, r .same); small = omega (arith, r .small) }
 
-    -- Leg 1 is ready after its own wire time and propagation, and the precision.
-    abbrev r1 : ℕ
-    r1 = n .offset-1 + w1 + n .propagation-1 + 100
-
     ready-1 : ReadyOf plan 1 r1
     unfolding plan f1
     ready-1 = let r = ready-of plan 1 f1 is-1 (omega arith) in record { same = omega (arith, r .same); small = omega (arith, r .small) }
+
+    ready-2 : ReadyOf plan 2 r2
+    unfolding plan f2
+    ready-2 = let r = ready-of plan 2 f2 is-2 (omega arith) in record { same = omega (arith, r .same); small = omega (arith, r .small) }
+
+    pub hop-0 : Hop plan 0
+    unfolding f0
+    hop-0 = first-has-no-hop plan 0 f0 is-0 (omega arith)
+
+    pub hop-2 : Hop plan 2
+    unfolding f2
+    hop-2 = first-has-no-hop plan 2 f2 is-2 (omega arith)
 
     pub hop-1 : n .offset-0 + 1176 ≤ n .offset-1 → Hop plan 1
     unfolding f1
@@ -239,9 +254,17 @@ module _ (n : PlanNumbers) where
         let s = ap (startOf plan) (is-1 .first) in
         omega (arith, ready-1 .same, is-1 .deadline, is-0 .start, s, k, lt)
 
-    pub other-link : Overlap plan 2 1
+    pub deadline-2 : r2 ≤ n .deadline-1 + n .offset-2 → Deadline plan 2
+    unfolding f2
+    deadline-2 le = deadline-kept plan 2 _ f2 f2 is-2 is-2 ready-2 le
+
+    pub overlap-10 : Overlap plan 1 0
+    unfolding f0 f1
+    overlap-10 = other-links-never-meet plan 1 0 0 f1 is-1 (is-0 .link) (λ e. absurd (omega (arith, e)))
+
+    pub overlap-21 : Overlap plan 2 1
     unfolding f1 f2
-    other-link = other-links-never-meet plan 2 1 1 f2 is-2 (is-1 .link) (λ e. absurd (omega (arith, e)))
+    overlap-21 = other-links-never-meet plan 2 1 1 f2 is-2 (is-1 .link) (λ e. absurd (omega (arith, e)))
 
     pub overlap-20 : NeverMeet slot-0 slot-2 → Overlap plan 2 0
     unfolding f0 f2
