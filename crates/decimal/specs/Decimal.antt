@@ -19,7 +19,7 @@ nineDigit = 57
 abbrev pub IsDigit : ℕ → Type 0
 IsDigit b = (zeroDigit ≤ b) × (b ≤ nineDigit)
 
--- What digits are worth behind a number: each makes ten times what stands before it, and itself.
+-- What digits are worth after a number: each makes ten times what stands before it, and itself.
 unfoldable pub worthBehind : ℕ → List ℕ → ℕ
 worthBehind v [] = v
 worthBehind v (b ∷ bs) = worthBehind (v * 10 + (b - zeroDigit)) bs

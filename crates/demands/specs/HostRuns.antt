@@ -61,7 +61,7 @@ pub record MoveDone (old cursor : List ℕ) (leg offset : ℕ) (a : Answer) (m�
   pub not-refused : NotRefused a
   pub new : plan ≡ take (a .beside) (m′ .file)
 
--- These calls are a run, and plan is the plan file as it stands behind them.
+-- These calls are a run, and plan is the plan file as it stands after them.
 abbrev pub HostRun : List HostCall → List ℕ → Type 0
 HostRun [] plan = ⊥
 HostRun (start a out ∷ []) plan = StartMade plan a out

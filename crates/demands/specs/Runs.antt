@@ -49,7 +49,7 @@ Begins t (start (Refused k p d)) = ⊥
 Begins t (slice c budget r) = ⊥
 Begins t (move-leg c leg offset g) = ⊥
 
--- These calls are a run, and t is the table as it stands behind them.
+-- These calls are a run, and t is the table as it stands after them.
 abbrev pub Run : List Call → List ℕ → Type 0
 Run [] t = ⊥
 Run (call ∷ []) t = Begins t call

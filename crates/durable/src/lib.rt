@@ -143,7 +143,7 @@ fn sync_folder(folder: &[u8]) -> bool {
     synced
 }
 
-// The position behind the last slash of a path, or 0 where it has none.
+// The position after the last slash of a path, or 0 where it has none.
 fn past_last_slash(path: &[u8]) -> usize
     ensures { λ r. ⌜ r ≤ length (now (path .entry)) ⌝ }
 {

@@ -17,7 +17,7 @@ pub fn plan_size(bytes: &[u8]) -> PlanRead
     }
 }
 
-// The same behind a header that stands from the start up to next.
+// The same after a header that stands from the start up to next.
 fn behind_header(bytes: &[u8], next: usize) -> PlanRead
     requires { ⌜ Numbers (now bytes) 0 headWords next ⌝ }
     ensures { λ r. ⌜ PlanTold (now (bytes .entry)) r ⌝ }

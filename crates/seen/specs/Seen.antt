@@ -22,7 +22,7 @@ pub record Known (s p : List ℕ) : Type 0 where
   pub kept : Kept s first other
   pub is : (first ≡ p) ⊎ (other ≡ p)
 
--- Of two plans one behind the other, the first of which has so many bytes, p is the one or the other.
+-- Of two plans, one after the other, the first of which has so many bytes, p is the one or the other.
 abbrev pub KnownParts : List ℕ → ℕ → List ℕ → Type 0
 KnownParts s at p = (take at s ≡ p) ⊎ (drop at s ≡ p)
 
@@ -38,7 +38,7 @@ pub record Copy (s : List ℕ) : Type 0 where
   pub plan : PlanFile first
   pub rest : (other ≡ []) ⊎ PlanFile other
 
--- Of two plans one behind the other, the first of which has so many bytes, that is a plan file, and the other is one or nothing.
+-- Of two plans, one after the other, the first of which has so many bytes, that is a plan file, and the other is one or nothing.
 abbrev pub PlanParts : List ℕ → ℕ → Type 0
 PlanParts s at = PlanFile (take at s) × ((drop at s ≡ []) ⊎ PlanFile (drop at s))
 

@@ -42,7 +42,7 @@ fn wide(b: u8) -> u64
     b as u64
 }
 
-// Whether a plan is the one in front of a position, or the one behind it.
+// Whether a plan is the one in front of a position, or the one after it.
 fn known_part(plans: &[u8], at: usize, plan: &[u8]) -> Holds
     requires { ⌜ at ≤ length (now plans) ⌝ }
     ensures { λ r. ⌜ Tells (KnownParts (now (plans .entry)) at (now (plan .entry))) r ⌝ }
@@ -97,7 +97,7 @@ fn is_plan(bytes: &[u8]) -> Holds
     }
 }
 
-// Whether a plan file stands in front of a position, and another or nothing behind it.
+// Whether a plan file stands in front of a position, and another or nothing after it.
 fn are_plans(plans: &[u8], at: usize) -> Holds
     requires { ⌜ at ≤ length (now plans) ⌝ }
     ensures { λ r. ⌜ Tells (PlanParts (now (plans .entry)) at) r ⌝ }
