@@ -7,15 +7,16 @@ use lib.ListN.{length}
 use Rattle.numbers.specs.Number.{NoNumber}
 use Rattle.numbers.specs.Series.{Row}
 use Rattle.numbers.proofs.Rows.{file-length}
-use Rattle.table.specs.Layout.{maxTableWords}
+use Rattle.table.specs.Layout.{maxTableWords, Sized}
 use Rattle.table.specs.Size.{SizeFault}
 use Rattle.table.proofs.Sizes.{table-words-at-most}
-use Rattle.shape.specs.Shape.{ShapeFault}
+use Rattle.shape.specs.Shape.{badLink, ShapeFault}
+use Rattle.shape.proofs.Refused.{sized-refused}
 use Rattle.files.specs.Plan.{PlanDue, PlanFault, PlanUnread}
 use Rattle.files.specs.Theorems.{maxFileBytes}
 use Rattle.files.specs.declared.Cursor.{Cursor}
-use Rattle.checker.specs.Cursors.{CursorFault}
-use Rattle.checker.specs.Moves.{MoveFault}
+use Rattle.checker.specs.Cursors.{noPlace, CursorFault}
+use Rattle.checker.specs.Moves.{cannotRise, MoveFault}
 use Rattle.host.specs.Refusals.{CursorUnread}
 use Rattle.host.specs.Steps.{Small}
 
@@ -70,3 +71,14 @@ pub move-fault-small : (t : List ℕ) (c : Cursor) (leg k p : ℕ) → MoveFault
 move-fault-small t c leg k p (inl f) = cursor-fault-small t c k p f
 move-fault-small t c leg k p (inr w) =
     record { number = ⊎-elim (λ s. omega (arith, s .number)) (λ s. omega (arith, s .number)) (w .cause); position = omega (arith, w .at) }
+
+-- With which numbers a table that was read is refused: a slice with 4 to 9, a move with 4 to 11.
+pub slice-refused : (t : List ℕ) (c : Cursor) (k p : ℕ) → Sized t → CursorFault t c k p → (badLink ≤ k) × (k ≤ noPlace)
+slice-refused t c k p z (inl f) = let r = sized-refused t k p z f in (r .0, omega (arith, r .1))
+slice-refused t c k p z (inr w) =
+    ⊎-elim (λ s. (omega (arith, s .number), omega (arith, s .number))) (λ s. (omega (arith, s .number), omega (arith, s .number))) (w .cause)
+
+pub move-refused : (t : List ℕ) (c : Cursor) (leg k p : ℕ) → Sized t → MoveFault t c leg k p → (badLink ≤ k) × (k ≤ cannotRise)
+move-refused t c leg k p z (inl f) = let r = slice-refused t c k p z f in (r .0, omega (arith, r .1))
+move-refused t c leg k p z (inr w) =
+    ⊎-elim (λ s. (omega (arith, s .number), omega (arith, s .number))) (λ s. (omega (arith, s .number), omega (arith, s .number))) (w .cause)

@@ -3,3 +3,4 @@ pub mod Steps
 pub mod OneAnswer
 pub mod Outcomes
 pub mod MoveRoom
+pub mod Results

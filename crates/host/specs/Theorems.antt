@@ -2,10 +2,11 @@
 use Prim.Native.Nat.{ℕ, _+_, _≤_}
 use mathlib.Core.Path.{_≡_}
 use mathlib.Core.List.{List}
+use mathlib.Core.Logic.{_⊎_}
 use lib.ListN.{length}
 use Rattle.numbers.specs.Number.{noRoom}
 use Rattle.files.specs.Plan.{PlanFault}
-use Rattle.files.specs.Theorems.{maxCursorBytes}
+use Rattle.files.specs.Theorems.{maxFileBytes, maxCursorBytes}
 use Rattle.files.specs.declared.Cursor.{Cursor}
 use Rattle.rules.specs.declared.Rule.the-variants as rule
 use Rattle.checker.specs.declared.Grant.the-variants as grant
@@ -66,6 +67,28 @@ MoveRoomIsEnough =
     (plan cursor : List ℕ) (leg offset : ℕ) (m : Lent) (a : Answer) (m′ : Lent)
     → maxCursorBytes ≤ length (m .out) → length plan + moveBytes ≤ length (m .file)
     → HostMoves plan cursor leg offset m a m′ → a .result ≡ refusedResult noRoom → ⊥
+
+-- Nor is whoever lends 48,665 bytes for the new file and 15 for the cursor, whatever the plan.
+abbrev pub FullRoomIsEnough : Type 0
+FullRoomIsEnough =
+    (plan cursor : List ℕ) (leg offset : ℕ) (m : Lent) (a : Answer) (m′ : Lent)
+    → maxCursorBytes ≤ length (m .out) → maxFileBytes ≤ length (m .file)
+    → HostMoves plan cursor leg offset m a m′ → a .result ≡ refusedResult noRoom → ⊥
+
+-- The results of refusals: 102, and 104 to 115. No call gives 101 or 103: they are of tables in memory, and a plan file that is read has the length that its header
+-- says.
+abbrev pub IsRefusal : ℕ → Type 0
+IsRefusal r = (r ≡ 102) ⊎ ((104 ≤ r) × (r ≤ 115))
+
+-- Which results there are: 0 of a start and of a move, 0 to 5 of a slice, or a refusal.
+pub record ResultsAreThese : Type 0 where
+  pub start : (plan out : List ℕ) (a : Answer) (out′ : List ℕ) → HostStarts plan out a out′ → (a .result ≡ 0) ⊎ IsRefusal (a .result)
+  pub slice : (plan cursor : List ℕ) (budget : ℕ) (out : List ℕ) (r : ℕ) (out′ : List ℕ)
+      → HostSliceResult plan cursor budget out r out′ → (r ≤ 5) ⊎ IsRefusal r
+  pub slice-full : (plan cursor : List ℕ) (budget : ℕ) (out : List ℕ) (a : Answer) (out′ : List ℕ)
+      → HostSlices plan cursor budget out a out′ → (a .result ≤ 5) ⊎ IsRefusal (a .result)
+  pub move-leg : (plan cursor : List ℕ) (leg offset : ℕ) (m : Lent) (a : Answer) (m′ : Lent)
+      → HostMoves plan cursor leg offset m a m′ → (a .result ≡ 0) ⊎ IsRefusal (a .result)
 
 -- The answers at the paper's numbers: 0 nothing violated, 1 paused, 2 to 5 violated (window, hop, deadline, overlap), each with the steps; a start, 0 with the
 -- places; 100 plus the refusal number, with the position. And 15, the fewest bytes that are taken for the cursor.

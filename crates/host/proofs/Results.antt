@@ -1,0 +1,98 @@
+-- Each stage of a call has its refusals: the plan file 2 and 12 to 14, the cursor 12 to 14, the room 15, and a table that was read 4 to 11. The rest is 0 to 5.
+-- Assumes nothing.
+use Prim.Native.Nat.{ℕ, _≤_}
+use mathlib.Core.Path.{_≡_, ap, subst, sym}
+use mathlib.Core.List.{List}
+use mathlib.Core.Logic.{_⊎_, inl, inr}
+use native.Mathlib.Omega.{arith}
+use Rattle.numbers.specs.Number.{bytesEnd, noRoom}
+use Rattle.table.specs.Layout.{Sized}
+use Rattle.table.specs.Size.{aboveLimit}
+use Rattle.files.specs.Reading.{leftOver}
+use Rattle.files.specs.declared.Cursor.{Cursor}
+use Rattle.files.proofs.Refused.{plan-refused, cursor-refused}
+use Rattle.shape.proofs.Refused.{sized-refused}
+use Rattle.rules.specs.declared.Rule.{Rule}
+use Rattle.rules.specs.declared.Rule.the-variants as rule
+use Rattle.checker.specs.Slices.{Starts, Slices}
+use Rattle.checker.specs.Moves.{Moves}
+use Rattle.checker.specs.declared.Grant.{Grant}
+use Rattle.checker.specs.declared.Grant.the-variants as grant
+use Rattle.checker.specs.declared.SliceAnswer.{SliceAnswer}
+use Rattle.checker.specs.declared.SliceAnswer.the-variants as answer
+use Rattle.places.specs.Order.{placeCount}
+use Rattle.host.specs.declared.Answer.{Answer}
+use Rattle.host.specs.Answers.{ruleResult, refusal, sliceAnswered, startAnswered, resultAlone}
+use Rattle.host.specs.Calls.{Lent, AfterMove, HostStarts, HostSlices, HostMoves}
+use Rattle.host.specs.Theorems.{IsRefusal, ResultsAreThese}
+use Rattle.host.proofs.Laws.{slice-refused, move-refused}
+
+-- A refusal 4 to 15, one for room, and one of the plan file.
+refused : (a : Answer) (k p : ℕ) → a ≡ refusal k p → 4 ≤ k → k ≤ 15 → IsRefusal (a .result)
+refused a k p e l h = inr (omega (arith, ap resultAlone e, l), omega (arith, ap resultAlone e, h))
+
+for-room : (a : Answer) (k p : ℕ) → a ≡ refusal k p → k ≡ noRoom → IsRefusal (a .result)
+for-room a k p e x = refused a k p e (omega (arith, x)) (omega (arith, x))
+
+of-the-plan : (a : Answer) (k p : ℕ) → a ≡ refusal k p → (k ≡ aboveLimit) ⊎ ((bytesEnd ≤ k) × (k ≤ leftOver)) → IsRefusal (a .result)
+of-the-plan a k p e (inl x) = inl (omega (arith, ap resultAlone e, x))
+of-the-plan a k p e (inr x) = refused a k p e (omega (arith, x .0)) (omega (arith, x .1))
+
+-- The calls on a table that was read.
+start-results : (t : List ℕ) (n : ℕ) (g : Grant) (a : Answer) → Sized t → Starts t g → a ≡ startAnswered n g → (a .result ≡ 0) ⊎ IsRefusal (a .result)
+start-results t n (grant.Granted d) a z s e = inl (ap resultAlone e)
+start-results t n (grant.Refused k p d) a z s e = let r = sized-refused t k p z (s .0) in inr (refused a k p e (r .0) (omega (arith, r .1)))
+
+rule-results : (x : Rule) → ruleResult x ≤ 5
+rule-results rule.Window = omega arith
+rule-results rule.Hop = omega arith
+rule-results rule.Deadline = omega arith
+rule-results rule.Overlap = omega arith
+
+slice-results : (t : List ℕ) (c : Cursor) (budget : ℕ) (x : SliceAnswer) (a : Answer)
+    → Sized t → Slices t c budget x → a ≡ sliceAnswered x → (a .result ≤ 5) ⊎ IsRefusal (a .result)
+slice-results t c budget (answer.Violated d n r) a z s e = inl (omega (arith, ap resultAlone e, rule-results r))
+slice-results t c budget (answer.NothingViolated d n) a z s e = inl (omega (arith, ap resultAlone e))
+slice-results t c budget (answer.Paused d n) a z s e = inl (omega (arith, ap resultAlone e))
+slice-results t c budget (answer.Refused k p d) a z s e =
+    let r = slice-refused t c k p z (s .0) in inr (refused a k p e (r .0) (omega (arith, r .1)))
+
+move-results : (t : List ℕ) (c : Cursor) (leg offset : ℕ) (g : Grant) (u : List ℕ) (m : Lent) (a : Answer) (m′ : Lent)
+    → Sized t → Moves t c leg offset g u → AfterMove g u m a m′ → (a .result ≡ 0) ⊎ IsRefusal (a .result)
+move-results t c leg offset (grant.Granted d) u m a m′ z s (inl r) = inr (for-room a (r .number) (r .at) (r .answer) (r .fault .number))
+move-results t c leg offset (grant.Granted d) u m a m′ z s (inr x) = inl (ap resultAlone (x .1 .answer))
+move-results t c leg offset (grant.Refused k p d) u m a m′ z s x =
+    let r = move-refused t c leg k p z (s .0) in inr (refused a k p (x .0) (r .0) (omega (arith, r .1)))
+
+-- The calls on bytes.
+start-these : (plan out : List ℕ) (a : Answer) (out′ : List ℕ) → HostStarts plan out a out′ → (a .result ≡ 0) ⊎ IsRefusal (a .result)
+start-these plan out a out′ (inl r) = inr (of-the-plan a (r .number) (r .at) (r .answer) (plan-refused plan (r .number) (r .at) (r .fault)))
+start-these plan out a out′ (inr (t, f, inl r)) = inr (for-room a (r .number) (r .at) (r .answer) (r .fault .number))
+start-these plan out a out′ (inr (t, f, inr x)) = let s = x .1 in start-results t (placeCount t) (s .given) a (f .complete) (s .starts) (s .answer)
+
+slice-these : (plan cursor : List ℕ) (budget : ℕ) (out : List ℕ) (a : Answer) (out′ : List ℕ)
+    → HostSlices plan cursor budget out a out′ → (a .result ≤ 5) ⊎ IsRefusal (a .result)
+slice-these plan cursor budget out a out′ (inl r) = inr (of-the-plan a (r .number) (r .at) (r .answer) (plan-refused plan (r .number) (r .at) (r .fault)))
+slice-these plan cursor budget out a out′ (inr (t, f, inl r)) =
+    inr (of-the-plan a (r .number) (r .at) (r .answer) (inr (cursor-refused cursor (r .number) (r .at) (r .fault))))
+slice-these plan cursor budget out a out′ (inr (t, f, inr (c, g, inl r))) = inr (for-room a (r .number) (r .at) (r .answer) (r .fault .number))
+slice-these plan cursor budget out a out′ (inr (t, f, inr (c, g, inr x))) =
+    let s = x .1 in slice-results t c budget (s .given) a (f .complete) (s .slices) (s .answer)
+
+move-these : (plan cursor : List ℕ) (leg offset : ℕ) (m : Lent) (a : Answer) (m′ : Lent)
+    → HostMoves plan cursor leg offset m a m′ → (a .result ≡ 0) ⊎ IsRefusal (a .result)
+move-these plan cursor leg offset m a m′ (inl r) = inr (of-the-plan a (r .number) (r .at) (r .answer) (plan-refused plan (r .number) (r .at) (r .fault)))
+move-these plan cursor leg offset m a m′ (inr (t, f, inl r)) =
+    inr (of-the-plan a (r .number) (r .at) (r .answer) (inr (cursor-refused cursor (r .number) (r .at) (r .fault))))
+move-these plan cursor leg offset m a m′ (inr (t, f, inr (c, g, inl r))) = inr (for-room a (r .number) (r .at) (r .answer) (r .fault .number))
+move-these plan cursor leg offset m a m′ (inr (t, f, inr (c, g, inr x))) =
+    let s = x .1 in move-results t c leg offset (s .given) (s .table) m a m′ (f .complete) (s .moves) (s .after)
+
+pub results-are-these : ResultsAreThese
+results-are-these = record {
+  start = start-these;
+  slice = λ plan cursor budget out r out′ x.
+      subst (λ (n : ℕ). (n ≤ 5) ⊎ IsRefusal n) (sym (x .is)) (slice-these plan cursor budget out (x .answer) out′ (x .slices));
+  slice-full = slice-these;
+  move-leg = move-these;
+}
