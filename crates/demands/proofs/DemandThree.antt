@@ -24,7 +24,7 @@ use Rattle.checker.specs.declared.Grant.the-variants.{Granted, Refused}
 use Rattle.checker.specs.declared.SliceAnswer.{SliceAnswer}
 use Rattle.checker.specs.declared.SliceAnswer.the-variants as answer
 use Rattle.demands.specs.Verdicts.{Verdict, violated, nothing-violated, Gives, FirstViolated, RightVerdict}
-use Rattle.demands.specs.Runs.{Call, start, slice, move-leg, cursorOf, Run, Renews, notRefused, newest, Since, budgets, HasSlice, HasVerdict}
+use Rattle.demands.specs.Runs.{Call, start, slice, move-leg, cursorOf, Run, Renews, withoutRefused, newest, Since, budgets, HasSlice, HasVerdict}
 use Rattle.demands.specs.DemandThree.{Sound, RunsAreSound, RunsEndInTime, RunsGoOn, RunsKeepShape, DemandThree}
 use Rattle.demands.proofs.Verdicts.{rules-keep-places, right-verdict}
 use Rattle.demands.proofs.DemandTwo.{start-right, start-rank, demand-two}
@@ -157,23 +157,23 @@ paused-step t made last c b d n e s g =
 
 -- One call more. Behind it stand the calls y ∷ ys.
 step : (call y : Call) (ys : List Call) (t : List ℕ) (part : List Call) (last : Call)
-    → Run (call ∷ y ∷ ys) t → Since (notRefused (call ∷ part)) last
-    → (Run (y ∷ ys) t → Since (notRefused part) last → HasVerdict part ⊎ Progress t (notRefused part) last)
-    → HasVerdict (call ∷ part) ⊎ Progress t (notRefused (call ∷ part)) last
+    → Run (call ∷ y ∷ ys) t → Since (withoutRefused (call ∷ part)) last
+    → (Run (y ∷ ys) t → Since (withoutRefused part) last → HasVerdict part ⊎ Progress t (withoutRefused part) last)
+    → HasVerdict (call ∷ part) ⊎ Progress t (withoutRefused (call ∷ part)) last
 step (start (Granted d)) y ys t part last r s i = absurd s
 step (start (Refused k p d)) y ys t part last r s i = i (r .0) s
 step (slice c b (answer.Violated d n q)) y ys t part last r s i = inl (inl (violated (d .leg) (d .place) q, refl))
 step (slice c b (answer.NothingViolated d n)) y ys t part last r s i = inl (inl (nothing-violated, refl))
 step (slice c b (answer.Paused d n)) y ys t part last r s i =
-    ⊎-elim (λ (v : HasVerdict part). inl (inr v)) (λ (g : Progress t (notRefused part) last). inr (paused-step t (notRefused part) last c b d n (s .0) (r .2) g))
+    ⊎-elim (λ (v : HasVerdict part). inl (inr v)) (λ (g : Progress t (withoutRefused part) last). inr (paused-step t (withoutRefused part) last c b d n (s .0) (r .2) g))
     (i (r .0) (s .1))
 step (slice c b (answer.Refused k p d)) y ys t part last r s i =
-    ⊎-elim (λ (v : HasVerdict part). inl (inr v)) (λ (g : Progress t (notRefused part) last). inr g) (i (r .0) s)
+    ⊎-elim (λ (v : HasVerdict part). inl (inr v)) (λ (g : Progress t (withoutRefused part) last). inr g) (i (r .0) s)
 step (move-leg c leg offset (Granted d)) y ys t part last r s i = absurd s
 step (move-leg c leg offset (Refused l p d)) y ys t part last (u, r, out, m) s i = i (subst (Run (y ∷ ys)) (sym (m .2)) r) s
 
 progress : (part : List Call) (last : Call) (earlier : List Call) (t : List ℕ)
-    → Run (part ++ last ∷ earlier) t → Renews last → Since (notRefused part) last → HasVerdict part ⊎ Progress t (notRefused part) last
+    → Run (part ++ last ∷ earlier) t → Renews last → Since (withoutRefused part) last → HasVerdict part ⊎ Progress t (withoutRefused part) last
 progress [] last earlier t r n s = inr (record { right = renewed last earlier t r n; far = omega arith; at = λ h. absurd h })
 progress (call ∷ []) last earlier t r n s = step call last earlier t [] last r s (λ q z. progress [] last earlier t q n z)
 progress (call ∷ x ∷ xs) last earlier t r n s = step call x (xs ++ last ∷ earlier) t (x ∷ xs) last r s (λ q z. progress (x ∷ xs) last earlier t q n z)
@@ -182,7 +182,7 @@ pub runs-end-in-time : RunsEndInTime
 runs-end-in-time part last earlier t r n s h enough =
     ⊎-elim
     (λ (v : HasVerdict part). v)
-    (λ (g : Progress t (notRefused part) last). absurd (omega (arith, g .far, place-rank (g .at h), enough)))
+    (λ (g : Progress t (withoutRefused part) last). absurd (omega (arith, g .far, place-rank (g .at h), enough)))
     (progress part last earlier t r n s)
 
 -- The newest cursor of a run is right, whatever was refused after it.
@@ -190,7 +190,7 @@ abbrev NewestRight : List ℕ → List Call → Type 0
 NewestRight t [] = Unit {0}
 NewestRight t (latest ∷ before) = CursorRight t (cursorOf latest)
 
-newest-right : (calls : List Call) (t : List ℕ) → Run calls t → NewestRight t (notRefused calls)
+newest-right : (calls : List Call) (t : List ℕ) → Run calls t → NewestRight t (withoutRefused calls)
 newest-right [] t r = absurd r
 newest-right (start (Granted d) ∷ []) t r = start-right r
 newest-right (start (Refused k p d) ∷ []) t r = absurd r

@@ -20,6 +20,7 @@ use Rattle.checker.specs.declared.Grant.the-variants.{Granted}
 use Rattle.checker.specs.declared.SliceAnswer.{SliceAnswer}
 use Rattle.checker.specs.declared.SliceAnswer.the-variants as answer
 use Rattle.demands.specs.Verdicts.{Verdict, violated, nothing-violated, Gives, RightVerdict}
+use Rattle.rules.proofs.Covering.{own-repeats-never-meet}
 use Rattle.demands.specs.DemandTwo.{WholeCheckIsRight, DemandTwo}
 use Rattle.demands.proofs.Verdicts.{rules-keep-places, right-verdict}
 
@@ -94,6 +95,7 @@ demand-two = record {
   checks = λ t r w.
       let v = whole-verdict (w .cursor) (w .budget) r (w .starts) (w .enough) (w .slices) in
       is-right t r (v .0) (v .1) (right-verdict t (w .cursor) (start-held (w .starts)) (w .budget) r (v .0) (w .slices) (v .1));
+  own-repeats = own-repeats-never-meet;
   files = files-come-back;
   tables = tables-come-back;
 }

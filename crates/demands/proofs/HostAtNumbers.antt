@@ -28,7 +28,7 @@ use Rattle.checker.specs.declared.SliceAnswer.{SliceAnswer}
 use Rattle.checker.specs.declared.SliceAnswer.the-variants.{Violated, NothingViolated, Paused}
 use Rattle.host.specs.Answers.{answered, sliceAnswered, bytesAfterSlice, withCursor}
 use Rattle.host.specs.Calls.{lent}
-use Rattle.demands.specs.HostRuns.{upToClosing, savedIn, NotRefused, StartMade, SliceMade, MoveDone, HostRun}
+use Rattle.demands.specs.HostRuns.{upToClosing, savedIn, NotRefused, StartMade, SliceMade, MoveMade, HostRun}
 use Rattle.demands.specs.AtNumbers.{at}
 use Rattle.demands.specs.HostAtNumbers.{movedFile, zeros, saved, left, violatedInC, HostRunsAtNumbers}
 use Rattle.demands.proofs.PlanTables.{planTable, ranks, shape, here, granted, stays-at-end, pause, end, violate, on, accepted, before-2-3}
@@ -138,7 +138,7 @@ violates =
 laid : movedFile ++ zeros 4 ≡ overlaid (zeros 46) 0 movedFile
 laid = sym (overlaid-front (zeros 46) movedFile)
 
-moves : MoveDone planAFile (saved 0 2 3) 2 576 (answered 0 42) (lent (movedFile ++ zeros 4) (left 1 2 0)) movedFile
+moves : MoveMade planAFile (saved 0 2 3) 2 576 (answered 0 42) (lent (movedFile ++ zeros 4) (left 1 2 0)) movedFile
 moves =
     let long : _≡_ {A = ℕ} 42 (length (fileOf (moved planA 2 576))) = ap length moved-bytes in
     let given : length (zeros 46) ≡ 46 = refl in

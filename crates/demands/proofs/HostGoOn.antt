@@ -35,7 +35,7 @@ use Rattle.host.proofs.MoveRoom.{move-room-is-enough}
 use Rattle.demands.specs.Verdicts.{Verdict, violated, nothing-violated}
 use Rattle.demands.specs.Runs.{Call, cursorOfAnswer, cursorOf, Run}
 use Rattle.demands.specs.Runs as runs
-use Rattle.demands.specs.HostRuns.{savedIn, HostCall, start, slice, move-leg, leftBy, NotRefused}
+use Rattle.demands.specs.HostRuns.{savedIn, HostCall, start, slice, move-leg, bytesLeft, NotRefused}
 use Rattle.demands.specs.DemandThreeForC.{HostGives, HostRunsGoOn, DemandThreeForC}
 use Rattle.demands.proofs.DemandThree.{renewed, move-refused}
 use Rattle.demands.proofs.Runs.{run-keeps}
@@ -89,17 +89,17 @@ starts-go-on calls plan out a out′ i h (inr (t, f, inr x)) =
 
 -- What was read of the newest bytes is right.
 given-right : (latest : HostCall) (earlier : List HostCall) (plan t : List ℕ) (c : Cursor) → Carried (latest ∷ earlier) plan → IsFile Sized plan t
-    → ReadsCursor (savedIn (leftBy latest)) (read.Saved c) → CursorRight t c
+    → ReadsCursor (savedIn (bytesLeft latest)) (read.Saved c) → CursorRight t c
 given-right latest earlier plan t c i f g =
     let r = newest-right latest (i .latest) (i .earlier) (i .table) (i .mirrored .0) (i .run) in
-    let e = saved-one (savedIn (leftBy latest)) (cursorOf (i .latest)) c (left-is latest (i .latest) (i .mirrored .0)) g in
+    let e = saved-one (savedIn (bytesLeft latest)) (cursorOf (i .latest)) c (left-is latest (i .latest) (i .mirrored .0)) g in
     subst (λ (d : Cursor). CursorRight t d) e (subst (λ (u : List ℕ). CursorRight u (cursorOf (i .latest))) (same-file (i .file) f) r)
 
 slices-go-on : (latest : HostCall) (earlier : List HostCall) (plan : List ℕ) (budget : ℕ) (out : List ℕ) (a : Answer) (out′ : List ℕ)
-    → Carried (latest ∷ earlier) plan → maxCursorBytes ≤ length out → HostSlices plan (savedIn (leftBy latest)) budget out a out′ → NotRefused a
+    → Carried (latest ∷ earlier) plan → maxCursorBytes ≤ length out → HostSlices plan (savedIn (bytesLeft latest)) budget out a out′ → NotRefused a
 slices-go-on latest earlier plan b out a out′ i h (inl x) = absurd (file-no-fault (i .file) (x .fault))
 slices-go-on latest earlier plan b out a out′ i h (inr (t, f, inl x)) =
-    absurd (saved-not-unread (savedIn (leftBy latest)) (cursorOf (i .latest)) (x .number) (x .at) (left-is latest (i .latest) (i .mirrored .0)) (x .fault))
+    absurd (saved-not-unread (savedIn (bytesLeft latest)) (cursorOf (i .latest)) (x .number) (x .at) (left-is latest (i .latest) (i .mirrored .0)) (x .fault))
 slices-go-on latest earlier plan b out a out′ i h (inr (t, f, inr (c, g, inl x))) = absurd (omega (arith, x .fault .fewer, h))
 slices-go-on latest earlier plan b out a out′ i h (inr (t, f, inr (c, g, inr x))) =
     slice-answers t c b (x .1 .given) a (given-right latest earlier plan t c i f g) (x .1 .slices) (x .1 .answer)
@@ -113,10 +113,10 @@ move-answers t c leg offset m (grant.Refused k p d) u a m′ r below rises room 
 
 moves-go-on : (latest : HostCall) (earlier : List HostCall) (plan t : List ℕ) (leg offset : ℕ) (m : Lent) (a : Answer) (m′ : Lent)
     → Carried (latest ∷ earlier) plan → IsFile Sized plan t → leg < legCount t → revisionOf t < maxWord → maxCursorBytes ≤ length (m .out)
-    → (a .result ≡ refusedResult noRoom → ⊥) → HostMoves plan (savedIn (leftBy latest)) leg offset m a m′ → NotRefused a
+    → (a .result ≡ refusedResult noRoom → ⊥) → HostMoves plan (savedIn (bytesLeft latest)) leg offset m a m′ → NotRefused a
 moves-go-on latest earlier plan t leg offset m a m′ i is below rises h room (inl x) = absurd (file-no-fault (i .file) (x .fault))
 moves-go-on latest earlier plan t leg offset m a m′ i is below rises h room (inr (u, f, inl x)) =
-    absurd (saved-not-unread (savedIn (leftBy latest)) (cursorOf (i .latest)) (x .number) (x .at) (left-is latest (i .latest) (i .mirrored .0)) (x .fault))
+    absurd (saved-not-unread (savedIn (bytesLeft latest)) (cursorOf (i .latest)) (x .number) (x .at) (left-is latest (i .latest) (i .mirrored .0)) (x .fault))
 moves-go-on latest earlier plan t leg offset m a m′ i is below rises h room (inr (u, f, inr (c, g, inl x))) = absurd (omega (arith, x .fault .fewer, h))
 moves-go-on latest earlier plan t leg offset m a m′ i is below rises h room (inr (u, f, inr (c, g, inr x))) =
     let k = given-right latest earlier plan u c i f g in
@@ -137,7 +137,7 @@ host-runs-go-on = record {
   slice = λ latest earlier plan b out a out′ r h x. slices-go-on latest earlier plan b out a out′ (carried (latest ∷ earlier) plan r) h x;
   move-leg = λ latest earlier plan t leg offset m a m′ r is below rises h room x.
       moves-go-on latest earlier plan t leg offset m a m′ (carried (latest ∷ earlier) plan r) is below rises h
-      (move-room-is-enough plan (savedIn (leftBy latest)) leg offset m a m′ h room x) x;
+      (move-room-is-enough plan (savedIn (bytesLeft latest)) leg offset m a m′ h room x) x;
   verdict = λ plan cursor b a out y p.
       let s = slice-carried plan cursor b (y .out) a out (y .not-refused) (y .slices) in verdict-of (s .told) a out (y .not-refused) (s .answer) (s .left) p;
 }

@@ -25,7 +25,7 @@ use Rattle.host.specs.declared.Answer.{Answer}
 use Rattle.demands.specs.Verdicts.{Verdict, violated, Gives}
 use Rattle.demands.specs.Runs.{Call, cursorOfAnswer, cursorOf, HandedOut, Run}
 use Rattle.demands.specs.Runs as runs
-use Rattle.demands.specs.HostRuns.{savedIn, HostCall, start, slice, move-leg, leftBy, LeftBy, NotRefused, SliceMade, HostRun}
+use Rattle.demands.specs.HostRuns.{savedIn, HostCall, start, slice, move-leg, bytesLeft, LeftBy, NotRefused, SliceMade, HostRun}
 use Rattle.demands.specs.DemandThreeForC.{HostGives, HostSince, HostRenews, newestLeft, hostBudgets, HostHasVerdict, HostRunsAreSound, HostRunsEndInTime}
 use Rattle.host.proofs.OneAnswer.{saved-one}
 use Rattle.demands.proofs.HostCalls.{start-carried, slice-carried, move-carried, slices-of, moves-of}
@@ -60,7 +60,7 @@ AllMirror (h ∷ hs) [] = ⊥
 AllMirror (h ∷ hs) (c ∷ cs) = Mirrors h c × AllMirror hs cs
 
 -- What a call left reads as the cursor that its mirror handed out.
-pub left-is : (h : HostCall) (c : Call) → Mirrors h c → ReadsCursor (savedIn (leftBy h)) (read.Saved (cursorOf c))
+pub left-is : (h : HostCall) (c : Call) → Mirrors h c → ReadsCursor (savedIn (bytesLeft h)) (read.Saved (cursorOf c))
 left-is (start a out) (runs.start (grant.Granted d)) m = m
 left-is (start a out) (runs.start (grant.Refused k p d)) m = absurd m
 left-is (start a out) (runs.slice c b x) m = absurd m
@@ -231,7 +231,7 @@ mirror-made (move-leg s l o a q) (runs.slice c b x) m = absurd m
 mirror-made (move-leg s l o a q) (runs.move-leg c k p (grant.Granted d)) m = refl
 mirror-made (move-leg s l o a q) (runs.move-leg c k p (grant.Refused i j d)) m = absurd m
 
-all-made : (hs : List HostCall) (cs : List Call) → AllMirror hs cs → runs.notRefused cs ≡ cs
+all-made : (hs : List HostCall) (cs : List Call) → AllMirror hs cs → runs.withoutRefused cs ≡ cs
 all-made [] [] m = refl
 all-made [] (c ∷ cs) m = absurd m
 all-made (h ∷ hs) [] m = absurd m

@@ -11,7 +11,7 @@ use Rattle.checker.specs.Slices.{Slices}
 use Rattle.checker.specs.declared.Grant.the-variants.{Granted, Refused}
 use Rattle.checker.specs.declared.SliceAnswer.the-variants.{NothingViolated, Paused}
 use Rattle.checker.specs.declared.SliceAnswer.the-variants as answer
-use Rattle.demands.specs.Runs.{Call, start, slice, move-leg, Run, notRefused, Since, budgets, HasVerdict}
+use Rattle.demands.specs.Runs.{Call, start, slice, move-leg, Run, withoutRefused, Since, budgets, HasVerdict}
 
 abbrev pub good : List ℕ
 good = planWith (offsetsA 0 1176 576)
@@ -54,14 +54,14 @@ pub record RunsAtNumbers : Type 0 where
   pub stale : Run (slice (at 0 1 2) 5 (answer.Refused 8 0 (at 0 1 2)) ∷ move-leg (at 0 1 2) 2 700 (Granted (at 1 1 2)) ∷ begun) (moved good 2 700)
   -- A refused move leaves the table and the cursor, and is no new beginning.
   pub refused : Run (move-leg (at 0 1 2) 3 700 (Refused 10 0 (at 0 1 2)) ∷ begun) good
-  pub goes-on : Since (notRefused (move-leg (at 0 1 2) 3 700 (Refused 10 0 (at 0 1 2)) ∷ slice (at 0 0 0) 5 (Paused (at 0 1 2) 5) ∷ [])) (start (Granted (at 0 0 0)))
+  pub goes-on : Since (withoutRefused (move-leg (at 0 1 2) 3 700 (Refused 10 0 (at 0 1 2)) ∷ slice (at 0 0 0) 5 (Paused (at 0 1 2) 5) ∷ [])) (start (Granted (at 0 0 0)))
   -- A refused slice is passed over: the newest cursor is the one before it, and its budget does not count.
   pub over-stale : Run (overStale ++ move-leg (at 0 1 2) 2 700 (Granted (at 1 1 2)) ∷ begun) (moved good 2 700)
-  pub passed-over : Since (notRefused overStale) (move-leg (at 0 1 2) 2 700 (Granted (at 1 1 2)))
-  pub not-counted : budgets (notRefused overStale) ≡ 2
+  pub passed-over : Since (withoutRefused overStale) (move-leg (at 0 1 2) 2 700 (Granted (at 1 1 2)))
+  pub not-counted : budgets (withoutRefused overStale) ≡ 2
   -- With an older cursor than the newest budgets of 5 and 7 give no verdict, and such a part is none that counts.
   pub older : Run (slice (at 0 0 0) 7 (Paused (at 0 2 0) 7) ∷ begun) good
-  pub not-newest : Since (notRefused (slice (at 0 0 0) 7 (Paused (at 0 2 0) 7) ∷ slice (at 0 0 0) 5 (Paused (at 0 1 2) 5) ∷ [])) (start (Granted (at 0 0 0))) → ⊥
+  pub not-newest : Since (withoutRefused (slice (at 0 0 0) 7 (Paused (at 0 2 0) 7) ∷ slice (at 0 0 0) 5 (Paused (at 0 1 2) 5) ∷ [])) (start (Granted (at 0 0 0))) → ⊥
   -- A cursor that no call handed out, here at the end of a table that breaks a rule, would be believed: demand 3 asks that cursors are not altered. No run has
   -- such a slice.
   pub altered : Slices bad (at 0 3 0) 0 (NothingViolated (at 0 3 0) 0) × (RulesHold bad → ⊥)

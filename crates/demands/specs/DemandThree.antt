@@ -17,7 +17,7 @@ use Rattle.checker.specs.declared.SliceAnswer.{SliceAnswer}
 use Rattle.checker.specs.declared.SliceAnswer.the-variants as answer
 use Rattle.demands.specs.Verdicts.{Verdict, Gives, RightVerdict}
 use Rattle.demands.specs.DemandTwo.{WholeCheck}
-use Rattle.demands.specs.Runs.{Call, slice, cursorOf, Run, Renews, notRefused, Since, budgets, HasSlice, HasVerdict}
+use Rattle.demands.specs.Runs.{Call, slice, cursorOf, Run, Renews, withoutRefused, Since, budgets, HasSlice, HasVerdict}
 
 -- Sound: in every run each verdict is what the rules, in their unending meaning, say of the table as it stands then. There is a whole check of that
 -- table, and each gives this verdict.
@@ -38,16 +38,16 @@ RunsAreSound =
 abbrev pub RunsEndInTime : Type 0
 RunsEndInTime =
     (part : List Call) (last : Call) (earlier : List Call) (t : List ℕ)
-    → Run (part ++ last ∷ earlier) t → Renews last → Since (notRefused part) last
-    → HasSlice (notRefused part) → placeCount t ≤ budgets (notRefused part) → HasVerdict part
+    → Run (part ++ last ∷ earlier) t → Renews last → Since (withoutRefused part) last
+    → HasSlice (withoutRefused part) → placeCount t ≤ budgets (withoutRefused part) → HasVerdict part
 
 -- So nothing is lost by passing over what was refused: in a run no slice that is given the newest cursor is refused, nor a move of a leg of the table, where
 -- the revision can rise.
 pub record RunsGoOn : Type 0 where
   pub slice : (calls : List Call) (t : List ℕ) (latest : Call) (before : List Call) (budget k p : ℕ) (d : Cursor)
-      → Run calls t → notRefused calls ≡ latest ∷ before → Slices t (cursorOf latest) budget (answer.Refused k p d) → ⊥
+      → Run calls t → withoutRefused calls ≡ latest ∷ before → Slices t (cursorOf latest) budget (answer.Refused k p d) → ⊥
   pub move-leg : (calls : List Call) (t : List ℕ) (latest : Call) (before : List Call) (leg offset k p : ℕ) (d : Cursor) (u : List ℕ)
-      → Run calls t → notRefused calls ≡ latest ∷ before → leg < legCount t → revisionOf t < maxWord
+      → Run calls t → withoutRefused calls ≡ latest ∷ before → leg < legCount t → revisionOf t < maxWord
       → Moves t (cursorOf latest) leg offset (Refused k p d) u → ⊥
 
 -- The table stays well-formed, so that no start of a run is refused.

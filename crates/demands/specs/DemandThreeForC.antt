@@ -19,7 +19,7 @@ use Rattle.host.specs.Theorems.{moveBytes}
 use Rattle.host.specs.declared.Answer.{Answer}
 use Rattle.demands.specs.Verdicts.{Verdict, violated, nothing-violated}
 use Rattle.demands.specs.DemandThree.{Sound}
-use Rattle.demands.specs.HostRuns.{savedIn, HostCall, start, slice, move-leg, leftBy, NotRefused, SliceMade, HostRun}
+use Rattle.demands.specs.HostRuns.{savedIn, HostCall, start, slice, move-leg, bytesLeft, NotRefused, SliceMade, HostRun}
 
 -- A rule is violated, at the place of the cursor that the slice left.
 pub record TellsPlace (a : Answer) (out : List ℕ) (v : Verdict) : Type 0 where
@@ -46,8 +46,8 @@ HostRunsAreSound =
 
 -- In time: the part of a run since the call last has slices alone, each given the saved cursor that the call before it left.
 abbrev pub newestLeft : List HostCall → HostCall → List ℕ
-newestLeft [] last = savedIn (leftBy last)
-newestLeft (call ∷ part) last = savedIn (leftBy call)
+newestLeft [] last = savedIn (bytesLeft last)
+newestLeft (call ∷ part) last = savedIn (bytesLeft call)
 
 abbrev pub HostSince : List HostCall → HostCall → Type 0
 HostSince [] last = Unit {0}
@@ -88,11 +88,11 @@ pub record HostRunsGoOn : Type 0 where
   pub start : (calls : List HostCall) (plan out : List ℕ) (a : Answer) (out′ : List ℕ)
       → HostRun calls plan → maxCursorBytes ≤ length out → HostStarts plan out a out′ → NotRefused a
   pub slice : (latest : HostCall) (earlier : List HostCall) (plan : List ℕ) (budget : ℕ) (out : List ℕ) (a : Answer) (out′ : List ℕ)
-      → HostRun (latest ∷ earlier) plan → maxCursorBytes ≤ length out → HostSlices plan (savedIn (leftBy latest)) budget out a out′ → NotRefused a
+      → HostRun (latest ∷ earlier) plan → maxCursorBytes ≤ length out → HostSlices plan (savedIn (bytesLeft latest)) budget out a out′ → NotRefused a
   pub move-leg : (latest : HostCall) (earlier : List HostCall) (plan t : List ℕ) (leg offset : ℕ) (m : Lent) (a : Answer) (m′ : Lent)
       → HostRun (latest ∷ earlier) plan → IsFile Sized plan t → leg < legCount t → revisionOf t < maxWord
       → maxCursorBytes ≤ length (m .out) → length plan + moveBytes ≤ length (m .file)
-      → HostMoves plan (savedIn (leftBy latest)) leg offset m a m′ → NotRefused a
+      → HostMoves plan (savedIn (bytesLeft latest)) leg offset m a m′ → NotRefused a
   pub verdict : (plan cursor : List ℕ) (budget : ℕ) (a : Answer) (out : List ℕ)
       → SliceMade plan cursor budget a out → (a .result ≡ 1 → ⊥) → (v : Verdict) × HostGives a out v
 

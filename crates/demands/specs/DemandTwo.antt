@@ -8,6 +8,7 @@ use Rattle.shape.specs.Shape.{WellFormedTable}
 use Rattle.files.specs.Theorems.{FilesComeBack, TablesComeBack}
 use Rattle.files.specs.declared.Cursor.{Cursor}
 use Rattle.rules.specs.Rules.{RulesHold}
+use Rattle.rules.specs.Theorems.{OwnRepeatsNeverMeet}
 use Rattle.rules.specs.declared.Rule.{Rule}
 use Rattle.places.specs.Order.{placeCount}
 use Rattle.checker.specs.Slices.{startCursor, Starts, Slices}
@@ -34,10 +35,12 @@ pub record WholeCheckIsRight (t : List ℕ) (r : SliceAnswer) : Type 0 where
   pub rules-hold : Gives r nothing-violated → RulesHold t
   pub names : (RulesHold t → ⊥) → (a : ℕ) × (p : ℕ) × (s : Rule) × Gives r (violated a p s) × FirstViolated t a p
 
--- A well-formed table is granted a start, and its number of places is a budget that can be given.
+-- A well-formed table is granted a start, and its number of places is a budget that can be given. RulesHold speaks of the frames of two legs; those of one leg do not
+-- meet where its window holds.
 pub record DemandTwo : Type 0 where
   pub starts : (t : List ℕ) (g : Grant) → WellFormedTable t → Starts t g → g ≡ Granted (startCursor t)
   pub places : (t : List ℕ) → WellFormedTable t → placeCount t ≤ maxWord
   pub checks : (t : List ℕ) (r : SliceAnswer) → WholeCheck t r → WholeCheckIsRight t r
+  pub own-repeats : OwnRepeatsNeverMeet
   pub files : FilesComeBack
   pub tables : TablesComeBack

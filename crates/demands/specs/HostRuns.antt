@@ -30,15 +30,15 @@ pub data HostCall : Type 0 where
   move-leg : List ℕ → ℕ → ℕ → Answer → Lent → HostCall
 
 -- The bytes that it left for the cursor.
-abbrev pub leftBy : HostCall → List ℕ
-leftBy (start a out) = out
-leftBy (slice cursor budget a out) = out
-leftBy (move-leg cursor leg offset a m) = m .out
+abbrev pub bytesLeft : HostCall → List ℕ
+bytesLeft (start a out) = out
+bytesLeft (slice cursor budget a out) = out
+bytesLeft (move-leg cursor leg offset a m) = m .out
 
 -- The calls of a run stand in a list, the latest first. A saved cursor was left by one of them.
 abbrev pub LeftBy : List ℕ → List HostCall → Type 0
 LeftBy cursor [] = ⊥
-LeftBy cursor (call ∷ earlier) = (cursor ≡ savedIn (leftBy call)) ⊎ LeftBy cursor earlier
+LeftBy cursor (call ∷ earlier) = (cursor ≡ savedIn (bytesLeft call)) ⊎ LeftBy cursor earlier
 
 abbrev pub NotRefused : Answer → Type 0
 NotRefused a = a .result < refusedResult 0
@@ -54,7 +54,7 @@ pub record SliceMade (plan cursor : List ℕ) (budget : ℕ) (a : Answer) (out�
   pub slices : HostSlices plan cursor budget out a out′
   pub not-refused : NotRefused a
 
-pub record MoveDone (old cursor : List ℕ) (leg offset : ℕ) (a : Answer) (m′ : Lent) (plan : List ℕ) : Type 0 where
+pub record MoveMade (old cursor : List ℕ) (leg offset : ℕ) (a : Answer) (m′ : Lent) (plan : List ℕ) : Type 0 where
   pub m : Lent
   pub word : offset ≤ maxWord
   pub moves : HostMoves old cursor leg offset m a m′
@@ -71,4 +71,4 @@ HostRun (start a out ∷ call ∷ earlier) plan = HostRun (call ∷ earlier) pla
 HostRun (slice cursor budget a out ∷ call ∷ earlier) plan =
     HostRun (call ∷ earlier) plan × LeftBy cursor (call ∷ earlier) × SliceMade plan cursor budget a out
 HostRun (move-leg cursor leg offset a m ∷ call ∷ earlier) plan =
-    (old : List ℕ) × HostRun (call ∷ earlier) old × LeftBy cursor (call ∷ earlier) × MoveDone old cursor leg offset a m plan
+    (old : List ℕ) × HostRun (call ∷ earlier) old × LeftBy cursor (call ∷ earlier) × MoveMade old cursor leg offset a m plan

@@ -78,9 +78,9 @@ refused (slice c budget (answer.Refused k p d)) = true
 refused (move-leg c leg offset g) = notGranted g
 
 -- The calls without the refused ones, which are passed over: whatever cursor they were given, they count for nothing.
-abbrev pub notRefused : List Call → List Call
-notRefused [] = []
-notRefused (call ∷ part) = pick (refused call) (notRefused part) (call ∷ notRefused part)
+abbrev pub withoutRefused : List Call → List Call
+withoutRefused [] = []
+withoutRefused (call ∷ part) = pick (refused call) (withoutRefused part) (call ∷ withoutRefused part)
 
 -- Of calls that were not refused: the newest cursor is the one in the last answer, that of the latest call of the part, or of the call before the part.
 abbrev pub newest : List Call → Call → Cursor

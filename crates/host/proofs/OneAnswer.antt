@@ -20,7 +20,7 @@ use Rattle.checker.proofs.OneAnswer.{start-one-answer, slice-one-answer, move-o
 use Rattle.host.specs.declared.Answer.{Answer}
 use Rattle.host.specs.Answers.{refusal, sliceAnswered, startAnswered, bytesAfterSlice, bytesAfterStart, resultAlone}
 use Rattle.host.specs.Refusals.{RefusedFor, CursorUnread, TooFew, AfterPlan, AfterCursor, AfterRoom}
-use Rattle.host.specs.Calls.{Lent, AfterMove, BothWritten, Started, Sliced, MoveMade, StartsTable, SlicesTable, MovesTable}
+use Rattle.host.specs.Calls.{Lent, AfterMove, BothWritten, Started, Sliced, MovedLeg, StartsTable, SlicesTable, MovesTable}
 use Rattle.host.specs.Theorems.{OneAnswer, HostStartOneAnswer, HostSliceFullOneAnswer, HostSliceOneAnswer, HostMoveOneAnswer, SliceGivesTheResult}
 
 -- What was read of a cursor, as numbers and a cursor.
@@ -101,7 +101,7 @@ after-move-one (grant.Granted d) u m a b x y v w =
     after-room-one Lent m (length (m .file)) (length (fileOf u)) (BothWritten u d m) (written-one u d m) a b x y v w
 after-move-one (grant.Refused k p d) u m a b x y v w = (v .0 ∙ sym (w .0), v .1 ∙ sym (w .1))
 
-move-made-one : (t : List ℕ) (c : Cursor) (leg offset : ℕ) (m : Lent) → OneAnswer Answer Lent (MoveMade t c leg offset m)
+move-made-one : (t : List ℕ) (c : Cursor) (leg offset : ℕ) (m : Lent) → OneAnswer Answer Lent (MovedLeg t c leg offset m)
 move-made-one t c leg offset m a b x y u v =
     let e = move-one-answer t c leg offset (v .given) (u .given) (v .table) (u .table) (v .moves) (u .moves) in
     let w = subst (λ (g : Grant). AfterMove g (v .table) m b y) (e .0) (v .after) in
@@ -122,7 +122,7 @@ pub host-move-one-answer : HostMoveOneAnswer
 host-move-one-answer plan cursor leg offset m =
     after-plan-one Lent m plan (λ (t : List ℕ). AfterCursor Lent cursor m (λ (c : Cursor). MovesTable t c leg offset m))
     (λ t. after-cursor-one Lent m cursor (λ (c : Cursor). MovesTable t c leg offset m)
-    (λ c. after-room-one Lent m (length (m .out)) maxCursorBytes (MoveMade t c leg offset m) (move-made-one t c leg offset m)))
+    (λ c. after-room-one Lent m (length (m .out)) maxCursorBytes (MovedLeg t c leg offset m) (move-made-one t c leg offset m)))
 
 -- The result alone.
 pub slice-gives-the-result : SliceGivesTheResult

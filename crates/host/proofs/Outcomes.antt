@@ -22,7 +22,7 @@ use Rattle.checker.specs.declared.SliceAnswer.the-variants as answer
 use Rattle.host.specs.declared.Answer.{Answer}
 use Rattle.host.specs.Answers.{refusedResult, ruleResult, refusal, sliceAnswered, startAnswered, bytesAfterSlice, bytesAfterStart, resultAlone}
 use Rattle.host.specs.Refusals.{AfterPlan, AfterCursor, AfterRoom}
-use Rattle.host.specs.Calls.{Lent, AfterMove, Started, Sliced, MoveMade, StartsTable, SlicesTable, MovesTable, HostStarts}
+use Rattle.host.specs.Calls.{Lent, AfterMove, Started, Sliced, MovedLeg, StartsTable, SlicesTable, MovesTable, HostStarts}
 use Rattle.host.specs.Theorems.{Keeps, HostRefusalsWriteNothing, PlanFaultsComeFirst, ResultsOfThePaper}
 
 -- A refusal at any stage keeps the memory, so what comes after the stage decides.
@@ -61,21 +61,25 @@ move-keeps m (grant.Granted d) u a m′ (inl x) h = x .kept
 move-keeps m (grant.Granted d) u a m′ (inr x) h = absurd (omega (arith, ap resultAlone (x .1 .answer), h))
 move-keeps m (grant.Refused k p d) u a m′ x h = x .1
 
+slices-keep : (plan cursor : List ℕ) (budget : ℕ) (out : List ℕ) → Keeps (List ℕ) out (HostSlices plan cursor budget out)
+slices-keep plan cursor budget out =
+    after-plan-keeps (List ℕ) out plan (λ (t : List ℕ). AfterCursor (List ℕ) cursor out (λ (c : Cursor). SlicesTable t c budget out))
+    (λ t. after-cursor-keeps (List ℕ) out cursor (λ (c : Cursor). SlicesTable t c budget out)
+    (λ c. after-room-keeps (List ℕ) out (length out) maxCursorBytes (Sliced t c budget out)
+    (λ a out′ x. slice-keeps out out′ (x .given) a (x .answer) (x .after))))
+
 pub host-refusals-write-nothing : HostRefusalsWriteNothing
 host-refusals-write-nothing = record {
   start = λ plan out.
       after-plan-keeps (List ℕ) out plan (λ (t : List ℕ). StartsTable t out)
       (λ t. after-room-keeps (List ℕ) out (length out) maxCursorBytes (Started t out)
       (λ a out′ x. start-keeps out out′ (placeCount t) (x .given) a (x .answer) (x .after)));
-  slice = λ plan cursor budget out.
-      after-plan-keeps (List ℕ) out plan (λ (t : List ℕ). AfterCursor (List ℕ) cursor out (λ (c : Cursor). SlicesTable t c budget out))
-      (λ t. after-cursor-keeps (List ℕ) out cursor (λ (c : Cursor). SlicesTable t c budget out)
-      (λ c. after-room-keeps (List ℕ) out (length out) maxCursorBytes (Sliced t c budget out)
-      (λ a out′ x. slice-keeps out out′ (x .given) a (x .answer) (x .after))));
+  slice = slices-keep;
+  slice-alone = λ plan cursor budget out r out′ x h. slices-keep plan cursor budget out (x .answer) out′ (x .slices) (omega (arith, x .is, h));
   move-leg = λ plan cursor leg offset m.
       after-plan-keeps Lent m plan (λ (t : List ℕ). AfterCursor Lent cursor m (λ (c : Cursor). MovesTable t c leg offset m))
       (λ t. after-cursor-keeps Lent m cursor (λ (c : Cursor). MovesTable t c leg offset m)
-      (λ c. after-room-keeps Lent m (length (m .out)) maxCursorBytes (MoveMade t c leg offset m)
+      (λ c. after-room-keeps Lent m (length (m .out)) maxCursorBytes (MovedLeg t c leg offset m)
       (λ a m′ x. move-keeps m (x .given) (x .table) a m′ (x .after))));
 }
 

@@ -32,7 +32,7 @@ use Rattle.host.specs.declared.Opened.{Opened}
 use Rattle.host.specs.declared.Opened.the-variants as opened
 use Rattle.host.specs.Answers.{answered, refusal, sliceAnswered, startAnswered, withCursor, bytesAfterSlice, bytesAfterStart}
 use Rattle.host.specs.Refusals.{CursorUnread, TooFew, AfterPlan, AfterCursor}
-use Rattle.host.specs.Calls.{Lent, lent, WritesBoth, MoveMade, Started, Sliced, SlicesTable, MovesTable, HostSlices, HostMoves}
+use Rattle.host.specs.Calls.{Lent, lent, WritesBoth, MovedLeg, Started, Sliced, SlicesTable, MovesTable, HostSlices, HostMoves}
 use Rattle.host.specs.Steps.{Small, InFront, Opens}
 use Rattle.host.proofs.Laws.{plan-fault, plan-fault-small, cursor-file-small, shape-small, cursor-fault-small, move-fault-small}
 
@@ -124,12 +124,12 @@ module _ (t : List ℕ) (c : Cursor) (leg offset : ℕ) (g : Grant) (u : List �
       subst Sized (sym (r .table)) (moves-keep-shape t _ (moved-same t (w .sized) leg offset (r .below)) w .sized)
 
   pub move-refused : (m : Lent) (a : Answer) (k p : ℕ) (d : Cursor) → g ≡ grant.Refused k p d → Moves t c leg offset g u → a ≡ refusal k p
-      → MoveMade t c leg offset m a m
+      → MovedLeg t c leg offset m a m
   move-refused m a k p d e h f =
       record { given = grant.Refused k p d; table = u; moves = subst (λ (x : Grant). Moves t c leg offset x u) e h; after = (f, refl) }
 
   pub move-granted : (m : Lent) (a : Answer) (m′ : Lent) (d : Cursor) → g ≡ grant.Granted d → Moves t c leg offset g u → WritesBoth u d m a m′
-      → MoveMade t c leg offset m a m′
+      → MovedLeg t c leg offset m a m′
   move-granted m a m′ d e h w = record { given = grant.Granted d; table = u; moves = subst (λ (x : Grant). Moves t c leg offset x u) e h; after = w }
 
 -- A plan file was written, or had no room.

@@ -54,7 +54,7 @@ AfterMove (grant.Granted d) u m a m′ = WritesBoth u d m a m′
 AfterMove (grant.Refused k p d) u m a m′ = (a ≡ refusal k p) × (m′ ≡ m)
 
 -- A move of one leg of the table t: given is what it gives, and table is what t becomes.
-pub record MoveMade (t : List ℕ) (c : Cursor) (leg offset : ℕ) (m : Lent) (a : Answer) (m′ : Lent) : Type 0 where
+pub record MovedLeg (t : List ℕ) (c : Cursor) (leg offset : ℕ) (m : Lent) (a : Answer) (m′ : Lent) : Type 0 where
   pub given : Grant
   pub table : List ℕ
   pub moves : Moves t c leg offset given table
@@ -69,7 +69,7 @@ abbrev pub SlicesTable : List ℕ → Cursor → ℕ → List ℕ → Answer →
 SlicesTable t c budget out = AfterRoom (List ℕ) (length out) maxCursorBytes out (Sliced t c budget out)
 
 abbrev pub MovesTable : List ℕ → Cursor → ℕ → ℕ → Lent → Answer → Lent → Type 0
-MovesTable t c leg offset m = AfterRoom Lent (length (m .out)) maxCursorBytes m (MoveMade t c leg offset m)
+MovesTable t c leg offset m = AfterRoom Lent (length (m .out)) maxCursorBytes m (MovedLeg t c leg offset m)
 
 -- The calls, on the bytes of a plan file and of a saved cursor. A start is given no cursor.
 abbrev pub HostStarts : List ℕ → List ℕ → Answer → List ℕ → Type 0

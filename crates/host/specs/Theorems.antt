@@ -45,6 +45,7 @@ Keeps M m Does = (a : Answer) (m′ : M) → Does a m′ → refusedResult 0 ≤
 pub record HostRefusalsWriteNothing : Type 0 where
   pub start : (plan out : List ℕ) → Keeps (List ℕ) out (HostStarts plan out)
   pub slice : (plan cursor : List ℕ) (budget : ℕ) (out : List ℕ) → Keeps (List ℕ) out (HostSlices plan cursor budget out)
+  pub slice-alone : (plan cursor : List ℕ) (budget : ℕ) (out : List ℕ) (r : ℕ) (out′ : List ℕ) → HostSliceResult plan cursor budget out r out′ → refusedResult 0 ≤ r → out′ ≡ out
   pub move-leg : (plan cursor : List ℕ) (leg offset : ℕ) (m : Lent) → Keeps Lent m (HostMoves plan cursor leg offset m)
 
 -- Which file a refusal 12, 13 or 14 lies in: in every call a fault of the plan file comes before all else, and a start gives 12, 13 and 14 for such a fault alone.

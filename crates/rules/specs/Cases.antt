@@ -1,5 +1,5 @@
 -- The rules at numbers: document 01's starred cases, and cases beside them that rule out wrong definitions.
-use Prim.Native.Nat.{ℕ, _≤_, _<_}
+use Prim.Native.Nat.{ℕ, _+_, _≤_, _<_}
 use mathlib.Core.List.{[], _∷_}
 use mathlib.Core.Path.{_≡_}
 use Rattle.numbers.specs.Number.{bytesOf}
@@ -11,6 +11,8 @@ use Rattle.overlap.specs.Meeting.{HoldsLink}
 use Rattle.overlap.specs.Theorems.{in100000, in150000}
 use Rattle.rules.specs.Times.{wireTime}
 use Rattle.rules.specs.Rules.{Window, Hop, Deadline, Overlap, RulesHold}
+use Rattle.rules.specs.Places.{ruleAt, PlaceHolds}
+use Rattle.rules.specs.declared.Rule.the-variants as rule
 
 -- Document 01's starred cases 1 to 10.
 pub record StarredCases : Type 0 where
@@ -26,12 +28,13 @@ pub record StarredCases : Type 0 where
   pub case-9 : Window (planWith (fullA 0)) 0 × (Window (planWith (fullA 1)) 0 → ⊥)
   pub case-10 : (bytesOf 300 ≡ 0xAC ∷ 0x02 ∷ []) × (bytesOf 4294967295 ≡ 0xFF ∷ 0xFF ∷ 0xFF ∷ 0xFF ∷ 0x0F ∷ [])
 
--- Each rule with Plan B, where a leg's own numbers differ from those of every other leg: a window by its own hold time, a hop by the previous leg's wire time and
--- propagation, a deadline by the last leg's own, an overlap by each leg's own hold time. Beside that: a deadline is not for a leg that is not the last, and
--- counts from the first leg's offset; legs on different links may be sent at one time.
+-- Each rule with Plan B, whose two links differ, and so do the two frames on link 0: a window by the leg's own hold time, a hop by the previous leg's wire time and
+-- propagation, a deadline by the last leg's own, an overlap by each leg's own hold time. Beside that: an offset past the period is not taken by its remainder; a
+-- deadline is not for a leg that is not the last, and counts from the first leg's offset; legs on different links may be sent at one time.
 pub record MoreCases : Type 0 where
   pub window-1 : Window (planWith (offsetsB 0 94240 576)) 1 × (Window (planWith (offsetsB 0 94241 576)) 1 → ⊥)
   pub window-2 : Window (planWith (offsetsB 0 1176 137760)) 2 × (Window (planWith (offsetsB 0 1176 137761)) 2 → ⊥)
+  pub window-past : Window (planWith (offsetsA 100000 1176 0)) 0 → ⊥
   pub hop : Hop (planWith (offsetsB 0 1176 576)) 1 × (Hop (planWith (offsetsB 0 1175 576)) 1 → ⊥)
   pub deadline : Deadline (planWith (dueB 7736)) 1 × (Deadline (planWith (dueB 7735)) 1 → ⊥)
   pub overlap-first : Overlap (planWith (offsetsB 0 1176 576)) 2 0 × (Overlap (planWith (offsetsB 0 1176 575)) 2 0 → ⊥)
@@ -39,6 +42,15 @@ pub record MoreCases : Type 0 where
   pub not-last : Deadline (planWith (dueA 1 0)) 0
   pub from-first : Deadline (planWith (dueA 2352 600)) 1 × (Deadline (planWith (dueA 2351 600)) 1 → ⊥)
   pub other-links : Overlap (planWith (offsetsA 0 1176 1176)) 2 1
+
+-- The places of a leg: which rule stands at each, by its name and by what it asks for. Of each of the four plans one rule is broken at the leg that is named, and
+-- it is broken at its own place alone.
+pub record PlacesAtNumbers : Type 0 where
+  pub names : (ruleAt 0 ≡ rule.Window) × (ruleAt 1 ≡ rule.Hop) × (ruleAt 2 ≡ rule.Deadline) × ((b : ℕ) → ruleAt (3 + b) ≡ rule.Overlap)
+  pub window : (PlaceHolds (planWith (fullA 1)) 0 0 → ⊥) × PlaceHolds (planWith (fullA 1)) 0 1 × PlaceHolds (planWith (fullA 1)) 0 2
+  pub hop : (PlaceHolds (planWith (offsetsA 0 1175 0)) 1 1 → ⊥) × PlaceHolds (planWith (offsetsA 0 1175 0)) 1 0 × PlaceHolds (planWith (offsetsA 0 1175 0)) 1 2
+  pub deadline : (PlaceHolds (planWith (dueA 2351 0)) 1 2 → ⊥) × PlaceHolds (planWith (dueA 2351 0)) 1 0 × PlaceHolds (planWith (dueA 2351 0)) 1 1
+  pub overlap : (PlaceHolds (planWith (offsetsA 0 1176 575)) 2 3 → ⊥) × PlaceHolds (planWith (offsetsA 0 1176 575)) 2 4
 
 -- All tables of these cases are well-formed, whatever their offsets: they are plans.
 pub record CasesArePlans : Type 0 where
