@@ -20,6 +20,7 @@ use Rattle.checker.specs.Slices.{Starts, Slices}
 use Rattle.checker.specs.declared.Grant.the-variants.{Granted}
 use Rattle.checker.specs.declared.SliceAnswer.the-variants.{Violated, NothingViolated, Paused}
 use Rattle.checker.specs.declared.SliceAnswer.the-variants as answer
+use Rattle.demands.specs.Verdicts.{nothing-violated}
 use Rattle.demands.specs.Runs.{slice, move-leg, Run}
 use Rattle.demands.specs.AtNumbers.{good, none, at, begun, RunsAtNumbers}
 use Rattle.demands.specs.CasesAsRuns.{pausedTwice, case11, case12, case13, CasesAsRuns}
@@ -90,6 +91,9 @@ runs-at-numbers = record {
   no-verdict = λ v. ⊎-elim (λ z. absurd (z .1)) (λ w. ⊎-elim (λ z. absurd (z .1)) (λ z. absurd z) w) v;
   verdict = to-the-end;
   enough = sym (ranks .3);
+  renewed = (tt, tt);
+  asked-for = ((refl, (refl, tt)), tt);
+  has-verdict = inl (nothing-violated, refl);
   nothing-looked-at = (on-good, inl refl, pauses 1 2 1 2 0 (omega arith) (omega arith) (omega arith) (omega arith) (omega arith) (omega (arith, ranks .1)));
   at-the-end = (to-the-end, inl refl, ends 3 0 0 (inr (record { leg = refl; place = refl })) (omega arith));
   passed = (

@@ -19,6 +19,7 @@ use Rattle.files.specs.Theorems.{maxCursorBytes, planAFile}
 use Rattle.files.specs.declared.Cursor.{Cursor}
 use Rattle.files.specs.declared.CursorRead.the-variants as read
 use Rattle.files.proofs.AtNumbers.{plan-a-file}
+use Rattle.rules.specs.declared.Rule.{Rule}
 use Rattle.rules.specs.declared.Rule.the-variants as rule
 use Rattle.rules.proofs.Placing.{overlap-rule}
 use Rattle.rules.proofs.CasePlaces.{meets-at-2-3}
@@ -26,8 +27,10 @@ use Rattle.checker.specs.Slices.{Slices}
 use Rattle.checker.specs.declared.Grant.the-variants.{Granted}
 use Rattle.checker.specs.declared.SliceAnswer.{SliceAnswer}
 use Rattle.checker.specs.declared.SliceAnswer.the-variants.{Violated, NothingViolated, Paused}
-use Rattle.host.specs.Answers.{answered, sliceAnswered, bytesAfterSlice, withCursor}
+use Rattle.host.specs.Answers.{answered, ruleResult, sliceAnswered, bytesAfterSlice, withCursor}
 use Rattle.host.specs.Calls.{lent}
+use Rattle.demands.specs.Verdicts.{violated}
+use Rattle.demands.specs.DemandThreeForC.{HostGives}
 use Rattle.demands.specs.HostRuns.{upToClosing, savedIn, NotRefused, StartMade, SliceMade, MoveMade, HostRun}
 use Rattle.demands.specs.AtNumbers.{at}
 use Rattle.demands.specs.HostAtNumbers.{movedFile, zeros, saved, left, violatedInC, HostRunsAtNumbers}
@@ -184,16 +187,32 @@ accepts =
 violates-in-c : HostRun violatedInC planAFile
 violates-in-c = ((start-made, inl (at-start .found), pauses), inl (at-2-3 .found), violates)
 
+tells-place : HostGives (answered 5 1) (left 0 2 3) (violated 2 3 rule.Overlap)
+tells-place = inr (record {
+  rule = rule.Overlap;
+  cursor = at 0 2 3;
+  result = refl;
+  saved = subst (λ (s : List ℕ). ReadsCursor s (read.Saved (at 0 2 3))) (at-2-3 .found) (at-2-3 .reads);
+  is = refl;
+})
+
+-- A slice that paused gives no verdict.
+paused-is-none : (r : Rule) → _≡_ {A = ℕ} 1 (ruleResult r) → ⊥
+paused-is-none rule.Window e = omega (arith, e)
+paused-is-none rule.Hop e = omega (arith, e)
+paused-is-none rule.Deadline e = omega (arith, e)
+paused-is-none rule.Overlap e = omega (arith, e)
+
 pub host-runs-at-numbers : HostRunsAtNumbers
 host-runs-at-numbers = record {
   violates = violates-in-c;
-  tells-place = inr (record {
-    rule = rule.Overlap;
-    cursor = at 0 2 3;
-    result = refl;
-    saved = subst (λ (s : List ℕ). ReadsCursor s (read.Saved (at 0 2 3))) (at-2-3 .found) (at-2-3 .reads);
-    is = refl;
-  });
+  tells-place = tells-place;
+  renewed = (tt, tt);
+  asked-for = ((at-2-3 .found, (at-start .found, tt)), refl);
+  has-verdict = inl (violated 2 3 rule.Overlap, tells-place);
+  no-verdict = λ v. ⊎-elim (λ g. ⊎-elim (λ z. omega (arith, z .0)) (λ z. paused-is-none (z .rule) (z .result)) (g .1)) (λ z. absurd z) v;
+  older = (violates-in-c, inr (inr (inl (at-start .found))), pauses);
+  started-again = (violates-in-c, start-made);
   accepts = ((planAFile, violates-in-c, inl (at-2-3 .found), moves), inl (after-move .found), accepts);
   tells-none = inl (refl, refl);
   altered =

@@ -11,7 +11,7 @@ use Rattle.checker.specs.Slices.{Slices}
 use Rattle.checker.specs.declared.Grant.the-variants.{Granted, Refused}
 use Rattle.checker.specs.declared.SliceAnswer.the-variants.{NothingViolated, Paused}
 use Rattle.checker.specs.declared.SliceAnswer.the-variants as answer
-use Rattle.demands.specs.Runs.{Call, start, slice, move-leg, Run, withoutRefused, Since, budgets, HasVerdict}
+use Rattle.demands.specs.Runs.{Call, start, slice, move-leg, Run, Renews, withoutRefused, Since, budgets, HasSlice, HasVerdict}
 
 abbrev pub good : List ℕ
 good = planWith (offsetsA 0 1176 576)
@@ -30,6 +30,10 @@ at revision leg place = record { revision = revision; leg = leg; place = place }
 abbrev pub begun : List Call
 begun = slice (at 0 0 0) 5 (Paused (at 0 1 2) 5) ∷ start (Granted (at 0 0 0)) ∷ []
 
+-- Two slices after a start, with budgets of 5 and 7.
+abbrev pub fiveAndSeven : List Call
+fiveAndSeven = slice (at 0 1 2) 7 (NothingViolated (at 0 3 0) 7) ∷ slice (at 0 0 0) 5 (Paused (at 0 1 2) 5) ∷ []
+
 -- Two slices after a move, and between them one that was refused, being given a cursor of the old revision.
 abbrev pub overStale : List Call
 overStale =
@@ -44,7 +48,11 @@ pub record RunsAtNumbers : Type 0 where
   pub eleven : Run (slice (at 0 1 2) 6 (Paused (at 0 2 4) 6) ∷ begun) good
   pub no-verdict : HasVerdict (slice (at 0 1 2) 6 (Paused (at 0 2 4) 6) ∷ slice (at 0 0 0) 5 (Paused (at 0 1 2) 5) ∷ []) → ⊥
   pub verdict : Run (slice (at 0 1 2) 7 (NothingViolated (at 0 3 0) 7) ∷ begun) good
-  pub enough : budgets (slice (at 0 1 2) 7 (NothingViolated (at 0 3 0) 7) ∷ slice (at 0 0 0) 5 (Paused (at 0 1 2) 5) ∷ []) ≡ placeCount good
+  pub enough : budgets fiveAndSeven ≡ placeCount good
+  -- These two have all that demand 3 asks for, and their verdict: a start or a granted move before them, a slice, and the newest cursor each time.
+  pub renewed : Renews (start (Granted (at 0 0 0))) × Renews (move-leg (at 0 1 2) 2 700 (Granted (at 1 1 2)))
+  pub asked-for : Since (withoutRefused fiveAndSeven) (start (Granted (at 0 0 0))) × HasSlice (withoutRefused fiveAndSeven)
+  pub has-verdict : HasVerdict fiveAndSeven
   -- A budget of 0 looks at nothing, and at the end it is a verdict.
   pub nothing-looked-at : Run (slice (at 0 1 2) 0 (Paused (at 0 1 2) 0) ∷ begun) good
   pub at-the-end : Run (slice (at 0 3 0) 0 (NothingViolated (at 0 3 0) 0) ∷ slice (at 0 1 2) 7 (NothingViolated (at 0 3 0) 7) ∷ begun) good
@@ -59,7 +67,7 @@ pub record RunsAtNumbers : Type 0 where
   pub over-stale : Run (overStale ++ move-leg (at 0 1 2) 2 700 (Granted (at 1 1 2)) ∷ begun) (moved good 2 700)
   pub passed-over : Since (withoutRefused overStale) (move-leg (at 0 1 2) 2 700 (Granted (at 1 1 2)))
   pub not-counted : budgets (withoutRefused overStale) ≡ 2
-  -- With an older cursor than the newest budgets of 5 and 7 give no verdict, and such a part is none that counts.
+  -- Where a slice is given an older cursor than the newest, budgets of 5 and 7 give no verdict, and such a part does not count.
   pub older : Run (slice (at 0 0 0) 7 (Paused (at 0 2 0) 7) ∷ begun) good
   pub not-newest : Since (withoutRefused (slice (at 0 0 0) 7 (Paused (at 0 2 0) 7) ∷ slice (at 0 0 0) 5 (Paused (at 0 1 2) 5) ∷ [])) (start (Granted (at 0 0 0))) → ⊥
   -- A cursor that no call handed out, here at the end of a table that breaks a rule, would be believed: demand 3 asks that cursors are not altered. No run has

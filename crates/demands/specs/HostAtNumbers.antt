@@ -1,5 +1,6 @@
--- A run of the calls for C at numbers, byte by byte: document 01's cases 11 and 12 with Plan A's file.
+-- A run of the calls for C at numbers, byte by byte: Plan A's file, its violated place found in two slices, then document 01's case 12.
 use Prim.Native.Nat.{ℕ, zero, suc}
+use mathlib.Core.Path.{_≡_}
 use mathlib.Core.List.{List, [], _∷_, _++_}
 use Rattle.files.specs.Theorems.{planAFile}
 use Rattle.rules.specs.declared.Rule.the-variants as rule
@@ -7,7 +8,7 @@ use Rattle.host.specs.Answers.{answered}
 use Rattle.host.specs.Calls.{lent}
 use Rattle.demands.specs.Verdicts.{violated, nothing-violated}
 use Rattle.demands.specs.HostRuns.{HostCall, start, slice, move-leg, SliceMade, HostRun}
-use Rattle.demands.specs.DemandThreeForC.{HostGives}
+use Rattle.demands.specs.DemandThreeForC.{HostGives, HostSince, HostRenews, hostBudgets, HostHasVerdict}
 
 -- Plan A's file with revision 1 and leg 2 at 576, 42 bytes.
 abbrev pub movedFile : List ℕ
@@ -32,9 +33,15 @@ left revision leg place = revision ∷ leg ∷ place ∷ zeros 12
 abbrev pub begunInC : List HostCall
 begunInC = start (answered 0 12) (left 0 0 0) ∷ []
 
--- A slice of 10 pauses at (2,3), and one of 5 more finds that place violated (5, overlap) with 1 step.
+-- A slice of 10 places pauses at (2,3). One of 5 finds that place violated: the result is 5, overlap, after 1 step.
+abbrev pub ten : HostCall
+ten = slice (saved 0 0 0) 10 (answered 1 10) (left 0 2 3)
+
+abbrev pub twoSlices : List HostCall
+twoSlices = slice (saved 0 2 3) 5 (answered 5 1) (left 0 2 3) ∷ ten ∷ []
+
 abbrev pub violatedInC : List HostCall
-violatedInC = slice (saved 0 2 3) 5 (answered 5 1) (left 0 2 3) ∷ slice (saved 0 0 0) 10 (answered 1 10) (left 0 2 3) ∷ begunInC
+violatedInC = twoSlices ++ begunInC
 
 -- A move of leg 2 to 576, for which 46 bytes are lent: granted, 42 bytes, cursor (2,0) of revision 1. Then a slice of 5 accepts with 5 steps.
 abbrev pub acceptedInC : List HostCall
@@ -46,6 +53,14 @@ pub record HostRunsAtNumbers : Type 0 where
   pub tells-place : HostGives (answered 5 1) (left 0 2 3) (violated 2 3 rule.Overlap)
   pub accepts : HostRun acceptedInC movedFile
   pub tells-none : HostGives (answered 0 5) (left 1 3 0) nothing-violated
+  -- The two slices have all that demand 3 asks for, and their verdict; the first alone has none.
+  pub renewed : HostRenews (start (answered 0 12) (left 0 0 0)) × HostRenews (move-leg (saved 0 2 3) 2 576 (answered 0 42) (lent (movedFile ++ zeros 4) (left 1 2 0)))
+  pub asked-for : HostSince twoSlices (start (answered 0 12) (left 0 0 0)) × (hostBudgets twoSlices ≡ 15)
+  pub has-verdict : HostHasVerdict twoSlices
+  pub no-verdict : HostHasVerdict (ten ∷ []) → ⊥
+  -- An older cursor of the run may be given again, and the check may be started again.
+  pub older : HostRun (ten ∷ violatedInC) planAFile
+  pub started-again : HostRun (start (answered 0 12) (left 0 0 0) ∷ violatedInC) planAFile
   -- A saved cursor that no call left, here that of the end, would be believed, and no run has such a slice.
   pub altered : SliceMade planAFile (saved 0 3 0) 0 (answered 0 0) (left 0 3 0)
   pub not-left : HostRun (slice (saved 0 3 0) 0 (answered 0 0) (left 0 3 0) ∷ begunInC) planAFile → ⊥

@@ -22,7 +22,7 @@ use Rattle.checker.specs.declared.SliceAnswer.the-variants as answer
 use Rattle.host.specs.declared.Answer.{Answer}
 use Rattle.host.specs.Answers.{refusedResult, ruleResult, refusal, sliceAnswered, startAnswered, bytesAfterSlice, bytesAfterStart, resultAlone}
 use Rattle.host.specs.Refusals.{AfterPlan, AfterCursor, AfterRoom}
-use Rattle.host.specs.Calls.{Lent, AfterMove, Started, Sliced, MovedLeg, StartsTable, SlicesTable, MovesTable, HostStarts}
+use Rattle.host.specs.Calls.{Lent, AfterMove, Started, Sliced, MovedLeg, StartsTable, SlicesTable, MovesTable, HostStarts, HostSlices}
 use Rattle.host.specs.Theorems.{Keeps, HostRefusalsWriteNothing, PlanFaultsComeFirst, ResultsOfThePaper}
 
 -- A refusal at any stage keeps the memory, so what comes after the stage decides.
