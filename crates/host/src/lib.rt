@@ -1,4 +1,5 @@
-// The calls for C, on bytes and numbers. What is lent to one call may not overlap (include/conepalhui.h).
+// The calls for C, on bytes and numbers. What a call writes to overlaps nothing else that is lent to it
+// (include/conepalhui.h).
 ghost use Prim.Native.Nat.{_≤_};
 ghost use lib.ListN.{length};
 ghost use Rattle.table.specs.Layout.{maxTableWords};
