@@ -12,9 +12,10 @@
  * Every answer is a line. It is printed when all that it tells is on the disk: a move that is told as moved is in the
  * plan for good. Whoever misses the answer to a move makes it again, which does no harm.
  *
- * The program may be killed at any moment, and is then called again. While it does not run, the plan may be edited,
- * exchanged, or put back from a backup. This costs time, and never a wrong verdict. Only this program writes cursor and
- * seen. It saves the files in a fixed order, and each is on the disk before the next is touched:
+ * The program may be killed at any moment, and is then called again. While it does not run, the plan may be edited or
+ * exchanged. This costs time, and never a wrong verdict. Only this program writes cursor and seen: neither is ever put
+ * back from a backup, and after anything was put back both are removed. It saves the files in a fixed order, and each
+ * is on the disk before the next is touched:
  *
  *   a move saves plan, seen, cursor. Killed between two of them, it leaves a cursor that is older than the plan, which
  *   the library refuses with 8.
