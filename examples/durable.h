@@ -16,7 +16,10 @@
  */
 int durable_open(const char *path);
 
-/* Reads the first bytes of a file, room of them at most. Gives how many there are, or -1 with errno. */
+/*
+ * Reads the first bytes of a file, room of them at most. Gives how many there are, or -1 with errno: ELOOP where name
+ * is a symbolic link. A file that is replaced has to be the file itself: what a link leads to would stay as it was.
+ */
 ssize_t durable_read(int folder, const char *name, uint8_t *bytes, size_t room);
 
 /*

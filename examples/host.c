@@ -47,6 +47,8 @@ enum { ACCEPTED = 0, VIOLATED = 1, REFUSED = 2, FAILED = 4 }; /* the exit status
 static int folder;
 static uint8_t plan[CONEPALHUI_PLAN_BYTES + 1];
 static size_t plan_len;
+static uint8_t seen[sizeof plan];
+static size_t seen_len;
 static uint8_t cursor[CONEPALHUI_CURSOR_BYTES + 1];
 static size_t cursor_len;
 
@@ -87,23 +89,19 @@ static void save_cursor(const uint8_t *out)
     save("cursor", cursor, cursor_len);
 }
 
-static void read_plan(void)
+/* Reads a file. Says whether there is one. A link is refused: the file that it leads to would not be replaced. */
+static bool read_file(const char *name, uint8_t *bytes, size_t room, size_t *length)
 {
-    ssize_t length = durable_read(folder, "plan", plan, sizeof plan);
-    if (length == -1)
-        fail("read the", "plan");
-    plan_len = (size_t)length;
-}
-
-/* Reads the saved cursor. Says whether there is one. */
-static bool read_cursor(void)
-{
-    ssize_t length = durable_read(folder, "cursor", cursor, sizeof cursor);
-    if (length == -1 && errno == ENOENT)
+    ssize_t got = durable_read(folder, name, bytes, room);
+    if (got == -1 && errno == ENOENT)
         return false;
-    if (length == -1)
-        fail("read the", "cursor");
-    cursor_len = (size_t)length;
+    if (got == -1 && errno == ELOOP) {
+        fprintf(stderr, "host: %s is a link, and has to be the file itself\n", name);
+        exit(FAILED);
+    }
+    if (got == -1)
+        fail("read the file", name);
+    *length = (size_t)got;
     return true;
 }
 
@@ -121,18 +119,14 @@ static bool cursor_fits(void)
     return false;
 }
 
-/* Says whether the plan is the one that the saved cursor is of. */
-static bool plan_is_seen(void)
+/* Says whether the plan is the one that the saved cursor is of, where there is a copy of that one. */
+static bool plan_is_seen(bool copied)
 {
-    static uint8_t seen[sizeof plan];
-    ssize_t length = durable_read(folder, "seen", seen, sizeof seen);
-    if (length == -1 && errno == ENOENT) {
+    if (!copied) {
         tell("plan unseen");
         return false;
     }
-    if (length == -1)
-        fail("read the file", "seen");
-    if ((size_t)length == plan_len && memcmp(seen, plan, plan_len) == 0)
+    if (seen_len == plan_len && memcmp(seen, plan, plan_len) == 0)
         return true;
     tell("plan changed");
     return false;
@@ -147,7 +141,10 @@ static void save_start(const uint8_t *first)
     save_cursor(first);
 }
 
-/* Takes the check up, or begins a new one. The plan is tried first, so a refusal after that is the cursor's. */
+/*
+ * Takes the check up, or begins a new one. The plan is tried first, so a refusal after that is the cursor's. All three
+ * files are read before one is written.
+ */
 static void begin(void)
 {
     uint8_t first[CONEPALHUI_CURSOR_BYTES];
@@ -157,7 +154,9 @@ static void begin(void)
         tell("plan refused %u %u", (unsigned)refusal, (unsigned)answer.number);
         exit(REFUSED);
     }
-    bool resumed = read_cursor() && cursor_fits() && plan_is_seen();
+    bool saved = read_file("cursor", cursor, sizeof cursor, &cursor_len);
+    bool copied = read_file("seen", seen, sizeof seen, &seen_len);
+    bool resumed = saved && cursor_fits() && plan_is_seen(copied);
     if (!resumed)
         save_start(first);
     struct conepalhui_place at = conepalhui_cursor_place(cursor);
@@ -328,7 +327,8 @@ int main(int count, char **words)
     }
     if (folder == -1)
         fail("open the folder", words[1]);
-    read_plan();
+    if (!read_file("plan", plan, sizeof plan, &plan_len))
+        fail("read the file", "plan");
     begin();
     return check(budget);
 }
