@@ -106,8 +106,8 @@ static int write_new(int folder, const char *name, const uint8_t *bytes, size_t 
 
 int durable_replace(int folder, const char *name, const uint8_t *bytes, size_t length)
 {
-    char beside[65];
-    int size = snprintf(beside, sizeof beside, "%s.new", name);
+    char beside[76];
+    int size = snprintf(beside, sizeof beside, "%s.conepalhui-new", name);
     if (size < 0 || (size_t)size >= sizeof beside) {
         errno = ENAMETOOLONG;
         return -1;
