@@ -10,7 +10,8 @@
  * and 4 for bad arguments and for files that cannot be read or written.
  *
  * Every answer is a line. It is printed when all that it tells is on the disk: a move that is told as moved is in the
- * plan for good. Whoever misses the answer to a move makes it again, which does no harm.
+ * plan. A move that was not answered may be in the plan or not: look at the plan before it is made again, since another
+ * may have moved the same leg after it. A move that is told as refused was not made, and is not made again as it is.
  *
  * The program may be killed at any moment, and is then called again. While it does not run, the plan may be edited or
  * exchanged. This costs time, and never a wrong verdict. Only this program writes cursor and seen: neither is ever put
