@@ -5,9 +5,9 @@
  *
  * FOLDER/plan is the plan file. FOLDER/cursor is the saved cursor: where there is none, a new check begins. FOLDER/seen
  * is a whole copy of the plan that the cursor is of. Each slice looks at BUDGET places at most. Standard input gives
- * the moves, a line 'LEG OFFSET' each. They are taken between two slices, and also after a verdict, until standard
- * input ends; then the exit status tells the last verdict: 0 accepted, 1 violated. It is 2 where the plan is refused,
- * and 4 for bad arguments and for files that cannot be read or written.
+ * the moves, a line 'LEG OFFSET' each. They are taken between two slices, 16 at most, and also after a verdict, until
+ * standard input ends; then the exit status tells the last verdict: 0 accepted, 1 violated. It is 2 where the plan is
+ * refused, and 4 for bad arguments and for files that cannot be read or written.
  *
  * Every answer is a line. It is printed when all that it tells is on the disk: a move that is told as moved is in the
  * plan. A move that was not answered may be in the plan or not: look at the plan before it is made again, since another
@@ -43,6 +43,7 @@
 #include <unistd.h>
 
 enum { ACCEPTED = 0, VIOLATED = 1, REFUSED = 2, FAILED = 4 }; /* the exit status */
+enum { LINES_MOST = 16 };                                     /* of standard input, taken between two slices */
 
 /* The check. Each buffer has room for one byte more than is allowed: a file that is too long is refused as such. */
 static int folder;
@@ -217,6 +218,7 @@ static bool move(uint32_t leg, uint32_t offset)
 /* What has been read and not been taken yet. No move is longer than 21 characters. */
 static char input[64];
 static size_t input_len;
+static bool input_too_long; /* What was read of this line before is dropped: it is too long for a move. */
 static bool input_ended;
 
 /* Reads more of standard input where some is there, or waits for it if told so. Says whether there was some. */
@@ -234,6 +236,8 @@ static bool read_input(bool wait)
     if (got == -1)
         fail("read", "standard input");
     input_ended = got == 0;
+    if (input_ended && (input_len > 0 || input_too_long))
+        fprintf(stderr, "host: the last line of standard input has no end, and is not taken\n");
     input_len += (size_t)got;
     return got > 0;
 }
@@ -245,11 +249,10 @@ static bool read_input(bool wait)
 static const char *next_line(bool wait)
 {
     static char line[sizeof input + 1];
-    static bool too_long;
     const char *end;
     while ((end = memchr(input, '\n', input_len)) == NULL) {
         if (input_len == sizeof input) {
-            too_long = true;
+            input_too_long = true;
             input_len = 0;
         }
         if (input_ended || !read_input(wait))
@@ -257,8 +260,8 @@ static const char *next_line(bool wait)
     }
     size_t length = (size_t)(end - input) + 1;
     memcpy(line, input, length);
-    line[too_long ? 0 : length] = '\0';
-    too_long = false;
+    line[input_too_long ? 0 : length] = '\0';
+    input_too_long = false;
     input_len -= length;
     memmove(input, input + length, input_len);
     return line;
@@ -277,12 +280,15 @@ static const char *read_number(const char *text, char mark, uint32_t *number)
     return at + 1;
 }
 
-/* Takes the moves that are there, and waits for the first one if told so. Says whether the plan has changed. */
+/*
+ * Takes the lines that are there, and waits for the first move if told so. It takes no more than a fixed number of
+ * lines: a steady stream of moves must not keep the slices waiting. Says whether the plan has changed.
+ */
 static bool take_moves(bool wait)
 {
     bool changed = false;
     const char *line;
-    while ((line = next_line(wait && !changed)) != NULL) {
+    for (int taken = 0; taken < LINES_MOST && (line = next_line(wait && !changed)) != NULL; taken++) {
         uint32_t leg, offset;
         const char *rest = read_number(line, ' ', &leg);
         if (rest != NULL && read_number(rest, '\n', &offset) != NULL)
@@ -298,15 +304,13 @@ static bool take_moves(bool wait)
 /* Slices until there is a verdict, again after each move, until no move can come any more. Gives the exit status. */
 static int check(uint32_t budget)
 {
+    uint32_t result = CONEPALHUI_PAUSED;
     for (;;) {
-        uint32_t result;
-        do {
-            take_moves(false); /* Here the controller would do its own work, and go on when it is idle. */
+        bool paused = result == CONEPALHUI_PAUSED;
+        if (take_moves(!paused) || paused) /* Here the controller would do its own work, and go on when it is idle. */
             result = slice(budget);
-        } while (result == CONEPALHUI_PAUSED);
-        while (!take_moves(true))
-            if (input_ended)
-                return result == CONEPALHUI_NOTHING_VIOLATED ? ACCEPTED : VIOLATED;
+        else if (input_ended)
+            return result == CONEPALHUI_NOTHING_VIOLATED ? ACCEPTED : VIOLATED;
     }
 }
 
