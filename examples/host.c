@@ -5,9 +5,9 @@
  *
  * FOLDER/plan is the plan file. FOLDER/cursor is the saved cursor: where there is none, a new check begins. FOLDER/seen
  * is a whole copy of the plan that the cursor is of. Each slice looks at BUDGET places at most. Standard input gives
- * the moves, a line 'LEG OFFSET' each. They are taken between two slices, 16 at most, and also after a verdict, until
- * standard input ends; then the exit status tells the last verdict: 0 accepted, 1 violated. It is 2 where the plan is
- * refused, and 4 for bad arguments and for files that cannot be read or written.
+ * the moves, a line 'LEG OFFSET' each. They are taken between two slices, and also after a verdict, until standard
+ * input ends; then the exit status tells the last verdict: 0 accepted, 1 violated. It is 2 where the plan is refused,
+ * and 4 for bad arguments and for files that cannot be read or written.
  *
  * Every answer is a line. It is printed when all that it tells is on the disk: a move that is told as moved is in the
  * plan. A move that was not answered may be in the plan or not: look at the plan before it is made again, since another
@@ -43,7 +43,7 @@
 #include <unistd.h>
 
 enum { ACCEPTED = 0, VIOLATED = 1, REFUSED = 2, FAILED = 4 }; /* the exit status */
-enum { LINES_MOST = 16 };                                     /* of standard input, taken between two slices */
+enum { LINES_MOST = 16 };                                     /* of standard input, taken while a slice is due */
 
 /* The check. Each buffer has room for one byte more than is allowed: a file that is too long is refused as such. */
 static int folder;
