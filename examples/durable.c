@@ -57,7 +57,7 @@ static ssize_t read_whole(int fd, uint8_t *bytes, size_t room)
 ssize_t durable_read(int folder, const char *name, uint8_t *bytes, size_t room)
 {
     /* A pipe in the place of the file would keep us waiting without O_NONBLOCK. It is no file of ours. */
-    int fd = openat(folder, name, O_RDONLY | O_NONBLOCK | O_CLOEXEC);
+    int fd = openat(folder, name, O_RDONLY | O_NOFOLLOW | O_NONBLOCK | O_CLOEXEC);
     struct stat status;
     ssize_t length = -1;
     if (fd == -1)
@@ -106,8 +106,8 @@ static int write_new(int folder, const char *name, const uint8_t *bytes, size_t 
 
 int durable_replace(int folder, const char *name, const uint8_t *bytes, size_t length)
 {
-    char beside[65];
-    int size = snprintf(beside, sizeof beside, "%s.new", name);
+    char beside[76];
+    int size = snprintf(beside, sizeof beside, "%s.conepalhui-new", name);
     if (size < 0 || (size_t)size >= sizeof beside) {
         errno = ENAMETOOLONG;
         return -1;

@@ -16,13 +16,17 @@
  */
 int durable_open(const char *path);
 
-/* Reads the first bytes of a file, room of them at most. Gives how many there are, or -1 with errno. */
+/*
+ * Reads the first bytes of a file, room of them at most. Gives how many there are, or -1 with errno: ELOOP where name
+ * is a symbolic link. A file that is replaced has to be the file itself: what a link leads to would stay as it was.
+ */
 ssize_t durable_read(int folder, const char *name, uint8_t *bytes, size_t room);
 
 /*
  * Makes these bytes the contents of the file name, which need not be there yet. Gives 0 once they would outlast a
  * power cut. Gives -1 with errno otherwise: the file is then the old one or the new one. name has at most 60
- * characters, and the file name.new belongs to this call. A new file has the mode that the umask leaves of 0666.
+ * characters, and the file name.conepalhui-new belongs to this call, which removes what is there without a look. A new
+ * file has the mode that the umask leaves of 0666.
  */
 int durable_replace(int folder, const char *name, const uint8_t *bytes, size_t length);
 

@@ -10,11 +10,13 @@
  * and 4 for bad arguments and for files that cannot be read or written.
  *
  * Every answer is a line. It is printed when all that it tells is on the disk: a move that is told as moved is in the
- * plan for good. Whoever misses the answer to a move makes it again, which does no harm.
+ * plan. A move that was not answered may be in the plan or not: look at the plan before it is made again, since another
+ * may have moved the same leg after it. A move that is told as refused was not made, and is not made again as it is.
  *
- * The program may be killed at any moment, and is then called again. While it does not run, the plan may be edited,
- * exchanged, or put back from a backup. This costs time, and never a wrong verdict. Only this program writes cursor and
- * seen. It saves the files in a fixed order, and each is on the disk before the next is touched:
+ * The program may be killed at any moment, and is then called again. While it does not run, the plan may be edited or
+ * exchanged. This costs time, and never a wrong verdict. Only this program writes cursor and seen: neither is ever put
+ * back from a backup, and after anything was put back both are removed. It saves the files in a fixed order, and each
+ * is on the disk before the next is touched:
  *
  *   a move saves plan, seen, cursor. Killed between two of them, it leaves a cursor that is older than the plan, which
  *   the library refuses with 8.
@@ -41,11 +43,14 @@
 #include <unistd.h>
 
 enum { ACCEPTED = 0, VIOLATED = 1, REFUSED = 2, FAILED = 4 }; /* the exit status */
+enum { LINES_MOST = 16 };                                     /* of standard input, taken while a slice is due */
 
 /* The check. Each buffer has room for one byte more than is allowed: a file that is too long is refused as such. */
 static int folder;
 static uint8_t plan[CONEPALHUI_PLAN_BYTES + 1];
 static size_t plan_len;
+static uint8_t seen[sizeof plan];
+static size_t seen_len;
 static uint8_t cursor[CONEPALHUI_CURSOR_BYTES + 1];
 static size_t cursor_len;
 
@@ -86,23 +91,19 @@ static void save_cursor(const uint8_t *out)
     save("cursor", cursor, cursor_len);
 }
 
-static void read_plan(void)
+/* Reads a file. Says whether there is one. A link is refused: the file that it leads to would not be replaced. */
+static bool read_file(const char *name, uint8_t *bytes, size_t room, size_t *length)
 {
-    ssize_t length = durable_read(folder, "plan", plan, sizeof plan);
-    if (length == -1)
-        fail("read the", "plan");
-    plan_len = (size_t)length;
-}
-
-/* Reads the saved cursor. Says whether there is one. */
-static bool read_cursor(void)
-{
-    ssize_t length = durable_read(folder, "cursor", cursor, sizeof cursor);
-    if (length == -1 && errno == ENOENT)
+    ssize_t got = durable_read(folder, name, bytes, room);
+    if (got == -1 && errno == ENOENT)
         return false;
-    if (length == -1)
-        fail("read the", "cursor");
-    cursor_len = (size_t)length;
+    if (got == -1 && errno == ELOOP) {
+        fprintf(stderr, "host: %s is a link, and has to be the file itself\n", name);
+        exit(FAILED);
+    }
+    if (got == -1)
+        fail("read the file", name);
+    *length = (size_t)got;
     return true;
 }
 
@@ -120,18 +121,14 @@ static bool cursor_fits(void)
     return false;
 }
 
-/* Says whether the plan is the one that the saved cursor is of. */
-static bool plan_is_seen(void)
+/* Says whether the plan is the one that the saved cursor is of, where there is a copy of that one. */
+static bool plan_is_seen(bool copied)
 {
-    static uint8_t seen[sizeof plan];
-    ssize_t length = durable_read(folder, "seen", seen, sizeof seen);
-    if (length == -1 && errno == ENOENT) {
+    if (!copied) {
         tell("plan unseen");
         return false;
     }
-    if (length == -1)
-        fail("read the file", "seen");
-    if ((size_t)length == plan_len && memcmp(seen, plan, plan_len) == 0)
+    if (seen_len == plan_len && memcmp(seen, plan, plan_len) == 0)
         return true;
     tell("plan changed");
     return false;
@@ -146,7 +143,10 @@ static void save_start(const uint8_t *first)
     save_cursor(first);
 }
 
-/* Takes the check up, or begins a new one. The plan is tried first, so a refusal after that is the cursor's. */
+/*
+ * Takes the check up, or begins a new one. The plan is tried first, so a refusal after that is the cursor's. All three
+ * files are read before one is written.
+ */
 static void begin(void)
 {
     uint8_t first[CONEPALHUI_CURSOR_BYTES];
@@ -156,7 +156,9 @@ static void begin(void)
         tell("plan refused %u %u", (unsigned)refusal, (unsigned)answer.number);
         exit(REFUSED);
     }
-    bool resumed = read_cursor() && cursor_fits() && plan_is_seen();
+    bool saved = read_file("cursor", cursor, sizeof cursor, &cursor_len);
+    bool copied = read_file("seen", seen, sizeof seen, &seen_len);
+    bool resumed = saved && cursor_fits() && plan_is_seen(copied);
     if (!resumed)
         save_start(first);
     struct conepalhui_place at = conepalhui_cursor_place(cursor);
@@ -216,6 +218,7 @@ static bool move(uint32_t leg, uint32_t offset)
 /* What has been read and not been taken yet. No move is longer than 21 characters. */
 static char input[64];
 static size_t input_len;
+static bool input_too_long; /* What was read of this line before is dropped: it is too long for a move. */
 static bool input_ended;
 
 /* Reads more of standard input where some is there, or waits for it if told so. Says whether there was some. */
@@ -233,6 +236,8 @@ static bool read_input(bool wait)
     if (got == -1)
         fail("read", "standard input");
     input_ended = got == 0;
+    if (input_ended && (input_len > 0 || input_too_long))
+        fprintf(stderr, "host: the last line of standard input has no end, and is not taken\n");
     input_len += (size_t)got;
     return got > 0;
 }
@@ -244,11 +249,10 @@ static bool read_input(bool wait)
 static const char *next_line(bool wait)
 {
     static char line[sizeof input + 1];
-    static bool too_long;
     const char *end;
     while ((end = memchr(input, '\n', input_len)) == NULL) {
         if (input_len == sizeof input) {
-            too_long = true;
+            input_too_long = true;
             input_len = 0;
         }
         if (input_ended || !read_input(wait))
@@ -256,8 +260,8 @@ static const char *next_line(bool wait)
     }
     size_t length = (size_t)(end - input) + 1;
     memcpy(line, input, length);
-    line[too_long ? 0 : length] = '\0';
-    too_long = false;
+    line[input_too_long ? 0 : length] = '\0';
+    input_too_long = false;
     input_len -= length;
     memmove(input, input + length, input_len);
     return line;
@@ -276,12 +280,15 @@ static const char *read_number(const char *text, char mark, uint32_t *number)
     return at + 1;
 }
 
-/* Takes the moves that are there, and waits for the first one if told so. Says whether the plan has changed. */
+/*
+ * Takes the lines that are there, and waits for the first move if told so. It takes no more than a fixed number of
+ * lines: a steady stream of moves must not keep the slices waiting. Says whether the plan has changed.
+ */
 static bool take_moves(bool wait)
 {
     bool changed = false;
     const char *line;
-    while ((line = next_line(wait && !changed)) != NULL) {
+    for (int taken = 0; taken < LINES_MOST && (line = next_line(wait && !changed)) != NULL; taken++) {
         uint32_t leg, offset;
         const char *rest = read_number(line, ' ', &leg);
         if (rest != NULL && read_number(rest, '\n', &offset) != NULL)
@@ -297,15 +304,13 @@ static bool take_moves(bool wait)
 /* Slices until there is a verdict, again after each move, until no move can come any more. Gives the exit status. */
 static int check(uint32_t budget)
 {
+    uint32_t result = CONEPALHUI_PAUSED;
     for (;;) {
-        uint32_t result;
-        do {
-            take_moves(false); /* Here the controller would do its own work, and go on when it is idle. */
+        bool paused = result == CONEPALHUI_PAUSED;
+        if (take_moves(!paused) || paused) /* Here the controller would do its own work, and go on when it is idle. */
             result = slice(budget);
-        } while (result == CONEPALHUI_PAUSED);
-        while (!take_moves(true))
-            if (input_ended)
-                return result == CONEPALHUI_NOTHING_VIOLATED ? ACCEPTED : VIOLATED;
+        else if (input_ended)
+            return result == CONEPALHUI_NOTHING_VIOLATED ? ACCEPTED : VIOLATED;
     }
 }
 
@@ -327,7 +332,8 @@ int main(int count, char **words)
     }
     if (folder == -1)
         fail("open the folder", words[1]);
-    read_plan();
+    if (!read_file("plan", plan, sizeof plan, &plan_len))
+        fail("read the file", "plan");
     begin();
     return check(budget);
 }

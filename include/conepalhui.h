@@ -25,19 +25,24 @@
  *
  *   1. The run. It begins with a start that is granted. Starts, slices and moves follow, in any order. A refused call
  *      writes nothing and is no part of the run.
- *   2. The plan. Each call is given the plan of that start or, once a move of the run was granted, the plan that the
- *      last granted move wrote: the first bytes of new_plan, as many as the number beside its result says. Nothing
- *      else changes the plan.
- *   3. The cursor. Each slice and each move is given a cursor that a call since that very start left, of that very
- *      plan: the first bytes of out, as many as conepalhui_cursor_length says, unaltered.
- *   4. Before the start that begins a run, destroy every other saved cursor. A cursor of an earlier run, of another
- *      plan or from a backup is never used again.
+ *   2. The plan. Until a move of the run is granted, each call is given the plan that the first start was given. After
+ *      that it is given the plan that the last granted move wrote: the first bytes of new_plan, as many as the number
+ *      beside its result says. Nothing else changes the plan.
+ *   3. The cursor. Each slice and each move is given a cursor that an earlier call of this run left, the first start
+ *      included: the first bytes of that call's out, as many as conepalhui_cursor_length says, unaltered. A cursor from
+ *      before the last granted move is refused with 8.
+ *   4. Other cursors. Before the start that begins a run, destroy every saved cursor of this plan, of its earlier and
+ *      later versions, and of whatever else stood under its name. None of them is used again. Checks of plans under
+ *      other names go on: their cursors are never given with this plan, nor those of this run with another plan.
+ *   5. Backups. A cursor from a backup is never put back. After anything was put back, the plan too, remove the saved
+ *      cursor and begin a new run.
  *
  * Where 1 to 3 are kept, this is proved of every run (crates/demands/specs: HostRuns.antt, DemandThreeForC.antt):
  *
  *   - A slice that tells 0, or 2 to 5, tells the verdict of a whole check of the plan as it stands then.
- *   - A verdict comes in time. Take the slices since the last start or move, each given the cursor that the call
- *     before it left. If there is one, and their budgets add up to the number of places or more, one told a verdict.
+ *   - A verdict comes in time. Take a start or a move of the run and the slices after it, up to the next start or move,
+ *     each given the cursor that the call before it left. If there is at least one such slice, and the budgets of
+ *     these slices add up to the number of places or more, then one of them told a verdict.
  *   - Where out has 15 bytes, no start is refused, and no slice that is given the cursor which the call before it left.
  *     Nor is a move of a leg of the plan with that cursor, where new_plan has plan_len + 5 bytes and the revision is
  *     below 4,294,967,295.
@@ -49,7 +54,8 @@
  *
  * So whoever keeps plan and cursor in files also keeps a whole copy of the plan that the cursor is of. Before a saved
  * cursor is used, plan and copy are compared byte by byte, and where they differ a new check is started.
- * examples/host.c does so: it shows in which order the three files are saved, and may be killed at any moment.
+ * examples/host.c does so: it shows in which order the three files are saved, and may be killed at any moment. Like the
+ * cursor, the copy is never put back from a backup.
  */
 #ifndef CONEPALHUI_H
 #define CONEPALHUI_H
@@ -210,12 +216,14 @@ uint32_t conepalhui_slice(const uint8_t *plan, size_t plan_len, const uint8_t *c
 /*
  * Sets the offset of one leg to any number of nanoseconds and raises the plan's revision by one. new_plan gets the
  * whole new plan file, out the cursor to go on with: of the new revision, at the given place or at (leg, 0),
- * whichever comes first. Cursors of the old plan are refused with 8 from then on. To set the offset that the leg has
- * already is a move like any other.
+ * whichever comes first. To set the offset that the leg has already is a move like any other.
+ *
+ * Given with the new plan, a cursor of the old one is refused with 8. Given with the old plan's bytes it is believed
+ * as before: so drop those bytes once the new plan is saved, and give them to no call of this run again.
  *
  * plan_len + CONEPALHUI_MOVE_BYTES bytes are room enough for the new plan, and so are CONEPALHUI_PLAN_BYTES. Whoever
  * saves both saves the new plan before the new cursor: then a saved cursor is never newer than the saved plan. Whoever
- * drops the new plan drops the new cursor too: it is of that plan alone.
+ * drops the new plan drops the new cursor too, which is of that plan alone. The move is then no part of the run.
  *
  * Result: 0 granted, or 100 + refusal. Number: how many bytes the new plan file has, or the refusal's position.
  */

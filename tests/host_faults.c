@@ -224,7 +224,7 @@ int __wrap_unlinkat(int folder, const char *name, int flags)
 {
     if (goes_wrong(false, EIO))
         return -1;
-    if (is_there(folder, name) && strstr(name, ".new") == NULL)
+    if (is_there(folder, name) && strstr(name, ".conepalhui-new") == NULL)
         note_change(folder, name);
     return __real_unlinkat(folder, name, flags);
 }
