@@ -4,7 +4,6 @@ use mathlib.Core.Path.{_≡_, refl, _∙_, sym, ap}
 use mathlib.Core.List.{List}
 use native.Mathlib.Omega.{arith}
 use Rattle.basics.specs.declared.Holds.the-variants.{No}
-use Rattle.table.specs.Layout.{maxPrecision, precisionOf}
 use Rattle.table.specs.Records.{legAt}
 use Rattle.table.specs.PlanC.{PlanCNumbers, planC, deadlinesC, offsetsC}
 use Rattle.table.specs.declared.Leg.{Leg}

@@ -1,15 +1,15 @@
 -- The rules at numbers with Plan C, where stream 1 has three legs, and streams 2 and 3 have one each.
-use Prim.Native.Nat.{ℕ, _≤_}
+use Prim.Native.Nat.{_≤_}
 use Rattle.table.specs.PlanC.{PlanCNumbers, planC, deadlinesC, offsetsC}
 use Rattle.shape.specs.Shape.{WellFormedTable}
 use Rattle.rules.specs.Rules.{Hop, Deadline, Overlap}
 
 pub record CasesOfPlanC : Type 0 where
-  -- Leg 1 is sent at 1,000 and lasts 864 ns, the propagation is 100 ns: it is ready at 2,014. So leg 2, in the middle of its route, has a hop.
+  -- Leg 1 is sent at 1,000 and is ready at 1,000 + 864 + 100 + 50 = 2,014: leg 2, in the middle of its route, has a hop too, and the precision is 50 ns.
   pub hop-middle : Hop (planC (offsetsC 2014 3128)) 2 × (Hop (planC (offsetsC 2013 3128)) 2 → ⊥)
-  -- Leg 2 is ready at 2,014 + 864 + 200 + 50 = 3,128. So the hop of leg 3 is from the previous leg, and not from the first.
+  -- Leg 2 is ready at 2,014 + 864 + 200 + 50 = 3,128: the hop of leg 3 is from the previous leg, and not from the first.
   pub hop-last : Hop (planC (offsetsC 2014 3128)) 3 × (Hop (planC (offsetsC 2014 3127)) 3 → ⊥)
-  -- Leg 3 lasts 8,640 ns and is ready at 3,128 + 8,640 + 300 + 50 = 12,118, which is 11,118 after the offset of leg 1: the deadline and the octets are those of
+  -- Leg 3 is ready at 3,128 + 8,640 + 300 + 50 = 12,118, which is 11,118 after the offset of leg 1: the deadline and the octets are those of
   -- its own stream, and the deadline counts from that stream's first leg, neither from leg 0 nor from the previous leg.
   pub deadline-last : Deadline (planC (deadlinesC 11118 776)) 3 × (Deadline (planC (deadlinesC 11117 776)) 3 → ⊥)
   -- A leg in the middle of its route has no deadline.

@@ -4,14 +4,14 @@ use mathlib.Core.Path.{_≡_, refl, _∙_, sym, ap, subst}
 use mathlib.Core.List.{List}
 use mathlib.Core.Logic.{inl, inr}
 use native.Mathlib.Omega.{arith}
-use Rattle.table.specs.Layout.{streamCount, linkCount, legCount, Sized}
-use Rattle.table.specs.Records.{linkPart, streamPart, linkIn, streamIn, linkAt, streamAt, legAt}
+use Rattle.table.specs.Layout.{linkCount, streamCount, Sized}
+use Rattle.table.specs.Records.{linkPart, streamPart, linkIn, streamIn}
 use Rattle.table.specs.PlanC.{PlanCNumbers, planC}
 use Rattle.table.specs.declared.Link.{Link}
 use Rattle.table.specs.declared.Stream.{Stream}
 use Rattle.table.specs.declared.Leg.{Leg}
 use Rattle.table.proofs.PartLaws.{link-of-part, stream-of-part, leg-of-part}
-use Rattle.shape.specs.Links.{IsRate, LinkInRange, LinkNew, SameEnds}
+use Rattle.shape.specs.Links.{IsRate, LinkInRange, LinkNew}
 use Rattle.shape.specs.Streams.{legsBefore, minOctets, maxOctets, maxPeriod, maxRoute, StreamInRange, StreamRight}
 use Rattle.shape.specs.Legs.{linkOf, LegRight}
 use Rattle.shape.specs.Routes.{GoesOn}
