@@ -25,10 +25,10 @@ use Rattle.rules.specs.Times.{preambleOctets, wireTime, holdTime, lastin
 use Rattle.rules.specs.Rules.{Window, Hop, Deadline, Overlap}
 use Rattle.rules.specs.Steps.{FrameOf, ReadyOf, SlotOf}
 use Rattle.rules.specs.declared.Frame.{Frame}
-use Rattle.rules.proofs.Judging.{window-kept, window-broken, first-has-no-hop, hop-kept, hop-broken, not-last-has-no-deadline, deadline-kept, other-links-never-meet, same-link-told}
+use Rattle.rules.proofs.Judging.{window-kept, window-broken, first-has-no-hop, hop-kept, hop-broken, not-last-has-no-deadline, deadline-kept, late-last-leg, other-links-never-meet, same-link-told}
 
 -- The frame of a leg whose record, stream and link are known, and whose frame lasts w.
-abbrev frameWith : Leg → Stream → Link → ℕ → Frame
+abbrev pub frameWith : Leg → Stream → Link → ℕ → Frame
 frameWith l s k w = record {
   offset = l .offset;
   start = l .offset;
@@ -43,14 +43,14 @@ frameWith l s k w = record {
 }
 
 -- Numbers within their bounds.
-record Small (l : Leg) (s : Stream) (k : Link) (w : ℕ) : Type 0 where
-  offset : l .offset ≤ maxWord
-  period : (1 ≤ s .period) × (s .period ≤ maxWord)
-  deadline : s .deadline ≤ maxWord
-  propagation : k .propagation ≤ maxPropagation
-  time : (1 ≤ w) × (w ≤ maxTime)
+pub record Small (l : Leg) (s : Stream) (k : Link) (w : ℕ) : Type 0 where
+  pub offset : l .offset ≤ maxWord
+  pub period : (1 ≤ s .period) × (s .period ≤ maxWord)
+  pub deadline : s .deadline ≤ maxWord
+  pub propagation : k .propagation ≤ maxPropagation
+  pub time : (1 ≤ w) × (w ≤ maxTime)
 
-frame-of : (t : List ℕ) (a : ℕ) (l : Leg) (s : Stream) (k : Link) (w : ℕ)
+pub frame-of : (t : List ℕ) (a : ℕ) (l : Leg) (s : Stream) (k : Link) (w : ℕ)
     → legAt t a ≡ l → streamOf t a ≡ s → linkOf t a ≡ k → w ≡ (s .octets + preambleOctets) * k .rate → Small l s k w → FrameOf t a (frameWith l s k w)
 unfolding startOf wireTime holdTime lasting
 frame-of t a l s k w e f g is small =
@@ -74,13 +74,13 @@ frame-of t a l s k w e f g is small =
       due = small .deadline;
     }
 
-ready-of : (t : List ℕ) (a : ℕ) (f : Frame) → FrameOf t a f → precisionOf t ≤ maxPrecision → ReadyOf t a (f .start + f .wire + f .propagation + precisionOf t)
+pub ready-of : (t : List ℕ) (a : ℕ) (f : Frame) → FrameOf t a f → precisionOf t ≤ maxPrecision → ReadyOf t a (f .start + f .wire + f .propagation + precisionOf t)
 ready-of t a f is p = record {
   same = omega (arith, is .start, is .wire .same, is .propagation);
   small = omega (arith, is .small, is .wire .to, is .short);
 }
 
-slot-of : (t : List ℕ) (a : ℕ) (f : Frame) → FrameOf t a f → SlotOf t a (record { offset = f .offset; period = f .period; hold = f .hold })
+pub slot-of : (t : List ℕ) (a : ℕ) (f : Frame) → FrameOf t a f → SlotOf t a (record { offset = f .offset; period = f .period; hold = f .hold })
 slot-of t a f is = record {
   offset = is .offset;
   period = is .period;
@@ -248,11 +248,8 @@ module _ (n : PlanNumbers) where
     deadline-1 le = deadline-kept plan 1 _ f1 f0 is-1 is-0 ready-1 le
 
     pub deadline-1-broken : n .deadline-0 + n .offset-0 < r1 → Deadline plan 1 → ⊥
-    unfolding Deadline f0 f1
-    deadline-1-broken lt d =
-        let k = d (omega (arith, is-1 .end)) in
-        let s = ap (startOf plan) (is-1 .first) in
-        omega (arith, ready-1 .same, is-1 .deadline, is-0 .start, s, k, lt)
+    unfolding f0 f1
+    deadline-1-broken lt = late-last-leg plan 1 _ f1 f0 is-1 is-0 ready-1 refl lt
 
     pub deadline-2 : r2 ≤ n .deadline-1 + n .offset-2 → Deadline plan 2
     unfolding f2

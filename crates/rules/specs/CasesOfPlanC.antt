@@ -1,0 +1,29 @@
+-- The rules at numbers with Plan C, where stream 1 has three legs, and streams 2 and 3 have one each.
+use Prim.Native.Nat.{_≤_}
+use Rattle.table.specs.PlanC.{PlanCNumbers, planC, deadlinesC, offsetsC}
+use Rattle.shape.specs.Shape.{WellFormedTable}
+use Rattle.rules.specs.Rules.{Hop, Deadline, Overlap}
+
+pub record CasesOfPlanC : Type 0 where
+  -- Leg 1 is sent at 1,000 and is ready at 1,000 + 864 + 100 + 50 = 2,014: leg 2, in the middle of its route, has a hop too, and the precision is 50 ns.
+  pub hop-middle : Hop (planC (offsetsC 2014 3128)) 2 × (Hop (planC (offsetsC 2013 3128)) 2 → ⊥)
+  -- Leg 2 is ready at 2,014 + 864 + 200 + 50 = 3,128: the hop of leg 3 is from the previous leg, and not from the first.
+  pub hop-last : Hop (planC (offsetsC 2014 3128)) 3 × (Hop (planC (offsetsC 2014 3127)) 3 → ⊥)
+  -- Leg 3 is ready at 3,128 + 8,640 + 300 + 50 = 12,118, which is 11,118 after the offset of leg 1: the deadline and the octets are those of
+  -- its own stream, and the deadline counts from that stream's first leg, neither from leg 0 nor from the previous leg.
+  pub deadline-last : Deadline (planC (deadlinesC 11118 776)) 3 × (Deadline (planC (deadlinesC 11117 776)) 3 → ⊥)
+  -- A leg in the middle of its route has no deadline.
+  pub deadline-middle : Deadline (planC (deadlinesC 1 776)) 2
+  -- The only leg of a stream has a deadline: leg 4 is ready 576 + 150 + 50 = 776 after its offset.
+  pub deadline-only : Deadline (planC (deadlinesC 11118 776)) 4 × (Deadline (planC (deadlinesC 11118 775)) 4 → ⊥)
+  -- Links that join the same nodes the other way, begin at one node, or end at one node are different links: legs on them may be sent at one time.
+  pub other-way : Overlap (planC (offsetsC 2014 3128)) 1 0
+  pub same-from : Overlap (planC (offsetsC 2014 3128)) 2 0
+  pub same-to : Overlap (planC (offsetsC 2014 3128)) 4 1
+  -- Legs 4 and 5 are both on link 4 at 1,300: overlap is of any two legs, and not of leg 0 with another.
+  pub same-link : Overlap (planC (offsetsC 2014 3128)) 5 4 → ⊥
+
+-- These tables are well-formed, whatever their offsets, with deadlines of 1 ns to the period: they are plans.
+abbrev pub CasesOfPlanCArePlans : Type 0
+CasesOfPlanCArePlans =
+    (n : PlanCNumbers) → 1 ≤ n .deadline-1 → n .deadline-1 ≤ 20000 → 1 ≤ n .deadline-2 → n .deadline-2 ≤ 20000 → WellFormedTable (planC n)
