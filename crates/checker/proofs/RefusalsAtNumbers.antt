@@ -1,7 +1,7 @@
 -- The refusals 8 to 11 at numbers: Plan A is well-formed at every revision, and what a cursor or a move is due for is computed. Assumes nothing.
 use Prim.Native.Nat.{ℕ, _≤_, _<_}
 use mathlib.Core.Path.{_≡_, refl}
-use mathlib.Core.Logic.{_⊎_, inl, inr}
+use mathlib.Core.Logic.{inl, inr}
 use native.Mathlib.Omega.{arith}
 use Rattle.rules.specs.Places.{placesOf}
 use Rattle.places.specs.Order.{PlaceOrEnd}
@@ -9,7 +9,6 @@ use Rattle.shape.specs.Shape.{WellFormedTable}
 use Rattle.shape.proofs.AtNumbers.{plans-are-well-formed, plan-a-in-range}
 use Rattle.shape.proofs.RefusalsAtNumbers.{shape-refusals-at-numbers}
 use Rattle.checker.specs.Cursors.{CursorRight, CursorFault}
-use Rattle.checker.specs.Moves.{NoLeg, CannotRise, MoveFault}
 use Rattle.checker.specs.RefusalsAtNumbers.{planAOf, cursorOf, CursorRefusalsAtNumbers, MoveRefusalsAtNumbers}
 use Rattle.checker.proofs.LookLaws.{not-standing}
 
