@@ -3,3 +3,4 @@ pub mod Slices
 pub mod Moves
 pub mod Theorems
 pub mod Steps
+pub mod RefusalsAtNumbers

@@ -1,0 +1,203 @@
+-- The refusals 1 to 7 at numbers: the records of a literal table are computed, those in front are right, and one is not. Assumes nothing.
+use Prim.Native.Nat.{ℕ, zero, suc, _+_, _*_, _≤_, _<_}
+use mathlib.Core.Path.{_≡_, refl, _∙_, sym, ap, subst}
+use mathlib.Core.List.{List, _∷_}
+use mathlib.Core.Logic.{inl, inr}
+use lib.ListN.{length}
+use native.Mathlib.Omega.{arith}
+use borrow.Author.Count.{below-none, below-more}
+use Rattle.table.specs.Layout.{linkWords, streamWords, legWords, maxLinks, maxStreams, maxLegs, maxPrecision, legCount, InLimits, Sized}
+use Rattle.table.specs.Records.{linkPart, streamPart, linkIn, streamIn, streamAt}
+use Rattle.table.specs.declared.Link.{Link}
+use Rattle.table.specs.declared.Stream.{Stream}
+use Rattle.table.proofs.PartLaws.{link-of-part, stream-of-part, leg-of-part}
+use Rattle.shape.specs.Links.{maxNode, maxPropagation, IsRate, LinkInRange, LinkNew}
+use Rattle.shape.specs.Streams.{maxRoute, legsBefore, StreamInRange, StreamRight}
+use Rattle.shape.specs.Legs.{LegRight}
+use Rattle.shape.specs.Shape.{All, LinkRight, LinkFault, DoubleFault, StreamFault, LegFault, ShapeFault}
+use Rattle.shape.specs.RefusalsAtNumbers.{TableRefused, headerOf, wrongLink, linkAgain, wrongStream, fewerLegs, wrongLeg, ShapeRefusalsAtNumbers}
+use Rattle.shape.proofs.OneShape.{well-no-fault}
+use Rattle.shape.proofs.StreamLaws.{legs-none, legs-more}
+use Rattle.shape.proofs.Reading.{link-of, stream-of, first-leg-right}
+
+-- A refused table is not well-formed, since a shape has one answer.
+refused : (t : List ℕ) (k p : ℕ) → ShapeFault t k p → TableRefused t k p
+refused t k p f = record { first = f; not-well-formed = λ w. well-no-fault w f }
+
+above : (n s g p : ℕ) → (InLimits (headerOf n s g p) → ⊥) → TableRefused (headerOf n s g p) 2 0
+above n s g p h = refused _ 2 0 (inl (inr (inl (refl, omega arith, h)), refl))
+
+-- The counts n, s and g are within their limits, and so is the precision p.
+limits : (n s g p : ℕ) (ws : List ℕ) → (n ≤ maxLinks) × (s ≤ maxStreams) × (g ≤ maxLegs) × (p ≤ maxPrecision) → InLimits (0 ∷ n ∷ s ∷ g ∷ p ∷ ws)
+limits n s g p ws h = record { links = h .0; streams = h .1; legs = h .2; precision = h .3 }
+
+length-differs : (n s g p : ℕ) (ws : List ℕ) → (n ≤ maxLinks) × (s ≤ maxStreams) × (g ≤ maxLegs) × (p ≤ maxPrecision) → (length ws ≡ linkWords * n + streamWords * s + legWords * g → ⊥) → TableRefused (0 ∷ n ∷ s ∷ g ∷ p ∷ ws) 3 0
+length-differs n s g p ws h d = refused _ 3 0 (inl (inr (inr (refl, omega arith, limits n s g p ws h, λ e. d (omega arith))), refl))
+
+sized : (n s g : ℕ) (ws : List ℕ) → n + s + g ≤ maxLinks → length ws ≡ linkWords * n + streamWords * s + legWords * g → Sized (0 ∷ n ∷ s ∷ g ∷ 0 ∷ ws)
+sized n s g ws h e = record {
+  head = omega arith;
+  limits = limits n s g 0 ws (omega arith, omega arith, omega arith, omega arith);
+  exact = omega arith;
+}
+
+-- A link that leads from a node to a higher one.
+upwards : (from to rate propagation : ℕ) → from < to → to ≤ maxNode → IsRate rate → propagation ≤ maxPropagation
+    → LinkInRange (record { from = from; to = to; rate = rate; propagation = propagation })
+upwards from to rate propagation h k r p = record { from-node = omega arith; to-node = k; different = λ e. omega arith; rate = r; propagation = p }
+
+module _ (t : List ℕ) where
+  link-right : (i : ℕ) → LinkInRange (linkIn (linkPart t) i) → LinkRight t i
+  link-right i h = subst LinkInRange (link-of-part t i) h
+
+  module _ (e : linkIn (linkPart t) 0 ≡ record { from = 1; to = 2; rate = 8; propagation = 500 }) where
+    first-link : All (LinkRight t) 1
+    first-link =
+        below-more (LinkRight t) 0 (below-none (LinkRight t))
+        (link-right 0 (subst LinkInRange (sym e) (upwards 1 2 8 500 (omega arith) (omega arith) (inl refl) (omega arith))))
+
+    second-link : (from to : ℕ) → linkIn (linkPart t) 1 ≡ record { from = from; to = to; rate = 8; propagation = 500 } → from < to → to ≤ maxNode → All (LinkRight t) 2
+    second-link from to f h k =
+        below-more (LinkRight t) 1 first-link
+        (link-right 1 (subst LinkInRange (sym f) (upwards from to 8 500 h k (inl refl) (omega arith))))
+
+  first-new : All (LinkNew t) 1
+  first-new = below-more (LinkNew t) 0 (below-none (LinkNew t)) (λ j l e. absurd (omega arith))
+
+  -- Link 1 begins at a higher node than link 0.
+  second-new : linkIn (linkPart t) 0 .from < linkIn (linkPart t) 1 .from → All (LinkNew t) 2
+  second-new h = below-more (LinkNew t) 1 first-new new
+    where
+      new : LinkNew t 1
+      new zero l e =
+          let f = ap (λ (z : Link). z .from) (link-of-part t 0) in
+          let g = ap (λ (z : Link). z .from) (link-of-part t 1) in
+          omega (arith, e .from-node)
+      new (suc j) l e = absurd (omega arith)
+
+  module _ (count : ℕ) (e : streamIn (streamPart t) 0 ≡ record { period = 1000; deadline = 900; octets = 64; first = 0; count = count }) where
+    stream-0 : streamAt t 0 ≡ record { period = 1000; deadline = 900; octets = 64; first = 0; count = count }
+    stream-0 = sym (stream-of-part t 0) ∙ e
+
+    legs-before-1 : legsBefore t 1 ≡ count
+    legs-before-1 = legs-more t 0 ∙ omega (arith, legs-none t, ap (λ (s : Stream). s .count) stream-0)
+
+    first-stream : (1 ≤ count) × (count ≤ maxRoute) × (count ≤ legCount t) → All (StreamRight t) 1
+    first-stream h =
+        below-more (StreamRight t) 0 (below-none (StreamRight t))
+        (record {
+          in-range = subst StreamInRange (sym stream-0)
+              (record {
+                period-from = omega arith;
+                period-to = omega arith;
+                deadline-from = omega arith;
+                deadline-to = omega arith;
+                octets-from = omega arith;
+                octets-to = omega arith;
+                count-from = h .0;
+                count-to = h .1;
+              });
+          first = omega (arith, legs-none t, ap (λ (s : Stream). s .first) stream-0);
+          within = omega (arith, legs-none t, ap (λ (s : Stream). s .count) stream-0, h .2);
+        })
+
+link : LinkFault wrongLink 2
+link = record {
+  sized = sized 3 0 0 _ (omega arith) refl;
+  lowest = record {
+    inside = omega arith;
+    bad = λ r.
+        let e = link-of-part wrongLink 2 in
+        r .different (sym (ap (λ (z : Link). z .from) e) ∙ ap (λ (z : Link). z .to) e);
+    before = second-link wrongLink refl 1 2 refl (omega arith) (omega arith);
+  };
+}
+
+link-again : DoubleFault linkAgain 2
+link-again = record {
+  sized = sized 3 1 0 _ (omega arith) refl;
+  links = below-more
+      (LinkRight linkAgain)
+      2
+      (second-link linkAgain refl 2 3 refl (omega arith) (omega arith))
+      (link-right linkAgain 2 (upwards 1 2 80 0 (omega arith) (omega arith) (inr (inl refl)) (omega arith)));
+  lowest = record {
+    inside = omega arith;
+    bad = λ new.
+        let e = link-of-part linkAgain 0 in
+        let f = link-of-part linkAgain 2 in
+        new
+        0
+        (omega arith)
+        (record {
+          from-node = sym (ap (λ (z : Link). z .from) e) ∙ ap (λ (z : Link). z .from) f;
+          to-node = sym (ap (λ (z : Link). z .to) e) ∙ ap (λ (z : Link). z .to) f;
+        });
+    before = second-new linkAgain (omega arith);
+  };
+}
+
+stream : StreamFault wrongStream 1
+stream = record {
+  sized = sized 1 2 2 _ (omega arith) refl;
+  links = first-link wrongStream refl;
+  new-links = first-new wrongStream;
+  wrong = inl
+      (record {
+        inside = omega arith;
+        bad = λ r. omega (arith, r .first, ap (λ (s : Stream). s .first) (stream-of-part wrongStream 1), legs-before-1 wrongStream 1 refl);
+        before = first-stream wrongStream 1 refl (omega arith, omega arith, omega arith);
+      });
+}
+
+fewer-legs : StreamFault fewerLegs 1
+fewer-legs = record {
+  sized = sized 1 1 2 _ (omega arith) refl;
+  links = first-link fewerLegs refl;
+  new-links = first-new fewerLegs;
+  wrong = inr (refl, first-stream fewerLegs 1 refl (omega arith, omega arith, omega arith), omega (arith, legs-before-1 fewerLegs 1 refl));
+}
+
+leg : LegFault wrongLeg 1
+leg =
+    let link-0 = sym (link-of-part wrongLeg 0) in
+    let link-1 = sym (link-of-part wrongLeg 1) in
+    let leg-0 = sym (leg-of-part wrongLeg 0) in
+    let leg-1 = sym (leg-of-part wrongLeg 1) in
+    let its-stream = stream-0 wrongLeg 2 refl in
+    record {
+      sized = sized 2 1 2 _ (omega arith) refl;
+      links = second-link wrongLeg refl 3 4 refl (omega arith) (omega arith);
+      new-links = second-new wrongLeg (omega arith);
+      streams = first-stream wrongLeg 2 refl (omega arith, omega arith, omega arith);
+      counts = legs-before-1 wrongLeg 2 refl;
+      lowest = record {
+        inside = omega arith;
+        bad = λ r.
+            let first = ap (λ (s : Stream). s .first) (stream-of wrongLeg 1 0 _ _ leg-1 refl its-stream) in
+            let from = ap (λ (l : Link). l .from) (link-of wrongLeg 1 1 _ _ leg-1 refl link-1) in
+            let to = ap (λ (l : Link). l .to) (link-of wrongLeg 0 0 _ _ leg-0 refl link-0) in
+            omega (arith, r .joined 0 (omega arith) refl);
+        before = below-more
+            (LegRight wrongLeg)
+            0
+            (below-none (LegRight wrongLeg))
+            (first-leg-right wrongLeg 0 0 0 _ _ _ (omega arith) (omega arith) leg-0 refl refl its-stream refl (omega arith) link-0 (λ e. omega (arith, e)));
+      };
+    }
+
+pub shape-refusals-at-numbers : ShapeRefusalsAtNumbers
+shape-refusals-at-numbers = record {
+  four-words = refused _ 1 0 (inl (inl (refl, omega arith), refl));
+  links-above = above 257 512 2048 1000000 (λ h. omega (arith, h .links));
+  streams-above = above 256 513 2048 1000000 (λ h. omega (arith, h .streams));
+  legs-above = above 256 512 2049 1000000 (λ h. omega (arith, h .legs));
+  precision-above = above 256 512 2048 1000001 (λ h. omega (arith, h .precision));
+  at-the-limits = length-differs 256 512 2048 1000000 _ (omega arith, omega arith, omega arith, omega arith) (λ e. omega (arith, e));
+  word-more = length-differs 1 0 0 0 _ (omega arith, omega arith, omega arith, omega arith) (λ e. omega (arith, e));
+  link = refused _ 4 2 (inr (inl (refl, link)));
+  link-again = refused _ 5 2 (inr (inr (inl (refl, link-again))));
+  stream = refused _ 6 1 (inr (inr (inr (inl (refl, stream)))));
+  fewer-legs = refused _ 6 1 (inr (inr (inr (inl (refl, fewer-legs)))));
+  leg = refused _ 7 1 (inr (inr (inr (inr (refl, leg)))));
+}
