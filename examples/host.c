@@ -307,7 +307,8 @@ static int check(uint32_t budget)
     uint32_t result = CONEPALHUI_PAUSED;
     for (;;) {
         bool paused = result == CONEPALHUI_PAUSED;
-        if (take_moves(!paused) || paused) /* Here the controller would do its own work, and go on when it is idle. */
+        /* Here the controller would do its own work, and go on when it is idle. */
+        if (take_moves(!paused) || paused)
             result = slice(budget);
         else if (input_ended)
             return result == CONEPALHUI_NOTHING_VIOLATED ? ACCEPTED : VIOLATED;
