@@ -42,8 +42,8 @@ zeros-over b rest buffer = (inl (inr (inr (refl, over Sized (0 ∷ 0 ∷ 0 ∷ 0
 link-due : PlanDue (0 ∷ 1 ∷ 0 ∷ 0 ∷ 0 ∷ 1 ∷ 2 ∷ 8 ∷ [])
 link-due = inr (limits 0 1 _ (omega arith), omega arith)
 
-plans-read : PlanReadRefusalsAtNumbers
-plans-read = record {
+pub plan-read-refusals-at-numbers : PlanReadRefusalsAtNumbers
+plan-read-refusals-at-numbers = record {
   missing = plan-cut (0 ∷ 0 ∷ 0 ∷ []) [] 12 (omega arith) (inl (omega arith)) (cut-short _ 3 tt (omega arith));
   cut-short = plan-cut (0 ∷ 0 ∷ []) (0x80 ∷ []) 12 (omega arith) (inl (omega arith)) (cut-short _ 2 (omega arith, omega arith, tt) (omega arith));
   link-cut = plan-cut (0 ∷ 1 ∷ 0 ∷ 0 ∷ 0 ∷ 1 ∷ 2 ∷ 8 ∷ []) [] 12 (omega arith) link-due (cut-short _ 8 tt (omega arith));
@@ -83,16 +83,16 @@ plans-read = record {
   );
 }
 
-plans-written : PlanWrittenRefusalsAtNumbers
-plans-written = record {
+pub plan-written-refusals-at-numbers : PlanWrittenRefusalsAtNumbers
+plan-written-refusals-at-numbers = record {
   four-words = (inl (inl (refl, omega arith)), refl, refl);
   above = (inl (inr (inl (refl, omega arith, λ h. omega (arith, h .links)))), refl, refl);
   word-more = (inl (inr (inr (refl, omega arith, limits 0 0 _ (omega arith), λ e. omega (arith, e)))), refl, refl);
   no-room = (inr (refl, empty 300, omega (arith, ap length (file-is (300 ∷ 0 ∷ 0 ∷ 0 ∷ 0 ∷ [])))), refl, refl);
 }
 
-cursors : SavedCursorRefusalsAtNumbers
-cursors = record {
+pub saved-cursor-refusals-at-numbers : SavedCursorRefusalsAtNumbers
+saved-cursor-refusals-at-numbers = record {
   missing = inl (cut CursorDue (7 ∷ 1 ∷ []) [] 12 (omega arith) (omega arith) (cut-short _ 2 tt (omega arith)));
   cut-short = inl (cut CursorDue (7 ∷ []) (0x80 ∷ []) 12 (omega arith) (omega arith) (cut-short _ 1 (omega arith, omega arith, tt) (omega arith)));
   unfit = inl (cut CursorDue (7 ∷ []) (0x80 ∷ 0 ∷ []) 13 (omega arith) (omega arith) (zero-second _ 1 0x80 [] refl (omega arith, omega arith)));
@@ -101,4 +101,4 @@ cursors = record {
 }
 
 pub file-refusals-at-numbers : FileRefusalsAtNumbers
-file-refusals-at-numbers = record { plans-read = plans-read; plans-written = plans-written; cursors = cursors }
+file-refusals-at-numbers = record { plans-read = plan-read-refusals-at-numbers; plans-written = plan-written-refusals-at-numbers; cursors = saved-cursor-refusals-at-numbers }
