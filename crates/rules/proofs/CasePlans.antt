@@ -12,7 +12,7 @@ use Rattle.table.specs.PlanA.{PlanNumbers, planWith, PlanReadsSo}
 use Rattle.table.specs.declared.Link.{Link}
 use Rattle.table.specs.declared.Stream.{Stream}
 use Rattle.table.specs.declared.Leg.{Leg}
-use Rattle.table.proofs.PartLaws.{plan-a-reads-so}
+use Rattle.table.proofs.PartLaws.{plans-read-so}
 use Rattle.shape.specs.Links.{IsRate, maxPropagation}
 use Rattle.shape.specs.Guarantees.{maxRate}
 use Rattle.shape.specs.Legs.{linkOf, streamOf}
@@ -104,7 +104,7 @@ module _ (n : PlanNumbers) where
   plan = planWith n
 
   pub reads : PlanReadsSo n
-  reads = plan-a-reads-so n
+  reads = plans-read-so n
 
   -- How long the frames of stream 0 last on link 1, and that of stream 1 on link 0.
   abbrev pub w1 : ℕ
