@@ -9,20 +9,20 @@ use Rattle.shape.specs.Shape.{WellFormedTable}
 use Rattle.shape.proofs.AtNumbers.{plans-are-well-formed, plan-a-in-range}
 use Rattle.shape.proofs.RefusalsAtNumbers.{shape-refusals-at-numbers}
 use Rattle.checker.specs.Cursors.{CursorRight, CursorFault}
-use Rattle.checker.specs.RefusalsAtNumbers.{planAOf, cursorOf, CursorRefusalsAtNumbers, MoveRefusalsAtNumbers}
+use Rattle.checker.specs.RefusalsAtNumbers.{planAOf, cursorAt, CursorRefusalsAtNumbers, MoveRefusalsAtNumbers}
 use Rattle.checker.proofs.LookLaws.{not-standing}
 
 well-formed : (revision : ℕ) → WellFormedTable (planAOf revision)
 well-formed revision = plans-are-well-formed _ (plan-a-in-range revision 0 1176 0)
 
-stale : (revision other leg place : ℕ) → (other ≡ revision → ⊥) → CursorFault (planAOf revision) (cursorOf other leg place) 8 0
+stale : (revision other leg place : ℕ) → (other ≡ revision → ⊥) → CursorFault (planAOf revision) (cursorAt other leg place) 8 0
 stale revision other leg place h = inr (record { shape = well-formed revision; at = refl; cause = inl (record { number = refl; other = h }) })
 
-lost : (revision leg place : ℕ) → (leg < 3 → placesOf leg ≤ place) → (leg ≡ 3 → 0 < place) → CursorFault (planAOf revision) (cursorOf revision leg place) 9 0
+lost : (revision leg place : ℕ) → (leg < 3 → placesOf leg ≤ place) → (leg ≡ 3 → 0 < place) → CursorFault (planAOf revision) (cursorAt revision leg place) 9 0
 lost revision leg place f g = inr
     (record { shape = well-formed revision; at = refl; cause = inr (record { number = refl; revision = refl; nowhere = not-standing (planAOf revision) leg place f g }) })
 
-right : (revision leg place : ℕ) → PlaceOrEnd (planAOf revision) leg place → CursorRight (planAOf revision) (cursorOf revision leg place)
+right : (revision leg place : ℕ) → PlaceOrEnd (planAOf revision) leg place → CursorRight (planAOf revision) (cursorAt revision leg place)
 right revision leg place h = record { shape = well-formed revision; revision = refl; stands = h }
 
 pub cursor-refusals-at-numbers : CursorRefusalsAtNumbers

@@ -7,7 +7,7 @@ use lib.ListN.{length, getD}
 use native.Mathlib.Omega.{arith}
 use Rattle.numbers.specs.Number.{maxWord}
 use Rattle.numbers.specs.Series.{AllWords, fileOf, overlaid}
-use Rattle.numbers.proofs.Computed.{fileBytes, file-is}
+use Rattle.numbers.proofs.Computed.{fileBytes, file-is, small-words}
 use Rattle.numbers.proofs.Overlay.{overlaid-front}
 use Rattle.table.specs.Layout.{Sized}
 use Rattle.table.specs.Records.{moved}
@@ -35,15 +35,6 @@ use Rattle.demands.specs.HostRuns.{upToClosing, savedIn, NotRefused, Sta
 use Rattle.demands.specs.AtNumbers.{at}
 use Rattle.demands.specs.HostAtNumbers.{movedFile, zeros, saved, left, violatedInC, HostRunsAtNumbers}
 use Rattle.demands.proofs.PlanTables.{planTable, ranks, shape, here, granted, stays-at-end, pause, end, violate, on, accepted, before-2-3}
-
--- Small numbers are words.
-abbrev total : List ℕ → ℕ
-total [] = 0
-total (w ∷ ws) = w + total ws
-
-small-words : (ws : List ℕ) → total ws ≤ maxWord → AllWords ws
-small-words [] h = tt
-small-words (w ∷ ws) h = (omega arith, small-words ws (omega arith))
 
 file-a : IsFile Sized planAFile planA
 file-a = record { complete = shape 0 0 1176 0 .sized; words = small-words planA (omega arith); bytes = sym plan-a-file }
