@@ -156,6 +156,10 @@ static void begin(void)
         tell("plan refused %u %u", (unsigned)refusal, (unsigned)answer.number);
         exit(REFUSED);
     }
+    if (read_file("cursor.seen", seen, sizeof seen, &seen_len)) {
+        fprintf(stderr, "host: cursor.seen is there: the commands work on this cursor. Give the host a folder of its own\n");
+        exit(FAILED);
+    }
     bool saved = read_file("cursor", cursor, sizeof cursor, &cursor_len);
     bool copied = read_file("seen", seen, sizeof seen, &seen_len);
     bool resumed = saved && cursor_fits() && plan_is_seen(copied);

@@ -34,10 +34,11 @@
  *   4. Other cursors. Before the start that begins a run, destroy every saved cursor of this plan, of its earlier and
  *      later versions, and of whatever else stood under its name. None of them is used again. Checks of plans under
  *      other names go on: their cursors are never given with this plan, nor those of this run with another plan.
- *   5. Backups. A cursor from a backup is never put back. After anything was put back, the plan too, remove the saved
- *      cursor and begin a new run.
+ *   5. Backups. A cursor from a backup is never put back. A plan that was put back goes on only where it is byte by
+ *      byte the plan of rule 2; otherwise remove the saved cursor and begin a new run.
  *
- * Where 1 to 3 are kept, this is proved of every run (crates/demands/specs: HostRuns.antt, DemandThreeForC.antt):
+ * Where 1 to 3 are kept, and memory is lent as below, this is proved of every run (crates/demands/specs: HostRuns.antt,
+ * DemandThreeForC.antt):
  *
  *   - A slice that tells 0, or 2 to 5, tells the verdict of a whole check of the plan as it stands then.
  *   - A verdict comes in time. Take a start or a move of the run and the slices after it, up to the next start or move,
@@ -86,8 +87,8 @@
  * written to: neither may overlap any other memory that is lent to the same call. While a call runs, nobody else may
  * write to the lent memory, nor read out and new_plan.
  *
- * A refusal writes nothing. Otherwise the answer lies in the first bytes of out (and of new_plan), and every byte after
- * it is what it was.
+ * A refusal writes nothing. Otherwise the cursor lies in the first bytes of out (and the new plan in the first bytes of
+ * new_plan), and every byte after it is what it was.
  *
  * Nothing is kept between calls. There is no memory from the heap, no global state, no file and no lock: calls from
  * several threads at once do not concern each other.

@@ -25,7 +25,7 @@ use Rattle.checker.specs.declared.SliceAnswer.{SliceAnswer}
 use Rattle.checker.specs.declared.SliceAnswer.the-variants as answer
 use Rattle.demands.specs.Verdicts.{Verdict, violated, nothing-violated, Gives, FirstViolated, RightVerdict}
 use Rattle.demands.specs.Runs.{Call, start, slice, move-leg, cursorOf, Run, Renews, withoutRefused, newest, Since, budgets, HasSlice, HasVerdict}
-use Rattle.demands.specs.DemandThree.{Sound, RunsAreSound, RunsEndInTime, RunsGoOn, RunsKeepShape, DemandThree}
+use Rattle.demands.specs.DemandThree.{Sound, OneRightVerdict, RunsAreSound, RunsEndInTime, RunsGoOn, RunsKeepShape, DemandThree}
 use Rattle.demands.proofs.Verdicts.{rules-keep-places, right-verdict}
 use Rattle.demands.proofs.DemandTwo.{start-right, start-rank, demand-two}
 use Rattle.demands.proofs.Runs.{Kept, run-keeps, right-moved}
@@ -43,16 +43,16 @@ first-one a p b q v w =
     (lt-or-ge (rank a p) (rank b q))
 
 -- Two right verdicts of one table are one.
-right-one : (t : List ℕ) (v w : Verdict) → RightVerdict t v → RightVerdict t w → v ≡ w
-right-one t (violated a p r) (violated b q s) f g =
+pub one-right-verdict : OneRightVerdict
+one-right-verdict t (violated a p r) (violated b q s) f g =
     let e = rank-is-one {t = t} a p b q (inl (f .0 .place)) (inl (g .0 .place)) (first-one a p b q (f .0) (g .0)) in
     let e0 = e .0 in
     let e1 = e .1 in
     let e2 = f .1 ∙ ap (λ (z : ℕ). ruleAt z) e1 ∙ sym (g .1) in
     cc
-right-one t (violated a p r) nothing-violated f h = absurd (rules-keep-places (f .0) h)
-right-one t nothing-violated (violated b q s) h g = absurd (rules-keep-places (g .0) h)
-right-one t nothing-violated nothing-violated h k = refl
+one-right-verdict t (violated a p r) nothing-violated f h = absurd (rules-keep-places (f .0) h)
+one-right-verdict t nothing-violated (violated b q s) h g = absurd (rules-keep-places (g .0) h)
+one-right-verdict t nothing-violated nothing-violated h k = refl
 
 -- The answer of a whole check of a table of which a verdict is right.
 module _ (t : List ℕ) (shape : WellFormedTable t) where
@@ -108,7 +108,7 @@ module _ (t : List ℕ) (shape : WellFormedTable t) where
         };
         each = λ u k.
             let x = demand-two .checks t u k in
-            subst (Gives u) (right-one t (x .verdict) v (x .right) h) (x .gives);
+            subst (Gives u) (one-right-verdict t (x .verdict) v (x .right) h) (x .gives);
       }
 
 pub runs-are-sound : RunsAreSound
@@ -223,4 +223,4 @@ pub runs-keep-shape : RunsKeepShape
 runs-keep-shape calls t r = run-keeps calls t r .shape
 
 pub demand-three : DemandThree
-demand-three = record { sound = runs-are-sound; in-time = runs-end-in-time; go-on = runs-go-on; shape = runs-keep-shape }
+demand-three = record { sound = runs-are-sound; one-verdict = one-right-verdict; in-time = runs-end-in-time; go-on = runs-go-on; shape = runs-keep-shape }

@@ -27,6 +27,10 @@ pub record Sound (t : List ℕ) (v : Verdict) : Type 0 where
   pub checked : WholeCheck t whole
   pub each : (w : SliceAnswer) → WholeCheck t w → Gives w v
 
+-- A table has one right verdict.
+abbrev pub OneRightVerdict : Type 0
+OneRightVerdict = (t : List ℕ) (v w : Verdict) → RightVerdict t v → RightVerdict t w → v ≡ w
+
 abbrev pub RunsAreSound : Type 0
 RunsAreSound =
     (calls : List Call) (t : List ℕ) (c : Cursor) (budget : ℕ) (r : SliceAnswer) (v : Verdict)
@@ -41,8 +45,8 @@ RunsEndInTime =
     → Run (part ++ last ∷ earlier) t → Renews last → Since (withoutRefused part) last
     → HasSlice (withoutRefused part) → placeCount t ≤ budgets (withoutRefused part) → HasVerdict part
 
--- So nothing is lost by passing over what was refused: in a run no slice that is given the newest cursor is refused, nor a move of a leg of the table, where
--- the revision can rise.
+-- So nothing is lost by passing over what was refused: in a run no slice that is given the newest cursor is refused, nor a move with it of a leg of the
+-- table, where the revision can rise.
 pub record RunsGoOn : Type 0 where
   pub slice : (calls : List Call) (t : List ℕ) (latest : Call) (before : List Call) (budget k p : ℕ) (d : Cursor)
       → Run calls t → withoutRefused calls ≡ latest ∷ before → Slices t (cursorOf latest) budget (answer.Refused k p d) → ⊥
@@ -56,6 +60,7 @@ RunsKeepShape = (calls : List Call) (t : List ℕ) → Run calls t → WellForme
 
 pub record DemandThree : Type 0 where
   pub sound : RunsAreSound
+  pub one-verdict : OneRightVerdict
   pub in-time : RunsEndInTime
   pub go-on : RunsGoOn
   pub shape : RunsKeepShape

@@ -1,5 +1,5 @@
--- Demand 3 on bytes: runs of the calls for C. A granted start is followed by any mix of starts, slices and moves, each given the plan file as it stands and a saved
--- cursor out of the bytes that an earlier call of the run left; the plan file is changed by the run's moves alone. A refused call writes nothing
+-- Demand 3 on bytes: runs of the calls for C. A granted start is followed by any mix of starts, slices and moves, each given the plan file as it stands, and each
+-- slice and move a saved cursor out of the bytes that an earlier call of the run left; the plan file is changed by the run's moves alone. A refused call writes nothing
 -- (HostRefusalsWriteNothing) and is left out.
 use Prim.Native.Nat.{ℕ, zero, suc, _≤_, _<_}
 use mathlib.Core.Path.{_≡_}

@@ -1,5 +1,5 @@
--- Runs of the three calls (demand 3): a granted start followed by any mix of further starts, slices and moves, granted or refused, each given any cursor
--- handed out earlier in the run, the table changed by the run's moves alone. The steps are the public calls' own statements.
+-- Runs of the three calls (demand 3): a granted start followed by any mix of further starts, slices and moves, granted or refused, each slice and each
+-- move given any cursor handed out earlier in the run, the table changed by the run's moves alone. The steps are the public calls' own statements.
 use Prim.Native.Nat.{ℕ, _+_}
 use mathlib.Core.Bool.{Bool, true, false}
 use mathlib.Core.Path.{_≡_}

@@ -40,7 +40,7 @@ fn legs_of(t: &[u32]) -> usize {
 fn refused(cursor_path: &[u8], t: &[u32], number: u32, at: usize) {
     answers::refused(number, at, header_word(t, table::REVISION_AT));
     if answers::is_of_cursor(number) {
-        ours::judged(cursor_path, t);
+        ours::judged(cursor_path);
     }
 }
 
@@ -63,7 +63,7 @@ fn begun(cursor_path: &[u8], plan: &[u8], c: Cursor) -> bool {
 
 // Whether a start may replace what stands there. Where it may not, that is the answer, and it is written, or said of a file that is not ours.
 fn may_begin(cursor_path: &[u8], t: &[u32], anew: bool) -> bool {
-    let found = ours::judged(cursor_path, t);
+    let found = ours::judged(cursor_path);
     match found {
         Standing::Free => true,
         Standing::Begun(c) => {

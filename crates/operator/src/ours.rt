@@ -3,7 +3,6 @@ use crate::answers;
 use crate::saved;
 use crate::saved::Saved;
 use basics::Holds;
-use checker::SliceAnswer;
 use durable::FileRead;
 use files::Cursor;
 
@@ -23,7 +22,7 @@ enum Beside {
 
 fn left_as_it_is() {
     answers::say(
-        b". It was left as it is: give the cursor another name, or remove this file by hand\n",
+        b". It was left as it is: start with another name for the cursor, or remove this file by hand\n",
     );
 }
 
@@ -39,12 +38,10 @@ fn no_copy(path: &[u8]) {
     left_as_it_is();
 }
 
-// Three bytes of any text have the form of a saved cursor.
+// Three bytes of any text have the form of a saved cursor, so one is ours only where its copy stands beside it.
 fn perhaps_no_cursor(path: &[u8]) {
     answers::say(path);
-    answers::say(
-        b" may be no saved cursor: as one it is of another plan or revision, and there is no ",
-    );
+    answers::say(b" is no saved cursor of these commands: there is no ");
     answers::say(path);
     answers::say(b".seen");
     left_as_it_is();
@@ -87,17 +84,6 @@ fn is_first(c: Cursor) -> bool {
     false
 }
 
-// Whether the proved call goes on with a cursor.
-fn is_of(t: &[u32], c: Cursor) -> bool {
-    let told = checker::slice(t, c, 0);
-    match told {
-        SliceAnswer::Refused(_, _, _) => false,
-        SliceAnswer::Violated(_, _, _) => true,
-        SliceAnswer::NothingViolated(_, _) => true,
-        SliceAnswer::Paused(_, _) => true,
-    }
-}
-
 // A cursor at the first place has nothing to lose.
 fn of_cursor(c: Cursor) -> Standing {
     if is_first(c) {
@@ -106,21 +92,13 @@ fn of_cursor(c: Cursor) -> Standing {
     Standing::Begun(c)
 }
 
-fn of_unseen_cursor(path: &[u8], t: &[u32], c: Cursor) -> Standing {
-    if is_first(c) {
-        return Standing::Free;
-    }
-    if is_of(t, c) {
-        return Standing::Begun(c);
-    }
-    perhaps_no_cursor(path);
-    Standing::NotOurs
-}
-
-fn with_cursor(path: &[u8], t: &[u32], c: Cursor) -> Standing {
+fn with_cursor(path: &[u8], c: Cursor) -> Standing {
     let copy = copy_beside(path);
     match copy {
-        Beside::Nothing => of_unseen_cursor(path, t, c),
+        Beside::Nothing => {
+            perhaps_no_cursor(path);
+            Standing::NotOurs
+        }
         Beside::Copy => of_cursor(c),
         Beside::NotOurs => Standing::NotOurs,
     }
@@ -135,12 +113,12 @@ fn without_cursor(path: &[u8]) -> Standing {
     }
 }
 
-// What stands where a start of a table makes its files.
-pub(crate) fn judged(path: &[u8], t: &[u32]) -> Standing {
+// What stands where a start makes its files.
+pub(crate) fn judged(path: &[u8]) -> Standing {
     let found = saved::found(path);
     match found {
         Saved::Missing => without_cursor(path),
-        Saved::At(c) => with_cursor(path, t, c),
+        Saved::At(c) => with_cursor(path, c),
         Saved::Refused(_, _) => {
             no_cursor(path);
             Standing::NotOurs

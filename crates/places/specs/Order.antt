@@ -15,7 +15,7 @@ placesBelow (suc a) = placesBelow a + placesOf a
 abbrev pub Earlier : ℕ → ℕ → ℕ → ℕ → Type 0
 Earlier a p b q = (a < b) ⊎ ((a ≡ b) × (p < q))
 
--- So many places come before (a,p): the ranks of these are the numbers below it, each once (RanksCountPlaces and OrderIsByLeg, specs/Theorems.antt).
+-- So many places come before (a,p): their ranks are the numbers below this one, each once (RanksCountPlaces and OrderIsByLeg, specs/Theorems.antt).
 abbrev pub rank : ℕ → ℕ → ℕ
 rank a p = placesBelow a + p
 

@@ -20,7 +20,7 @@ pub record CasesOfPlanC : Type 0 where
   pub other-way : Overlap (planC (offsetsC 2014 3128)) 1 0
   pub same-from : Overlap (planC (offsetsC 2014 3128)) 2 0
   pub same-to : Overlap (planC (offsetsC 2014 3128)) 4 1
-  -- Legs 4 and 5 are both on link 4 at 1,300: overlap is of any two legs, and not of leg 0 with another.
+  -- Legs 4 and 5 both hold link 4 at the instant 1,300: overlap is of any two legs, and not of leg 0 with another.
   pub same-link : Overlap (planC (offsetsC 2014 3128)) 5 4 → ⊥
 
 -- These tables are well-formed, whatever their offsets, with deadlines of 1 ns to the period: they are plans.
