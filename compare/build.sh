@@ -47,6 +47,12 @@ build_comparison() {
     make_if_old compare compare/*.rs -- rustc --edition 2021 -O compare/compare.rs -o
 }
 
+# The judge answers questions of the tests. It takes no call for C, so it is built for this processor.
+build_judge() {
+    need rustc rustc
+    make_if_old judge compare/*.rs -- rustc --edition 2021 -O compare/judge.rs -o
+}
+
 # Prints a compiler of Rust that has the library of x86-64.
 rust_for_x86_64() {
     local rust library
