@@ -9,13 +9,18 @@
 //!   move PLAN CURSOR LEG OFFSET     granted REVISION LEG PLACE, and in a second line the new table
 //!   places LEGS                     how many places there are
 //!
+//!   list                            the list of cases on standard input, spelled out (list.rs)
+//!   answers                         what the program of cases prints for what list gave
+//!
 //! PLAN and CURSOR are bytes, x0AFF or @FILE, or words, w0,2,2. Each may be refused: refused NUMBER AT.
 
 // The other programs of this folder use what this one does not.
 #![allow(dead_code)]
 
+mod answers;
 mod check;
 mod format;
+mod list;
 mod paper;
 mod rules;
 mod shape;
@@ -159,12 +164,22 @@ fn serve() -> std::io::Result<()> {
     Ok(())
 }
 
+fn input() -> Asked<String> {
+    std::io::read_to_string(std::io::stdin()).map_err(|fault| fault.to_string())
+}
+
 fn main() {
     let words: Vec<String> = std::env::args().skip(1).collect();
     if words == ["serve"] {
         return serve().expect("its input and output are there");
     }
-    match answer(&words.iter().map(String::as_str).collect::<Vec<_>>()) {
+    let words: Vec<&str> = words.iter().map(String::as_str).collect();
+    let told = match words[..] {
+        ["list"] => input().and_then(|text| list::spelled(&text)),
+        ["answers"] => input().and_then(|text| answers::answers(&text)),
+        _ => answer(&words),
+    };
+    match told {
         Ok(told) => print!("{}", told),
         Err(fault) => {
             eprintln!("judge: {}", fault);
