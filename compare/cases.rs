@@ -3,7 +3,7 @@
 use crate::calls::{answer, Answer, Call, Kind};
 use crate::chance::Chance;
 use crate::check::{begin, next, places_before, places_of, Checker, Plain};
-use crate::damage::{any_bytes, bend_route, damage_bytes, damage_table, shift_legs};
+use crate::damage::{any_bytes, bend_route, damage_bytes, damage_table, double_links, shift_legs};
 use crate::drafts::{beyond, large, medium, one_link, plan_a, row, small, to_an_edge};
 use crate::format::{cursor_bytes, encoded, plan_bytes, table_words, Cursor, Plan};
 use crate::paper::{CURSOR_BYTES, GRANTED, MORE, NOTHING_VIOLATED, REFUSED, VIOLATED};
@@ -130,7 +130,8 @@ impl Batch {
 
     fn some_place(&mut self, plan: &Plan) -> Cursor {
         let leg = self.chance.below(plan.legs.len() + 1) as u32;
-        let place = if (leg as usize) < plan.legs.len() { self.chance.below(places_of(leg) as usize) as u32 } else { 0 };
+        let place =
+            if (leg as usize) < plan.legs.len() { self.chance.below(places_of(leg) as usize) as u32 } else { 0 };
         Cursor { revision: plan.revision, leg, place }
     }
 
@@ -332,9 +333,10 @@ impl Batch {
         };
         for _ in 0..8 {
             let mut bent = plan.clone();
-            match self.chance.below(4) {
-                0 => bend_route(&mut self.chance, &mut bent),
-                1 => shift_legs(&mut self.chance, &mut bent),
+            match self.chance.below(10) {
+                0 | 1 => bend_route(&mut self.chance, &mut bent),
+                2 | 3 => shift_legs(&mut self.chance, &mut bent),
+                4 => double_links(&mut self.chance, &mut bent),
                 _ => {}
             }
             let mut words = bent.words();

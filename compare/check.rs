@@ -2,8 +2,8 @@
 
 use crate::format::{self, cursor_bytes, plan_bytes, refused, Cursor, Leg, Link, Outcome, Plan, Refusal, Stream};
 use crate::paper::{
-    Limits, Rule, CURSOR_BYTES, DEADLINE, GRANTED, HOP, LAST_REVISION, LIMITS, NOTHING_VIOLATED, NO_LEG, NO_PLACE, OVERLAP,
-    OVERLAPS, PAUSED, REFUSED, RULES, STALE, WINDOW,
+    Limits, Rule, CURSOR_BYTES, DEADLINE, GRANTED, HOP, LAST_REVISION, LIMITS, NOTHING_VIOLATED, NO_LEG, NO_PLACE,
+    OVERLAP, OVERLAPS, PAUSED, REFUSED, RULES, STALE, WINDOW,
 };
 use crate::rules::{self, sent, Sent};
 use crate::shape;

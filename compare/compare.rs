@@ -1,32 +1,15 @@
 //! Holds the proved calls against the plain checker, and shows that wrong checkers are caught.
-//! Usage: compare SEED CALLS DRIVER..., the driver being a command that makes the calls of driver.c.
 
-// The other programs of this folder use what this one does not.
-#![allow(dead_code)]
-
-mod calls;
-mod cases;
-mod chance;
-mod check;
-mod damage;
-mod drafts;
-mod format;
-mod layout;
-mod paper;
-mod rules;
-mod shape;
-mod wrong;
-
-use calls::{answer, receive, send, send_flush, Answer, Call, Kind};
-use cases::{batch, Case, BATCH};
-use paper::{GRANTED, PAUSED, REFUSED, RULES};
+use crate::calls::{answer, receive, send, send_flush, Answer, Call, Kind};
+use crate::cases::{batch, Case, BATCH};
+use crate::paper::{GRANTED, PAUSED, REFUSED, RULES};
+use crate::wrong::{all, given, Wrong};
 use std::collections::BTreeMap;
 use std::io::{BufReader, BufWriter};
-use std::process::{exit, Child, ChildStdin, ChildStdout, Command, Stdio};
+use std::process::{Child, ChildStdin, ChildStdout, Command, Stdio};
 use std::sync::atomic::{AtomicU64, Ordering};
 use std::sync::Mutex;
 use std::thread;
-use wrong::{fail_silently, given, Wrong};
 
 const SHOWN: usize = 5;
 /// Plans up to this length are given to the third opinion too.
@@ -179,7 +162,7 @@ fn compare(first: u64, wrong: &[Wrong], cases: &[Case], answers: &[(Answer, Vec<
         by_call.go_on(number, &case.call, answered);
         let slices = matches!(case.call.kind, Kind::Slice | Kind::SliceFull);
         if slices && case.call.plan.len() < LAID_OUT_BYTES {
-            let third = layout::opinion(&case.call);
+            let third = crate::layout::opinion(&case.call);
             pairs_laid_out += third.laid_out;
             if third.answer != case.expected {
                 faults.push(format!("{}\n    laid out: {}", described(number, &case.call), told(&third.answer)));
@@ -238,20 +221,12 @@ fn unseen(seen: &BTreeMap<(Kind, u32), u64>) -> Vec<(Kind, u32)> {
     each.filter(|one| !seen.contains_key(one)).collect()
 }
 
-fn main() {
-    let arguments: Vec<String> = std::env::args().skip(1).collect();
-    let number = |at: usize, name: &str| -> u64 {
-        arguments.get(at).and_then(|text| text.parse().ok()).unwrap_or_else(|| {
-            eprintln!("compare: {} is no number; usage: compare SEED CALLS DRIVER...", name);
-            exit(4)
-        })
-    };
-    let (seed, wanted) = (number(0, "SEED"), number(1, "CALLS"));
+/// Makes so many calls, or a few more, with the command that makes the calls of driver.c. Says whether all is well.
+pub fn run(seed: u64, wanted: u64, driver: &[String]) -> bool {
     let batches = (wanted + BATCH as u64 - 1) / BATCH as u64;
     println!("seed {}, {} calls in batches of {}", seed, batches * BATCH as u64, BATCH);
 
-    fail_silently();
-    let wrong = wrong::all();
+    let wrong = all();
     let found = Mutex::new(Found {
         differences: 0,
         shown: Vec::new(),
@@ -265,7 +240,7 @@ fn main() {
     thread::scope(|scope| {
         for _ in 0..workers {
             scope.spawn(|| {
-                let mut driver = Driver::new(&arguments[2..]);
+                let mut driver = Driver::new(driver);
                 loop {
                     let number = next.fetch_add(1, Ordering::Relaxed);
                     if number >= batches {
@@ -284,7 +259,7 @@ fn main() {
     for fault in &found.shown {
         println!("{}", fault);
     }
-    exit(if report(&wrong, &found, batches * BATCH as u64, &spoilers_at_large(&arguments[2..])) { 0 } else { 1 });
+    report(&wrong, &found, batches * BATCH as u64, &spoilers_at_large(driver))
 }
 
 /// Prints what a run found, and says whether all is well.

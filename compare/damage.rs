@@ -1,11 +1,11 @@
 //! Tables and byte strings that are damaged in some way.
 
 use crate::chance::Chance;
-use crate::format::{encoded, Plan};
+use crate::format::{encoded, Link, Plan};
 use crate::paper::{HEADER_WORDS, LEG_WORDS, LIMITS, LINK_WORDS, MORE, STREAM_WORDS};
 
 /// The words of a record of each part.
-pub const WIDTHS: [usize; 3] = [LINK_WORDS, STREAM_WORDS, LEG_WORDS];
+const WIDTHS: [usize; 3] = [LINK_WORDS, STREAM_WORDS, LEG_WORDS];
 
 /// Where a part's records begin, and how many it has.
 fn part(words: &[u32], part: usize) -> (usize, usize) {
@@ -20,6 +20,23 @@ fn some_record(chance: &mut Chance, count: usize) -> usize {
         1 => count - 1,
         _ => chance.below(count),
     }
+}
+
+/// A table with each word behind its header at each value that lies at an edge of its range.
+pub fn each_edge(words: &[u32]) -> Vec<Vec<u32>> {
+    let mut tables = Vec::new();
+    for (at, width) in WIDTHS.into_iter().enumerate() {
+        let (start, count) = part(words, at);
+        for (record, field) in (0..count).flat_map(|record| (0..width).map(move |field| (record, field))) {
+            let first = start + width * record;
+            for value in edges(words, at, field, &words[first..first + width]) {
+                let mut table = words.to_vec();
+                table[first + field] = value;
+                tables.push(table);
+            }
+        }
+    }
+    tables
 }
 
 /// The values at the edges of a word's range, by its part and its place in the record.
@@ -95,6 +112,16 @@ pub fn shift_legs(chance: &mut Chance, plan: &mut Plan) {
         plan.streams[at - 1].leg_count += 1;
         plan.streams[at].first_leg += 1;
         plan.streams[at].leg_count = plan.streams[at].leg_count.wrapping_sub(1);
+    }
+}
+
+/// Some links get the nodes of others.
+pub fn double_links(chance: &mut Chance, plan: &mut Plan) {
+    for _ in 0..2 {
+        let (at, other) = (chance.below(plan.links.len().max(1)), chance.below(plan.links.len().max(1)));
+        if let Some(&Link { from, to, .. }) = plan.links.get(other) {
+            plan.links[at] = Link { from, to, ..plan.links[at] };
+        }
     }
 }
 

@@ -1,7 +1,7 @@
 //! Well-formed plans of many kinds, their legs near the edge of some rule.
 
 use crate::chance::Chance;
-use crate::check::{Checker, Plain};
+use crate::check::{places_of, Checker, Plain};
 use crate::format::{Leg, Link, Plan, Stream};
 use crate::paper::{DEADLINE, HOP, LIMITS, OVERLAPS, WINDOW};
 use crate::rules::{arrival, divisor, sent, Sent};
@@ -52,8 +52,10 @@ pub fn medium(chance: &mut Chance) -> Plan {
 
 /// A plan near or at the limits of links, streams and legs.
 pub fn large(chance: &mut Chance) -> Plan {
-    if chance.one_in(3) {
-        return full_line(chance);
+    match chance.below(6) {
+        0 | 1 => return full_line(chance),
+        2 => return alike(chance),
+        _ => {}
     }
     let links = LIMITS.links as usize - chance.below(2);
     let streams = LIMITS.streams as usize - chance.below(2);
@@ -61,8 +63,66 @@ pub fn large(chance: &mut Chance) -> Plan {
     drafted(chance, Size { nodes, links, streams })
 }
 
+/// The most links, alike in something that is not both nodes in order, and the most streams, of one leg each.
+pub fn alike(chance: &mut Chance) -> Plan {
+    let (count, last) = (LIMITS.links, LIMITS.node);
+    let kind = chance.below(12);
+    let ends = |at: u32| match kind {
+        0 => (7, 8 + at),
+        1 => (8 + at, 7),
+        2 => (at, 1_001 - at),
+        3 => (last - at, last - 511 + at),
+        4 => (3 * at, 3 * at + 1),
+        5 => (at, at ^ 0x5A5A),
+        6 => (1 + 256 * (at / 20), 2 + 256 * (at % 20)),
+        7 => (0x1200 + at / 20, 0x1280 + at % 20),
+        8 => (at / 2 + at % 2, at / 2 + 1 - at % 2),
+        9 => (at, 31 * (300 - at % 300)),
+        10 => (at, 509 + at),
+        _ => (at / 20, 20 + at % 20),
+    };
+    let link = |(from, to)| Link { from, to, ns_per_octet: LIMITS.rates[0], propagation: 500 };
+    let mut plan = Plan { links: (0..count).map(|at| link(ends(at))).collect(), ..empty(chance) };
+    if chance.one_in(2) {
+        (1..plan.links.len()).rev().for_each(|at| plan.links.swap(at, chance.below(at + 1)));
+    }
+    for number in 0..LIMITS.streams {
+        let stream = Stream { period: 100_000, deadline: 50_000, octets: 64, first_leg: number, leg_count: 1 };
+        plan.streams.push(stream);
+        plan.legs.push(Leg { stream: number, link: number % count, offset: 0 });
+    }
+    plan
+}
+
+/// A plan in which nothing is violated, of so many streams or fewer, and of one at least.
+pub fn accepted(chance: &mut Chance, streams: usize) -> Plan {
+    let nodes = 2 + chance.below(8);
+    let size = Size { nodes, links: 1 + chance.below(3 * nodes), streams };
+    let mut plan = Plan { revision: 0, ..empty(chance) };
+    plan.precision = chance.of(&[0, 1, 100, 10_000]);
+    add_links(chance, &mut plan, &size);
+    let rhythm = Rhythm::Harmonic(chance.of(&[100_000, 1_000_000, 2_000_000]));
+    for _ in 0..1 + chance.below(streams) {
+        let hops = 1 + chance.below(LIMITS.route.1 as usize);
+        let route = some_route(chance, &plan.links, hops);
+        let period = rhythm.period(chance);
+        let first_leg = plan.legs.len();
+        add_stream(chance, &mut plan, period, &route);
+        let holds = |leg: usize| (0..places_of(leg as u32)).all(|place| Plain.holds(&plan, leg, place));
+        if !(first_leg..plan.legs.len()).all(holds) {
+            plan.streams.pop();
+            plan.legs.truncate(first_leg);
+        }
+    }
+    if plan.legs.is_empty() {
+        accepted(chance, streams)
+    } else {
+        plan
+    }
+}
+
 /// Four links in a row that each of 512 streams takes. Nothing is violated.
-fn full_line(chance: &mut Chance) -> Plan {
+pub fn full_line(chance: &mut Chance) -> Plan {
     let link = |from| Link { from, to: from + 1, ns_per_octet: 8, propagation: 500 };
     let mut plan = Plan { links: (0..4).map(link).collect(), ..empty(chance) };
     plan.precision = 100;
@@ -107,7 +167,9 @@ fn drafted(chance: &mut Chance, size: Size) -> Plan {
 }
 
 fn add_links(chance: &mut Chance, plan: &mut Plan, size: &Size) {
-    let lowest = chance.of(&[0, 1, 100, LIMITS.node + 1 - size.nodes as u32]);
+    // In some plans the nodes differ in their high bytes alone.
+    let apart = chance.of(&[1, 1, 1, 256]).min(LIMITS.node / size.nodes as u32);
+    let lowest = chance.of(&[0, 1, 100, LIMITS.node - apart * (size.nodes as u32 - 1)]);
     let one_rate = chance.one_in(2);
     let mut pairs: Vec<(usize, usize)> = (0..size.nodes)
         .flat_map(|from| (0..size.nodes).map(move |to| (from, to)))
@@ -116,10 +178,14 @@ fn add_links(chance: &mut Chance, plan: &mut Plan, size: &Size) {
     for _ in 0..size.links.min(pairs.len()) {
         let (from, to) = pairs.swap_remove(chance.below(pairs.len()));
         plan.links.push(Link {
-            from: lowest + from as u32,
-            to: lowest + to as u32,
+            from: lowest + apart * from as u32,
+            to: lowest + apart * to as u32,
             ns_per_octet: if one_rate || chance.one_in(4) { LIMITS.rates[0] } else { chance.of(LIMITS.rates) },
-            propagation: if chance.one_in(4) { chance.of(&[0, LIMITS.propagation - 1, LIMITS.propagation]) } else { chance.from_to(0, 3_000) },
+            propagation: if chance.one_in(4) {
+                chance.of(&[0, LIMITS.propagation - 1, LIMITS.propagation])
+            } else {
+                chance.from_to(0, 3_000)
+            },
         });
     }
 }

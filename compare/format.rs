@@ -120,6 +120,27 @@ impl Plan {
     }
 }
 
+/// The names of the words: those of the header, and those of a link, a stream and a leg.
+pub const HEADER: [&str; HEADER_WORDS] = ["revision", "links", "streams", "legs", "precision"];
+pub const RECORDS: [(&str, &[&str]); 3] = [
+    ("link", &["from", "to", "ns_per_octet", "propagation"]),
+    ("stream", &["period", "deadline", "octets", "first_leg", "leg_count"]),
+    ("leg", &["stream", "link", "offset"]),
+];
+
+/// Where a word of a record stands in the table, by its names.
+pub fn index_of(plan: &Plan, kind: &str, record: usize, word: &str) -> Option<usize> {
+    let (mut start, counts) = (HEADER_WORDS, [plan.links.len(), plan.streams.len(), plan.legs.len()]);
+    for ((name, words), count) in RECORDS.iter().zip(counts) {
+        if *name == kind {
+            let at = words.iter().position(|name| *name == word)?;
+            return (record < count).then_some(start + words.len() * record + at);
+        }
+        start += words.len() * count;
+    }
+    None
+}
+
 /// How many words the table with this header has.
 pub fn table_words(header: &[u32; HEADER_WORDS]) -> u64 {
     let [_, links, streams, legs, _] = header.map(u64::from);

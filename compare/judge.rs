@@ -2,32 +2,47 @@
 //! What serve answers ends with an empty line.
 //!
 //!   encode NUMBERS                  the bytes of these numbers
+//!   write WORDS LENT                the file of this table, in a lent buffer of so many bytes
+//!   save CURSOR LENT                the file of this cursor, likewise
 //!   words|shape|check PLAN          what the programs print
 //!   cursor CURSOR                   cursor REVISION LEG PLACE
 //!   start PLAN                      granted REVISION LEG PLACE
-//!   slice PLAN CURSOR BUDGET        paused|violated|accepted REVISION LEG PLACE steps STEPS [RULE]
+//!   slice PLAN CURSOR BUDGET        nothing violated|paused|violated REVISION LEG PLACE steps STEPS [RULE]
 //!   move PLAN CURSOR LEG OFFSET     granted REVISION LEG PLACE, and in a second line the new table
 //!   places LEGS                     how many places there are
-//!
-//!   list                            the list of cases on standard input, spelled out (list.rs)
-//!   answers                         what the program of cases prints for what list gave
+//!   word PLAN stream 0 deadline     which word of the table this is; also word PLAN revision
+//!   plan SEED STREAMS               a table in which nothing is violated, of so many streams or fewer
 //!
 //! PLAN and CURSOR are bytes, x0AFF or @FILE, or words, w0,2,2. Each may be refused: refused NUMBER AT.
-
-// The other programs of this folder use what this one does not.
-#![allow(dead_code)]
+//!
+//! These commands are no questions:
+//!
+//!   judge inputs words|shape|check SEED MOST      plan files for a program, so many of each family, in lines
+//!   judge list                                    the list of cases on standard input, spelled out (list.rs)
+//!   judge answers                                 what the program of cases has to print for what list made
+//!   judge compare SEED CALLS DRIVER...            holds the calls for C against the checker; the driver is that of driver.c
 
 mod answers;
+mod calls;
+mod cases;
+mod chance;
 mod check;
+mod compare;
+mod damage;
+mod drafts;
 mod format;
+mod inputs;
+mod layout;
 mod list;
 mod paper;
 mod rules;
 mod shape;
 mod told;
+mod wrong;
 
+use chance::Chance;
 use check::{begin, Checker, Plain};
-use format::{encoded, table, Cursor, Outcome, Plan};
+use format::{encoded, index_of, table, write_cursor, write_plan, Cursor, Outcome, Plan, HEADER};
 use paper::{CURSOR_WORDS, NOTHING_VIOLATED, PAUSED};
 use std::io::{BufRead, Write};
 use told::{joined, printed, rule_named, Verb};
@@ -86,6 +101,10 @@ fn hex(bytes: &[u8]) -> String {
     bytes.iter().map(|byte| format!("{:02x}", byte)).collect()
 }
 
+fn shown(bytes: Vec<u8>) -> String {
+    format!("x{}\n", hex(&bytes))
+}
+
 fn told(cursor: Cursor) -> String {
     joined(&cursor.words(), " ")
 }
@@ -111,7 +130,7 @@ fn start(plan: &Given) -> Outcome<String> {
 fn slice(plan: &Plan, cursor: Cursor, budget: u32) -> String {
     let sliced = Plain.slice(plan, cursor, budget);
     let kind = match sliced.result {
-        NOTHING_VIOLATED => "accepted",
+        NOTHING_VIOLATED => "nothing violated",
         PAUSED => "paused",
         _ => "violated",
     };
@@ -124,13 +143,31 @@ fn moved(mut plan: Plan, cursor: Cursor, leg: u32, offset: u32) -> Outcome<Strin
     Ok(format!("granted {}\nw{}\n", told(cursor), joined(&plan.words(), ",")))
 }
 
+/// Which word of a table has this name.
+fn index(plan: &Plan, name: &[&str]) -> Asked<String> {
+    let found = match name {
+        [word] => HEADER.iter().position(|name| name == word),
+        [kind, record, word] => index_of(plan, kind, number(record)? as usize, word),
+        _ => None,
+    };
+    found.map(|at| format!("{}\n", at)).ok_or_else(|| format!("there is no word '{}'", name.join(" ")))
+}
+
 fn answer(question: &[&str]) -> Asked<String> {
     let given = |at: usize| Given::of(question[at]);
     let told = match question {
         ["encode", _] => match given(1)? {
-            Given::Words(words) => Ok(format!("x{}\n", hex(&encoded(&words)))),
+            Given::Words(words) => Ok(shown(encoded(&words))),
             Given::Bytes(_) => return Err("bytes are encoded already".to_string()),
         },
+        ["write", _, lent] => match given(1)? {
+            Given::Words(words) => write_plan(&Plain, &words, number(lent)? as usize).map(shown),
+            Given::Bytes(_) => return Err("bytes are written already".to_string()),
+        },
+        ["save", _, lent] => {
+            let lent = number(lent)? as usize;
+            given(1)?.cursor()?.and_then(|cursor| write_cursor(&Plain, cursor, lent)).map(shown)
+        }
         ["cursor", _] => given(1)?.cursor()?.map(|cursor| format!("cursor {}\n", told(cursor))),
         ["start", _] => start(&given(1)?),
         ["slice", _, _, budget] => {
@@ -140,6 +177,15 @@ fn answer(question: &[&str]) -> Asked<String> {
         ["move", _, _, leg, offset] => {
             let (leg, offset) = (number(leg)?, number(offset)?);
             opened(&given(1)?, &given(2)?)?.and_then(|(plan, cursor)| moved(plan, cursor, leg, offset))
+        }
+        ["word", _, name @ ..] => match given(1)?.plan() {
+            Ok(plan) => Ok(index(&plan, name)?),
+            Err(refusal) => Err(refusal),
+        },
+        ["plan", seed, streams] => {
+            let plan =
+                drafts::accepted(&mut Chance::new(seed.parse().map_err(|_| "no seed")?, 0), number(streams)? as usize);
+            Ok(format!("w{}\n", joined(&plan.words(), ",")))
         }
         ["places", legs] => Ok(format!("{}\n", Plain.places(u64::from(number(legs)?)))),
         [verb, _] => match Verb::named(verb) {
@@ -156,7 +202,8 @@ fn serve() -> std::io::Result<()> {
     let mut out = std::io::stdout().lock();
     for line in std::io::stdin().lock().lines() {
         let line = line?;
-        let told = answer(&line.split(' ').collect::<Vec<_>>()).unwrap_or_else(|fault| format!("bad question: {}\n", fault));
+        let told =
+            answer(&line.split(' ').collect::<Vec<_>>()).unwrap_or_else(|fault| format!("bad question: {}\n", fault));
         out.write_all(told.as_bytes())?;
         out.write_all(b"\n")?;
         out.flush()?;
@@ -164,26 +211,53 @@ fn serve() -> std::io::Result<()> {
     Ok(())
 }
 
+/// Prints the inputs of a program in hex. Says whether each wrong checker is told by one of them.
+fn inputs(verb: Verb, seed: u64, most: usize) -> bool {
+    let inputs = inputs::inputs(verb, seed, most);
+    for file in &inputs.files {
+        println!("x{}", hex(file));
+    }
+    for name in &inputs.at_large {
+        println!("NOT CAUGHT: {}", name);
+    }
+    inputs.at_large.is_empty()
+}
+
 fn input() -> Asked<String> {
     std::io::read_to_string(std::io::stdin()).map_err(|fault| fault.to_string())
 }
 
-fn main() {
-    let words: Vec<String> = std::env::args().skip(1).collect();
-    if words == ["serve"] {
-        return serve().expect("its input and output are there");
+fn shown_all(told: String) -> bool {
+    print!("{}", told);
+    true
+}
+
+/// Does what is asked for, and says whether all is well.
+fn done(words: &[&str], rest: &[String]) -> Asked<bool> {
+    let number = |text: &str| text.parse().map_err(|_| format!("'{}' is no number", text));
+    match words {
+        ["serve"] => serve().map(|_| true).map_err(|fault| fault.to_string()),
+        ["compare", seed, calls, _, ..] => Ok(compare::run(number(seed)?, number(calls)?, &rest[3..])),
+        ["inputs", verb, seed, most] => {
+            let verb = Verb::named(verb).ok_or("no program of this name")?;
+            Ok(inputs(verb, number(seed)?, number(most)? as usize))
+        }
+        ["list"] => list::spelled(&input()?).map(shown_all),
+        ["answers"] => answers::answers(&input()?).map(shown_all),
+        question => answer(question).map(shown_all),
     }
-    let words: Vec<&str> = words.iter().map(String::as_str).collect();
-    let told = match words[..] {
-        ["list"] => input().and_then(|text| list::spelled(&text)),
-        ["answers"] => input().and_then(|text| answers::answers(&text)),
-        _ => answer(&words),
-    };
-    match told {
-        Ok(told) => print!("{}", told),
+}
+
+fn main() {
+    wrong::fail_silently();
+    let rest: Vec<String> = std::env::args().skip(1).collect();
+    let words: Vec<&str> = rest.iter().map(String::as_str).collect();
+    std::process::exit(match done(&words, &rest) {
+        Ok(true) => 0,
+        Ok(false) => 1,
         Err(fault) => {
             eprintln!("judge: {}", fault);
-            std::process::exit(4)
+            4
         }
-    }
+    })
 }

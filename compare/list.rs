@@ -4,21 +4,17 @@
 //!   let NAME = PLAN                  a name for a plan
 //!   VERB NUMBERS [from CURSOR] [of PLAN]
 //!
-//! PLAN is a name, or words, with | between records, and changes, each after a comma: revision 7, link 1 rate 80, words 31 (so many
+//! PLAN is a name, or words, with | between records, and changes, each after a comma: revision 7, link 1 ns_per_octet 80, words 31 (so many
 //! alone). A call on bytes takes the file of such words, or bytes as they stand, =80 00 or "text"; its changes may be bytes 40 (so many
 //! alone), and 00 (so much more), leg 1 offset as 98 00. CURSOR is three words, for a call on bytes their file or bytes as they stand.
 //! A call without them goes on with those of the call before it, and with what that call made of them.
 
-use crate::format::encoded;
-use crate::paper::{CURSOR_WORDS, HEADER_WORDS, LEG_WORDS, LINK_WORDS, STREAM_WORDS};
+use crate::check::Plain;
+use crate::format::{encoded, index_of, table, Plan, HEADER};
+use crate::paper::CURSOR_WORDS;
 use std::collections::HashMap;
 
 type Spelled<T> = Result<T, String>;
-
-const HEADER: [&str; HEADER_WORDS] = ["revision", "links", "streams", "legs", "precision"];
-const LINK: [&str; LINK_WORDS] = ["from", "to", "rate", "propagation"];
-const STREAM: [&str; STREAM_WORDS] = ["period", "deadline", "octets", "first", "count"];
-const LEG: [&str; LEG_WORDS] = ["stream", "link", "offset"];
 
 /// The calls that take a plan and a cursor as bytes.
 fn on_bytes(verb: &str) -> bool {
@@ -65,26 +61,18 @@ impl Written {
         bytes
     }
 
-    /// Where a word stands, by its record and name: how many links and streams lie before it the header as it was says.
-    fn at(&self, counts: &[u32], path: &[&str]) -> Spelled<usize> {
-        let (links, streams) = (counts[1] as usize, counts[2] as usize);
-        let link_at = HEADER_WORDS;
-        let stream_at = link_at + links * LINK_WORDS;
-        let leg_at = stream_at + streams * STREAM_WORDS;
-        let named = |names: &[&str], name: &str| {
-            names.iter().position(|known| *known == name).ok_or_else(|| format!("there is no word '{}'", name))
+    /// Where a word of a plan stands, by its names.
+    fn at(&self, plan: &Plan, names: &[&str]) -> Spelled<usize> {
+        let at = match names {
+            [word] => HEADER.iter().position(|name| name == word),
+            [kind, record, word] => index_of(plan, kind, number(record)? as usize, word),
+            _ => None,
         };
-        let at = match path {
-            [name] => named(&HEADER, name)?,
-            ["link", i, name] => link_at + number(i)? as usize * LINK_WORDS + named(&LINK, name)?,
-            ["stream", i, name] => stream_at + number(i)? as usize * STREAM_WORDS + named(&STREAM, name)?,
-            ["leg", i, name] => leg_at + number(i)? as usize * LEG_WORDS + named(&LEG, name)?,
-            _ => return Err(format!("'{}' is no word", path.join(" "))),
-        };
-        if at < self.words.len() { Ok(at) } else { Err(format!("'{}' is past the end", path.join(" "))) }
+        at.filter(|at| *at < self.words.len()).ok_or_else(|| format!("there is no word '{}'", names.join(" ")))
     }
 
-    fn change(&mut self, counts: &[u32], change: &str) -> Spelled<()> {
+    /// Makes a change. The names of words are those of the plan as it was before all changes.
+    fn change(&mut self, before: &[u32], change: &str) -> Spelled<()> {
         if let Some(more) = change.trim().strip_prefix("and ") {
             self.after.extend(bytes(more)?);
             return Ok(());
@@ -93,17 +81,19 @@ impl Written {
         match &words[..] {
             ["words", n] => self.words.truncate(number(n)? as usize),
             ["bytes", n] => self.cut = Some(number(n)? as usize),
-            [path @ .., value] => match path.iter().position(|word| *word == "as") {
-                Some(as_at) => {
-                    let at = self.at(counts, &words[..as_at])?;
-                    self.words[at].1 = bytes(&words[as_at + 1..].join(" "))?;
-                }
-                None => {
-                    let (at, value) = (self.at(counts, path)?, number(value)?);
-                    self.words[at] = (value, encoded(&[value]));
-                }
-            },
-            [] => return Err("an empty change".to_string()),
+            _ => {
+                let plan = table(&Plain, before).map_err(|_| format!("'{}' is of no plan", change))?;
+                let (names, value, bytes) = match words.iter().position(|word| *word == "as") {
+                    Some(at) => (&words[..at], None, bytes(&words[at + 1..].join(" "))?),
+                    None => {
+                        let (value, names) = words.split_last().ok_or("an empty change")?;
+                        let value = number(value)?;
+                        (names, Some(value), encoded(&[value]))
+                    }
+                };
+                let at = self.at(&plan, names)?;
+                self.words[at] = (value.unwrap_or(self.words[at].0), bytes);
+            }
         }
         Ok(())
     }
@@ -127,9 +117,9 @@ impl List {
             }
             None => Written::of(&numbers(&base.replace('|', " "))?),
         };
-        let counts: Vec<u32> = plan.table().into_iter().chain([0; HEADER_WORDS]).collect();
+        let before = plan.table();
         for change in parts {
-            plan.change(&counts, change)?;
+            plan.change(&before, change)?;
         }
         Ok(plan)
     }

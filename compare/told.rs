@@ -55,7 +55,9 @@ fn check<C: Checker>(c: &C, plan: &Plan) -> Outcome<String> {
     c.judge(plan)?;
     let sliced = whole(c, plan);
     let verdict = match sliced.result {
-        VIOLATED.. => format!("violated {} {} {}", sliced.cursor.leg, sliced.cursor.place, rule_named(c, sliced.result)),
+        VIOLATED.. => {
+            format!("violated {} {} {}", sliced.cursor.leg, sliced.cursor.place, rule_named(c, sliced.result))
+        }
         _ => "accepted".to_string(),
     };
     let legs = plan.legs.len();

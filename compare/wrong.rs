@@ -4,9 +4,9 @@
 use crate::check::{self, begin, next, packed, places_before, places_of, rule_at, Bent, Checker, Plain, Sliced, RIGHT};
 use crate::format::{self, plan_bytes, refused, table_words, Cursor, Link, Numbers, Outcome, Plan, Refusal, Stream};
 use crate::paper::{
-    Limits, ABOVE_LIMIT, BAD_FORM, CURSOR_BYTES, DEADLINE, ENDS_EARLY, HEADER_WORDS, HOP, LAST_REVISION, LEFT_OVER, LEG_WRONG,
-    LIMITS, LINK_RANGE, LINK_TWICE, MORE, NOTHING_VIOLATED, NO_PLACE, NO_ROOM, NUMBER_BYTES, OVERLAP, OVERLAPS, PAUSED,
-    PREAMBLE, REFUSED, RULES, STREAM_WRONG, VIOLATED,
+    Limits, ABOVE_LIMIT, BAD_FORM, CURSOR_BYTES, DEADLINE, ENDS_EARLY, HEADER_WORDS, HOP, LAST_REVISION, LEFT_OVER,
+    LEG_WRONG, LIMITS, LINK_RANGE, LINK_TWICE, MORE, NOTHING_VIOLATED, NO_PLACE, NO_ROOM, NUMBER_BYTES, OVERLAP,
+    OVERLAPS, PAUSED, PREAMBLE, REFUSED, RULES, STREAM_WRONG, VIOLATED,
 };
 use crate::rules::{arrival, divisor, sent, Sent};
 use crate::shape;
@@ -18,7 +18,10 @@ pub struct Wrong {
     pub checker: Bent,
 }
 
-fn wrong(name: &str, checker: Bent) -> Wrong {
+/// The right checker, bent in one thing.
+fn wrong(name: &str, bend: impl Fn(&mut Bent)) -> Wrong {
+    let mut checker = RIGHT;
+    bend(&mut checker);
     Wrong { name: name.to_string(), checker }
 }
 
@@ -36,7 +39,11 @@ thread_local! {
 /// Lets a wrong checker fail without a word. What else fails is told as ever.
 pub fn fail_silently() {
     let told = take_hook();
-    set_hook(Box::new(move |fault| if !AT_WORK.with(Cell::get) { told(fault) }));
+    set_hook(Box::new(move |fault| {
+        if !AT_WORK.with(Cell::get) {
+            told(fault)
+        }
+    }));
 }
 
 /// What a wrong checker gives, or nothing where it fails, as one may that takes a table which is no plan.
@@ -49,7 +56,7 @@ pub fn given<T>(work: impl FnOnce() -> T) -> Option<T> {
 
 // ---- Readers
 
-/// A limit's name, where it stands, and whether it may be lower by one, and higher, without a difference.
+/// A limit's name, where it stands, and whether it is wrong when it is lower by one, and when it is higher.
 type Limit = (&'static str, fn(&mut Limits) -> &mut u32, [bool; 2]);
 
 const EACH_WAY: [bool; 2] = [true, true];
@@ -59,10 +66,11 @@ fn moved_limits(limits: &[Limit]) -> Vec<Wrong> {
     let mut moved = Vec::new();
     for (name, limit, ways) in limits {
         for (is_higher, _) in [false, true].into_iter().zip(ways).filter(|(_, is_wrong)| **is_wrong) {
-            let mut bent = RIGHT;
-            let number = limit(&mut bent.limits);
-            *number = if is_higher { *number + 1 } else { *number - 1 };
-            moved.push(wrong(&format!("{} one too {}", name, if is_higher { "high" } else { "low" }), bent));
+            let name = format!("{} one too {}", name, if is_higher { "high" } else { "low" });
+            moved.push(wrong(&name, |c| {
+                let number = limit(&mut c.limits);
+                *number = if is_higher { *number + 1 } else { *number - 1 };
+            }));
         }
     }
     moved
@@ -116,21 +124,22 @@ pub fn readers() -> Vec<Wrong> {
     };
     let twelve_for_fifth: fn(&Bent, &[u8], usize) -> _ = |c, bytes, start| {
         format::number(c, bytes, start).map_err(|refusal| match bytes.last() {
-            Some(&last) if last >= MORE && start + NUMBER_BYTES == bytes.len() => Refusal { number: ENDS_EARLY, ..refusal },
+            Some(&last) if last >= MORE && start + NUMBER_BYTES == bytes.len() => {
+                Refusal { number: ENDS_EARLY, ..refusal }
+            }
             _ => refusal,
         })
     };
-    let with_last_byte = |last_byte| Bent { limits: Limits { last_byte, ..LIMITS }, ..RIGHT };
     let mut readers = vec![
-        wrong("13 at the bad byte", Bent { number: at_bad_byte, ..RIGHT }),
-        wrong("a longer form taken", Bent { number: long_form_taken, ..RIGHT }),
-        wrong("12 where the bytes end", Bent { number: twelve_at_end, ..RIGHT }),
-        wrong("12 for a fifth byte above 0F that ends the bytes", Bent { number: twelve_for_fifth, ..RIGHT }),
-        wrong("a fifth byte up to 1F taken", with_last_byte(0x1F)),
-        wrong("a fifth byte of 0F refused", with_last_byte(0x0E)),
-        wrong("12 and 13 before 2", Bent { read_plan: |c, bytes| read_on(c, bytes, &[ENDS_EARLY, BAD_FORM]), ..RIGHT }),
-        wrong("14 before 2", Bent { read_plan: |c, bytes| read_on(c, bytes, &[LEFT_OVER]), ..RIGHT }),
-        wrong("bytes left over behind a plan taken", Bent { plan_ends: |_, _, _| Ok(()), ..RIGHT }),
+        wrong("13 at the bad byte", |c| c.number = at_bad_byte),
+        wrong("a longer form taken", |c| c.number = long_form_taken),
+        wrong("12 where the bytes end", |c| c.number = twelve_at_end),
+        wrong("12 for a fifth byte above 0F that ends the bytes", |c| c.number = twelve_for_fifth),
+        wrong("a fifth byte up to 1F taken", |c| c.limits.last_byte = 0x1F),
+        wrong("a fifth byte of 0F refused", |c| c.limits.last_byte = 0x0E),
+        wrong("12 and 13 before 2", |c| c.read_plan = |c, bytes| read_on(c, bytes, &[ENDS_EARLY, BAD_FORM])),
+        wrong("14 before 2", |c| c.read_plan = |c, bytes| read_on(c, bytes, &[LEFT_OVER])),
+        wrong("bytes left over behind a plan taken", |c| c.plan_ends = |_, _, _| Ok(())),
     ];
     readers.extend(moved_limits(&[
         ("the most links", |limits| &mut limits.links, EACH_WAY),
@@ -168,7 +177,8 @@ fn twin_by<K: PartialEq>(links: &[Link], key: impl Fn(&Link) -> K) -> Outcome<()
 /// The right judge of streams, but that refusal 6 stands elsewhere where the counts do not add up to the legs.
 fn sum_at(c: &Bent, plan: &Plan, elsewhere: usize) -> Outcome<()> {
     let last = plan.streams.len();
-    shape::streams(c, plan).map_err(|refusal| Refusal { at: if refusal.at == last { elsewhere } else { refusal.at }, ..refusal })
+    shape::streams(c, plan)
+        .map_err(|refusal| Refusal { at: if refusal.at == last { elsewhere } else { refusal.at }, ..refusal })
 }
 
 fn first_legs_mended(plan: &Plan) -> Plan {
@@ -182,11 +192,8 @@ fn first_legs_mended(plan: &Plan) -> Plan {
 
 /// Compares the sum of the counts with the legs behind all streams, and never at a stream.
 fn sum_alone(c: &Bent, plan: &Plan) -> Outcome<()> {
-    let endless = Plan { legs: Vec::new(), ..first_legs_mended(plan) };
-    let is_wrong = |at: &usize| {
-        let (stream, mended) = (&plan.streams[*at], &endless.streams[*at]);
-        !c.stream_in_range(stream) || stream.first_leg != mended.first_leg
-    };
+    let mended = first_legs_mended(plan).streams;
+    let is_wrong = |at: &usize| !c.stream_in_range(&plan.streams[*at]) || plan.streams[*at] != mended[*at];
     refused_at(STREAM_WRONG, (0..plan.streams.len()).find(is_wrong))?;
     sum_first(plan)
 }
@@ -233,9 +240,8 @@ fn last_two(met: &[u32]) -> &[u32] {
 }
 
 fn of_links() -> Vec<Wrong> {
-    let highest_link = |_: &Bent, links: &[Link]| {
-        refused_at(LINK_RANGE, links.iter().rposition(|link| !Plain.link_in_range(link)))
-    };
+    let highest_link =
+        |_: &Bent, links: &[Link]| refused_at(LINK_RANGE, links.iter().rposition(|link| !Plain.link_in_range(link)));
     let to_itself = |_: &Bent, link: &Link| {
         Plain.link_in_range(&Link { to: if link.to == link.from { link.from ^ 1 } else { link.to }, ..*link })
     };
@@ -250,7 +256,8 @@ fn of_links() -> Vec<Wrong> {
         })
     };
     let twin_of_lowest = |_: &Bent, links: &[Link]| {
-        let twin = |at: usize| links.iter().skip(at + 1).position(|link| ends(link) == ends(&links[at])).map(|on| at + 1 + on);
+        let twin =
+            |at: usize| links.iter().skip(at + 1).position(|link| ends(link) == ends(&links[at])).map(|on| at + 1 + on);
         refused_at(LINK_TWICE, (0..links.len()).find_map(twin))
     };
     let highest_twin = |_: &Bent, links: &[Link]| {
@@ -261,35 +268,32 @@ fn of_links() -> Vec<Wrong> {
         refused_at(LINK_TWICE, (1..links.len()).find(|&at| ends(&links[at]) == ends(&links[at - 1])))
     };
     let mut of_links = vec![
-        wrong("4 at the highest link", Bent { links_in_range: highest_link, ..RIGHT }),
-        wrong("a link from a node to itself taken", Bent { link_in_range: to_itself, ..RIGHT }),
-        wrong("any rate between the least and the greatest taken", Bent { link_in_range: any_rate, ..RIGHT }),
-        wrong("5 before 4", Bent { judge: |_, plan| instead(plan, LINK_RANGE, |_| Plain.links_differ(&plan.links)), ..RIGHT }),
-        wrong("5 at the earlier link", Bent { links_differ: at_earlier, ..RIGHT }),
-        wrong("5 at the twin of the lowest link", Bent { links_differ: twin_of_lowest, ..RIGHT }),
-        wrong("5 at the highest link", Bent { links_differ: highest_twin, ..RIGHT }),
-        wrong("5 left out", Bent { links_differ: |_, _| Ok(()), ..RIGHT }),
-        wrong("5 between neighbours alone", Bent { links_differ: neighbours, ..RIGHT }),
-        wrong("5 for the same link the other way", Bent {
-            links_differ: |_, links| twin_by(links, |link| (link.from.min(link.to), link.from.max(link.to))),
-            ..RIGHT
+        wrong("4 at the highest link", |c| c.links_in_range = highest_link),
+        wrong("a link from a node to itself taken", |c| c.link_in_range = to_itself),
+        wrong("any rate between the least and the greatest taken", |c| c.link_in_range = any_rate),
+        wrong("5 before 4", |c| c.judge = |_, plan| instead(plan, LINK_RANGE, |_| Plain.links_differ(&plan.links))),
+        wrong("5 at the earlier link", |c| c.links_differ = at_earlier),
+        wrong("5 at the twin of the lowest link", |c| c.links_differ = twin_of_lowest),
+        wrong("5 at the highest link", |c| c.links_differ = highest_twin),
+        wrong("5 left out", |c| c.links_differ = |_, _| Ok(())),
+        wrong("5 between neighbours alone", |c| c.links_differ = neighbours),
+        wrong("5 for the same link the other way", |c| {
+            c.links_differ = |_, links| twin_by(links, |link| (link.from.min(link.to), link.from.max(link.to)))
         }),
-        wrong("5 by the node a link is from", Bent { links_differ: |_, links| twin_by(links, |link| link.from), ..RIGHT }),
-        wrong("5 by the node a link leads to", Bent { links_differ: |_, links| twin_by(links, |link| link.to), ..RIGHT }),
-        wrong("5 by the sum of the nodes", Bent { links_differ: |_, links| twin_by(links, |link| link.from + link.to), ..RIGHT }),
-        wrong("5 by the low bytes of the nodes", Bent {
-            links_differ: |_, links| twin_by(links, |link| (link.from as u8, link.to as u8)),
-            ..RIGHT
+        wrong("5 by the node a link is from", |c| c.links_differ = |_, links| twin_by(links, |link| link.from)),
+        wrong("5 by the node a link leads to", |c| c.links_differ = |_, links| twin_by(links, |link| link.to)),
+        wrong("5 by the sum of the nodes", |c| c.links_differ = |_, links| twin_by(links, |link| link.from + link.to)),
+        wrong("5 by the low bytes of the nodes", |c| {
+            c.links_differ = |_, links| twin_by(links, |link| (link.from as u8, link.to as u8))
         }),
-        wrong("5 for links alike in all words", Bent { links_differ: |_, links| twin_by(links, |link| *link), ..RIGHT }),
+        wrong("5 for links alike in all words", |c| c.links_differ = |_, links| twin_by(links, |link| *link)),
     ];
     for (at, &rate) in LIMITS.rates.iter().enumerate() {
         let others = || LIMITS.rates.iter().enumerate().filter(move |(other, _)| *other != at).map(|(_, &rate)| rate);
         let names = ["refused", "and one ns less taken", "and one ns more taken"];
         for (name, own) in names.iter().zip([vec![], vec![rate - 1, rate], vec![rate, rate + 1]]) {
-            let rates = others().chain(own).collect::<Vec<_>>().leak();
-            let limits = Limits { rates, ..LIMITS };
-            of_links.push(wrong(&format!("{} ns per octet {}", rate, name), Bent { limits, ..RIGHT }));
+            let rates: &[u32] = others().chain(own).collect::<Vec<_>>().leak();
+            of_links.push(wrong(&format!("{} ns per octet {}", rate, name), |c| c.limits.rates = rates));
         }
     }
     of_links.extend(moved_limits(&[
@@ -307,9 +311,8 @@ fn of_streams() -> Vec<Wrong> {
     let deadline_behind = |c: &Bent, stream: &Stream| {
         shape::stream_in_range(c, &Stream { deadline: stream.deadline.min(stream.period), ..*stream })
     };
-    let deadline_before = |c: &Bent, stream: &Stream| {
-        stream.deadline != stream.period && shape::stream_in_range(c, stream)
-    };
+    let deadline_before =
+        |c: &Bent, stream: &Stream| stream.deadline != stream.period && shape::stream_in_range(c, stream);
     let legs_unused = |c: &Bent, plan: &Plan| match shape::streams(c, plan) {
         Err(refusal) if refusal.at == plan.streams.len() => Ok(()),
         right => right,
@@ -322,24 +325,22 @@ fn of_streams() -> Vec<Wrong> {
         instead(plan, STREAM_WRONG, |at| if at == plan.streams.len() { Plain.legs(plan) } else { Ok(()) })
     };
     let mut of_streams = vec![
-        wrong("6 before 4", Bent { judge: |_, plan| instead(plan, LINK_RANGE, |_| Plain.streams(plan)), ..RIGHT }),
-        wrong("6 before 5", Bent { judge: |_, plan| instead(plan, LINK_TWICE, |_| Plain.streams(plan)), ..RIGHT }),
-        wrong("7 before 6", Bent { judge: link_missing, ..RIGHT }),
-        wrong("7 before counts below G", Bent { judge: seven_before_sum, ..RIGHT }),
-        wrong("6 for all ranges before the first legs", Bent { streams: ranges_first, ..RIGHT }),
-        wrong("any first leg taken", Bent { streams: |c, plan| shape::streams(c, &first_legs_mended(plan)), ..RIGHT }),
-        wrong("a deadline behind the period taken", Bent { stream_in_range: deadline_behind, ..RIGHT }),
-        wrong("a deadline as long as the period refused", Bent { stream_in_range: deadline_before, ..RIGHT }),
-        wrong("counts below G taken", Bent { streams: legs_unused, ..RIGHT }),
-        wrong("counts below G at 0", Bent { streams: |c, plan| sum_at(c, plan, 0), ..RIGHT }),
-        wrong("counts below G at the last stream", Bent {
-            streams: |c, plan| sum_at(c, plan, plan.streams.len().saturating_sub(1)),
-            ..RIGHT
+        wrong("6 before 4", |c| c.judge = |_, plan| instead(plan, LINK_RANGE, |_| Plain.streams(plan))),
+        wrong("6 before 5", |c| c.judge = |_, plan| instead(plan, LINK_TWICE, |_| Plain.streams(plan))),
+        wrong("7 before 6", |c| c.judge = link_missing),
+        wrong("7 before counts below G", |c| c.judge = seven_before_sum),
+        wrong("6 for all ranges before the first legs", |c| c.streams = ranges_first),
+        wrong("any first leg taken", |c| c.streams = |c, plan| shape::streams(c, &first_legs_mended(plan))),
+        wrong("a deadline behind the period taken", |c| c.stream_in_range = deadline_behind),
+        wrong("a deadline as long as the period refused", |c| c.stream_in_range = deadline_before),
+        wrong("counts below G taken", |c| c.streams = legs_unused),
+        wrong("counts below G at 0", |c| c.streams = |c, plan| sum_at(c, plan, 0)),
+        wrong("counts below G at the last stream", |c| {
+            c.streams = |c, plan| sum_at(c, plan, plan.streams.len().saturating_sub(1))
         }),
-        wrong("counts above G at S", Bent { streams: sum_alone, ..RIGHT }),
-        wrong("counts against G before the streams", Bent {
-            judge: |_, plan| instead(plan, STREAM_WRONG, |_| sum_first(plan)),
-            ..RIGHT
+        wrong("counts above G at S", |c| c.streams = sum_alone),
+        wrong("counts against G before the streams", |c| {
+            c.judge = |_, plan| instead(plan, STREAM_WRONG, |_| sum_first(plan))
         }),
     ];
     of_streams.extend(moved_limits(&[
@@ -361,28 +362,26 @@ fn of_legs() -> Vec<Wrong> {
         shape::names_right(c, plan, &format::Leg { stream: own, ..*leg }, stream)
     };
     vec![
-        wrong("7 for a route at the earlier leg", Bent { legs: |_, plan| route_at(plan, |at, _| at - 1), ..RIGHT }),
-        wrong("7 for a route at its first leg", Bent { legs: |_, plan| route_at(plan, |_, first| first), ..RIGHT }),
-        wrong("7 for all names before the routes", Bent { legs: |_, plan| names_first(plan), ..RIGHT }),
-        wrong("a leg that names any stream taken", Bent { names_right: any_stream, ..RIGHT }),
-        wrong("a leg with any word for its stream taken", Bent {
-            names_right: |_, plan, leg, _| (leg.link as usize) < plan.links.len(),
-            ..RIGHT
+        wrong("7 for a route at the earlier leg", |c| c.legs = |_, plan| route_at(plan, |at, _| at - 1)),
+        wrong("7 for a route at its first leg", |c| c.legs = |_, plan| route_at(plan, |_, first| first)),
+        wrong("7 for all names before the routes", |c| c.legs = |_, plan| names_first(plan)),
+        wrong("a leg that names any stream taken", |c| c.names_right = any_stream),
+        wrong("a leg with any word for its stream taken", |c| {
+            c.names_right = |_, plan, leg, _| (leg.link as usize) < plan.links.len()
         }),
-        wrong("a route back to its first node taken", Bent { goes_on: |_, met, link| leads_on(met, link, &[&met[1..]]), ..RIGHT }),
-        wrong("a route back to a node in its middle taken", Bent {
-            goes_on: |_, met, link| leads_on(met, link, &[&met[..1], last_two(met)]),
-            ..RIGHT
+        wrong("a route back to its first node taken", |c| c.goes_on = |_, met, link| leads_on(met, link, &[&met[1..]])),
+        wrong("a route back to a node in its middle taken", |c| {
+            c.goes_on = |_, met, link| leads_on(met, link, &[&met[..1], last_two(met)])
         }),
-        wrong("a route straight back taken", Bent {
-            goes_on: |_, met, link| leads_on(met, link, &[&met[..met.len() - 2]]),
-            ..RIGHT
+        wrong("a route straight back taken", |c| {
+            c.goes_on = |_, met, link| leads_on(met, link, &[&met[..met.len() - 2]])
         }),
-        wrong("any route but straight back taken", Bent { goes_on: |_, met, link| leads_on(met, link, &[last_two(met)]), ..RIGHT }),
-        wrong("a route that does not go on taken", Bent { goes_on: |_, met, link| !met.contains(&link.to), ..RIGHT }),
-        wrong("a route that goes on from any of its nodes taken", Bent {
-            goes_on: |_, met, link| met.contains(&link.from) && !met.contains(&link.to),
-            ..RIGHT
+        wrong("any route but straight back taken", |c| {
+            c.goes_on = |_, met, link| leads_on(met, link, &[last_two(met)])
+        }),
+        wrong("a route that does not go on taken", |c| c.goes_on = |_, met, link| !met.contains(&link.to)),
+        wrong("a route that goes on from any of its nodes taken", |c| {
+            c.goes_on = |_, met, link| met.contains(&link.from) && !met.contains(&link.to)
         }),
     ]
 }
@@ -411,9 +410,10 @@ fn named<K: Ord>(plan: &Plan, from: Cursor, budget: u32, key: impl Fn(u32, u32) 
     Sliced { result: RULES[rule_at(place).0].result, cursor, steps: places_before(cursor) as u32 + 1 }
 }
 
-/// A checker with other times on the wire.
-fn timed(time: fn(&Bent, u32, u32) -> u64) -> Bent {
-    Bent { wire_time: time, hold_time: time, ..RIGHT }
+/// Other times on the wire, of frames that hold their links no longer.
+fn timed(c: &mut Bent, time: fn(&Bent, u32, u32) -> u64) {
+    c.wire_time = time;
+    c.hold_time = time;
 }
 
 /// The sum of octets and others, by ns per octet.
@@ -452,51 +452,45 @@ fn of_the_order() -> Vec<Wrong> {
         steps: 1,
     };
     vec![
-        wrong("accepted always", Bent { holds: |_, _, _, _| true, ..RIGHT }),
-        wrong("one fixed place", Bent { slice: fixed_place, ..RIGHT }),
-        wrong("the last violated place", Bent {
-            slice: |_, plan, from, budget| named(plan, from, budget, |leg, place| (!leg, !place)),
-            ..RIGHT
+        wrong("accepted always", |c| c.holds = |_, _, _, _| true),
+        wrong("one fixed place", |c| c.slice = fixed_place),
+        wrong("the last violated place", |c| {
+            c.slice = |_, plan, from, budget| named(plan, from, budget, |leg, place| (!leg, !place))
         }),
-        wrong("the overlaps of a leg before its window", Bent {
-            slice: |_, plan, from, budget| named(plan, from, budget, |leg, place| (leg, place < OVERLAPS, place)),
-            ..RIGHT
+        wrong("the overlaps of a leg before its window", |c| {
+            c.slice = |_, plan, from, budget| named(plan, from, budget, |leg, place| (leg, place < OVERLAPS, place))
         }),
-        wrong("all of one rule before the next", Bent {
-            slice: |_, plan, from, budget| named(plan, from, budget, |leg, place| (rule_at(place).0, leg, place)),
-            ..RIGHT
+        wrong("all of one rule before the next", |c| {
+            c.slice = |_, plan, from, budget| named(plan, from, budget, |leg, place| (rule_at(place).0, leg, place))
         }),
-        wrong("the overlap with the highest leg first", Bent {
-            slice: |_, plan, from, budget| named(plan, from, budget, |leg, place| (leg, rule_at(place).0, !place)),
-            ..RIGHT
+        wrong("the overlap with the highest leg first", |c| {
+            c.slice = |_, plan, from, budget| named(plan, from, budget, |leg, place| (leg, rule_at(place).0, !place))
         }),
-        wrong("a place too many for each leg", Bent {
-            places: |_, legs| legs * (legs + 1) / 2 + u64::from(OVERLAPS) * legs,
-            ..RIGHT
+        wrong("a place too many for each leg", |c| {
+            c.places = |_, legs| legs * (legs + 1) / 2 + u64::from(OVERLAPS) * legs
         }),
-        wrong("window and hop exchanged in name", Bent { rules: [RULES[1], RULES[0], RULES[2], RULES[3]], ..RIGHT }),
-        wrong("hop and deadline exchanged in name", Bent { rules: [RULES[0], RULES[2], RULES[1], RULES[3]], ..RIGHT }),
+        wrong("window and hop exchanged in name", |c| c.rules = [RULES[1], RULES[0], RULES[2], RULES[3]]),
+        wrong("hop and deadline exchanged in name", |c| c.rules = [RULES[0], RULES[2], RULES[1], RULES[3]]),
     ]
 }
 
 fn of_times() -> Vec<Wrong> {
     vec![
-        wrong("no preamble", timed(|_, octets, rate| octets_sent(octets, 0, rate))),
-        wrong("a preamble of 20 octets", timed(|_, octets, rate| octets_sent(octets, 20, rate))),
-        wrong("a preamble in ns", timed(|_, octets, rate| octets_sent(octets, 0, rate) + u64::from(PREAMBLE))),
-        wrong("the least ns per octet on each link", timed(|_, octets, _| octets_sent(octets, PREAMBLE, LIMITS.rates[0]))),
-        wrong("window without the hold time", Bent { window_holds: |_, leg| leg.offset <= u64::from(leg.period), ..RIGHT }),
-        wrong("window without its last ns", Bent {
-            window_holds: |_, leg| leg.offset + leg.hold < u64::from(leg.period),
-            ..RIGHT
+        wrong("no preamble", |c| timed(c, |_, octets, rate| octets_sent(octets, 0, rate))),
+        wrong("a preamble of 20 octets", |c| timed(c, |_, octets, rate| octets_sent(octets, 20, rate))),
+        wrong("a preamble in ns", |c| timed(c, |_, octets, rate| octets_sent(octets, 0, rate) + u64::from(PREAMBLE))),
+        wrong("the least ns per octet on each link", |c| {
+            timed(c, |_, octets, _| octets_sent(octets, PREAMBLE, LIMITS.rates[0]))
         }),
-        wrong("window of offsets modulo the period", Bent {
-            window_holds: |_, leg| leg.offset % u64::from(leg.period) + leg.hold <= u64::from(leg.period),
-            ..RIGHT
+        wrong("window without the hold time", |c| c.window_holds = |_, leg| leg.offset <= u64::from(leg.period)),
+        wrong("window without its last ns", |c| {
+            c.window_holds = |_, leg| leg.offset + leg.hold < u64::from(leg.period)
         }),
-        wrong("window with a sum in 32 bits", Bent {
-            window_holds: |_, leg| in_32_bits(leg.offset + leg.hold) <= u64::from(leg.period),
-            ..RIGHT
+        wrong("window of offsets modulo the period", |c| {
+            c.window_holds = |_, leg| leg.offset % u64::from(leg.period) + leg.hold <= u64::from(leg.period)
+        }),
+        wrong("window with a sum in 32 bits", |c| {
+            c.window_holds = |_, leg| in_32_bits(leg.offset + leg.hold) <= u64::from(leg.period)
         }),
     ]
 }
@@ -508,36 +502,28 @@ fn of_hops() -> Vec<Wrong> {
         })
     };
     vec![
-        wrong("hop without the precision", Bent { hop_holds: |_, leg, previous, _| hop(leg, *previous, 0), ..RIGHT }),
-        wrong("hop without the wire time", Bent {
-            hop_holds: |_, leg, previous, precision| hop(leg, Sent { wire: 0, ..*previous }, precision),
-            ..RIGHT
+        wrong("hop without the precision", |c| c.hop_holds = |_, leg, previous, _| hop(leg, *previous, 0)),
+        wrong("hop without the wire time", |c| {
+            c.hop_holds = |_, leg, previous, precision| hop(leg, Sent { wire: 0, ..*previous }, precision)
         }),
-        wrong("hop without the propagation", Bent {
-            hop_holds: |_, leg, previous, precision| hop(leg, Sent { propagation: 0, ..*previous }, precision),
-            ..RIGHT
+        wrong("hop without the propagation", |c| {
+            c.hop_holds = |_, leg, previous, precision| hop(leg, Sent { propagation: 0, ..*previous }, precision)
         }),
-        wrong("hop with the wire time of the later leg", Bent {
-            hop_holds: |_, leg, previous, precision| hop(leg, Sent { wire: leg.wire, ..*previous }, precision),
-            ..RIGHT
+        wrong("hop with the wire time of the later leg", |c| {
+            c.hop_holds = |_, leg, previous, precision| hop(leg, Sent { wire: leg.wire, ..*previous }, precision)
         }),
-        wrong("hop with the propagation of the later leg", Bent {
-            hop_holds: |_, leg, previous, precision| hop(leg, Sent { propagation: leg.propagation, ..*previous }, precision),
-            ..RIGHT
+        wrong("hop with the propagation of the later leg", |c| {
+            c.hop_holds =
+                |_, leg, previous, precision| hop(leg, Sent { propagation: leg.propagation, ..*previous }, precision)
         }),
-        wrong("hop one ns too late", Bent {
-            hop_holds: |_, leg, previous, precision| hop(leg, *previous, precision + 1),
-            ..RIGHT
+        wrong("hop one ns too late", |c| {
+            c.hop_holds = |_, leg, previous, precision| hop(leg, *previous, precision + 1)
         }),
-        wrong("hop one ns too early", Bent {
-            hop_holds: |_, leg, previous, precision| hop(&Sent { start: leg.start + 1, ..*leg }, *previous, precision),
-            ..RIGHT
+        wrong("hop one ns too early", |c| {
+            c.hop_holds =
+                |_, leg, previous, precision| hop(&Sent { start: leg.start + 1, ..*leg }, *previous, precision)
         }),
-        wrong("hop with a sum in 32 bits", Bent {
-            hop_holds: |_, leg, previous, precision| leg.start >= in_32_bits(arrival(previous, precision)),
-            ..RIGHT
-        }),
-        wrong("hop on the first legs of later streams", Bent { holds: on_each, ..RIGHT }),
+        wrong("hop on the first legs of later streams", |c| c.holds = on_each),
     ]
 }
 
@@ -549,46 +535,29 @@ fn of_deadlines() -> Vec<Wrong> {
         })
     };
     vec![
-        wrong("deadline on every leg", Bent { holds: on_each, ..RIGHT }),
-        wrong("deadline without the wire time", Bent {
-            deadline_holds: |_, last, first, precision| due(Sent { wire: 0, ..*last }, first, precision),
-            ..RIGHT
+        wrong("deadline on every leg", |c| c.holds = on_each),
+        wrong("deadline without the wire time", |c| {
+            c.deadline_holds = |_, last, first, precision| due(Sent { wire: 0, ..*last }, first, precision)
         }),
-        wrong("deadline without the propagation", Bent {
-            deadline_holds: |_, last, first, precision| due(Sent { propagation: 0, ..*last }, first, precision),
-            ..RIGHT
+        wrong("deadline without the propagation", |c| {
+            c.deadline_holds = |_, last, first, precision| due(Sent { propagation: 0, ..*last }, first, precision)
         }),
-        wrong("deadline without the precision", Bent { deadline_holds: |_, last, first, _| due(*last, first, 0), ..RIGHT }),
-        wrong("deadline from 0 on", Bent {
-            deadline_holds: |_, last, first, precision| due(*last, &Sent { start: 0, ..*first }, precision),
-            ..RIGHT
+        wrong("deadline without the precision", |c| c.deadline_holds = |_, last, first, _| due(*last, first, 0)),
+        wrong("deadline from 0 on", |c| {
+            c.deadline_holds = |_, last, first, precision| due(*last, &Sent { start: 0, ..*first }, precision)
         }),
-        wrong("deadline one ns too early", Bent {
-            deadline_holds: |_, last, first, precision| due(*last, first, precision + 1),
-            ..RIGHT
+        wrong("deadline one ns too early", |c| {
+            c.deadline_holds = |_, last, first, precision| due(*last, first, precision + 1)
         }),
-        wrong("deadline one ns too late", Bent {
-            deadline_holds: |_, last, first, precision| due(Sent { deadline: last.deadline + 1, ..*last }, first, precision),
-            ..RIGHT
+        wrong("deadline one ns too late", |c| {
+            c.deadline_holds =
+                |_, last, first, precision| due(Sent { deadline: last.deadline + 1, ..*last }, first, precision)
         }),
-        wrong("deadline at the end of the period", Bent {
-            deadline_holds: |_, last, first, precision| {
-                due(Sent { deadline: u64::from(last.period), ..*last }, first, precision)
-            },
-            ..RIGHT
-        }),
-        wrong("deadline with sums in 32 bits", Bent {
-            deadline_holds: |_, last, first, precision| {
-                in_32_bits(arrival(last, precision)) <= in_32_bits(last.deadline + first.start)
-            },
-            ..RIGHT
+        wrong("deadline at the end of the period", |c| {
+            c.deadline_holds =
+                |_, last, first, precision| due(Sent { deadline: u64::from(last.period), ..*last }, first, precision)
         }),
     ]
-}
-
-/// A checker with another rule for two legs on one link.
-fn overlapping(apart: fn(&Bent, &Sent, &Sent) -> bool) -> Bent {
-    Bent { apart, ..RIGHT }
 }
 
 fn of_overlaps() -> Vec<Wrong> {
@@ -612,45 +581,45 @@ fn of_overlaps() -> Vec<Wrong> {
     let not_before = |_: &Bent, plan: &Plan, leg: usize, place: u32| {
         but_for(OVERLAP, plan, leg, place, |other| other + 1 == leg || Plain.holds(plan, leg, place))
     };
-    let exchanged = |_: &Bent, a: &Sent, b: &Sent| Plain.apart(&Sent { hold: b.hold, ..*a }, &Sent { hold: a.hold, ..*b });
+    let exchanged =
+        |_: &Bent, a: &Sent, b: &Sent| Plain.apart(&Sent { hold: b.hold, ..*a }, &Sent { hold: a.hold, ..*b });
     vec![
-        wrong("overlap with the hold times exchanged", overlapping(exchanged)),
-        wrong("overlap with an absolute difference", overlapping(absolute)),
-        wrong("overlap with a difference in 32 bits", overlapping(difference_in_32_bits)),
-        wrong("overlap in the first periods only", overlapping(|_, a, b| {
-            a.offset + a.hold <= b.offset || b.offset + b.hold <= a.offset
-        })),
-        wrong("overlap of equal periods only", overlapping(|_, a, b| a.period != b.period || Plain.apart(a, b))),
-        wrong("overlap with one ns too much of the later leg", overlapping(|_, a, b| {
-            Plain.apart(&Sent { hold: a.hold + 1, ..*a }, b)
-        })),
-        wrong("overlap with one ns too much of the earlier leg", overlapping(|_, a, b| {
-            Plain.apart(a, &Sent { hold: b.hold + 1, ..*b })
-        })),
-        wrong("overlap with one ns too little of the later leg", overlapping(|_, a, b| {
-            Plain.apart(&Sent { hold: a.hold - 1, ..*a }, b)
-        })),
-        wrong("overlap with one ns too little of the earlier leg", overlapping(|_, a, b| {
-            Plain.apart(a, &Sent { hold: b.hold - 1, ..*b })
-        })),
-        wrong("overlap by the lesser period", overlapping(lesser_period)),
-        wrong("overlap by the period of the later leg", overlapping(|_, a, b| {
-            Plain.apart(a, &Sent { period: a.period, ..*b })
-        })),
-        wrong("overlap with a difference that is not brought into 0 to g - 1", overlapping(difference_negative)),
-        wrong("overlap with legs of other links", Bent {
-            holds: |_, plan, leg, place| overlap_by(plan, leg, place, |_| 0),
-            ..RIGHT
+        wrong("overlap with the hold times exchanged", |c| c.apart = exchanged),
+        wrong("overlap with an absolute difference", |c| c.apart = absolute),
+        wrong("overlap with a difference in 32 bits", |c| c.apart = difference_in_32_bits),
+        wrong("overlap in the first periods only", |c| {
+            c.apart = |_, a, b| a.offset + a.hold <= b.offset || b.offset + b.hold <= a.offset
         }),
-        wrong("overlap with legs the other way", Bent {
-            holds: |_, plan, leg, place| overlap_by(plan, leg, place, |link| (link.from.min(link.to), link.from.max(link.to))),
-            ..RIGHT
+        wrong("overlap of equal periods only", |c| c.apart = |_, a, b| a.period != b.period || Plain.apart(a, b)),
+        wrong("overlap with one ns too much of the later leg", |c| {
+            c.apart = |_, a, b| Plain.apart(&Sent { hold: a.hold + 1, ..*a }, b)
         }),
-        wrong("overlap with leg 0 never looked at", Bent {
-            holds: |_, plan, leg, place| place == OVERLAPS || Plain.holds(plan, leg, place),
-            ..RIGHT
+        wrong("overlap with one ns too much of the earlier leg", |c| {
+            c.apart = |_, a, b| Plain.apart(a, &Sent { hold: b.hold + 1, ..*b })
         }),
-        wrong("overlap with the leg before never looked at", Bent { holds: not_before, ..RIGHT }),
+        wrong("overlap with one ns too little of the later leg", |c| {
+            c.apart = |_, a, b| Plain.apart(&Sent { hold: a.hold - 1, ..*a }, b)
+        }),
+        wrong("overlap with one ns too little of the earlier leg", |c| {
+            c.apart = |_, a, b| Plain.apart(a, &Sent { hold: b.hold - 1, ..*b })
+        }),
+        wrong("overlap by the lesser period", |c| c.apart = lesser_period),
+        wrong("overlap by the period of the later leg", |c| {
+            c.apart = |_, a, b| Plain.apart(a, &Sent { period: a.period, ..*b })
+        }),
+        wrong("overlap with a difference that is not brought into 0 to g - 1", |c| c.apart = difference_negative),
+        wrong("overlap with legs of other links", |c| {
+            c.holds = |_, plan, leg, place| overlap_by(plan, leg, place, |_| 0)
+        }),
+        wrong("overlap with legs the other way", |c| {
+            c.holds = |_, plan, leg, place| {
+                overlap_by(plan, leg, place, |link| (link.from.min(link.to), link.from.max(link.to)))
+            }
+        }),
+        wrong("overlap with leg 0 never looked at", |c| {
+            c.holds = |_, plan, leg, place| place == OVERLAPS || Plain.holds(plan, leg, place)
+        }),
+        wrong("overlap with the leg before never looked at", |c| c.holds = not_before),
     ]
 }
 
@@ -659,6 +628,20 @@ pub fn checkers() -> Vec<Wrong> {
 }
 
 // ---- What the calls alone can tell: cursors, budgets, moves and lent memory
+
+/// In a whole check a window is violated before such sums are met.
+fn of_far_offsets() -> Vec<Wrong> {
+    vec![
+        wrong("hop with a sum in 32 bits", |c| {
+            c.hop_holds = |_, leg, previous, precision| leg.start >= in_32_bits(arrival(previous, precision))
+        }),
+        wrong("deadline with sums in 32 bits", |c| {
+            c.deadline_holds = |_, last, first, precision| {
+                in_32_bits(arrival(last, precision)) <= in_32_bits(last.deadline + first.start)
+            }
+        }),
+    ]
+}
 
 fn of_slices() -> Vec<Wrong> {
     let paused_at_the_end = |c: &Bent, plan: &Plan, from: Cursor, budget: u32| {
@@ -678,7 +661,11 @@ fn of_slices() -> Vec<Wrong> {
         let right = check::slice(c, plan, from, budget);
         let behind = next(right.cursor);
         let is_last = right.result >= VIOLATED && behind.leg as usize == plan.legs.len();
-        if is_last { Sliced { result: NOTHING_VIOLATED, cursor: behind, ..right } } else { right }
+        if is_last {
+            Sliced { result: NOTHING_VIOLATED, cursor: behind, ..right }
+        } else {
+            right
+        }
     };
     let nine_before_eight = |c: &Bent, plan: &Plan, cursor: Cursor| {
         check::fits(c, plan, Cursor { revision: plan.revision, ..cursor })?;
@@ -686,37 +673,37 @@ fn of_slices() -> Vec<Wrong> {
     };
     let end_refused = |c: &Bent, plan: &Plan, cursor: Cursor| {
         check::fits(c, plan, cursor)?;
-        if cursor.leg as usize == plan.legs.len() { refused(NO_PLACE, 0) } else { Ok(()) }
+        if cursor.leg as usize == plan.legs.len() {
+            refused(NO_PLACE, 0)
+        } else {
+            Ok(())
+        }
     };
     let place_with_itself = |c: &Bent, plan: &Plan, cursor: Cursor| {
         let itself = (cursor.leg as usize) < plan.legs.len() && cursor.place == places_of(cursor.leg);
         check::fits(c, plan, Cursor { place: cursor.place - u32::from(itself), ..cursor })
     };
     vec![
-        wrong("paused at the end when the budget is just used up", Bent { slice: paused_at_the_end, ..RIGHT }),
-        wrong("steps one less at a violated place", Bent { slice: steps_one_less, ..RIGHT }),
-        wrong("the cursor behind the violated place", Bent { slice: behind_the_violated, ..RIGHT }),
-        wrong("a budget of 0 looks at one place", Bent {
-            slice: |c, plan, from, budget| check::slice(c, plan, from, budget.max(1)),
-            ..RIGHT
+        wrong("paused at the end when the budget is just used up", |c| c.slice = paused_at_the_end),
+        wrong("steps one less at a violated place", |c| c.slice = steps_one_less),
+        wrong("the cursor behind the violated place", |c| c.slice = behind_the_violated),
+        wrong("a budget of 0 looks at one place", |c| {
+            c.slice = |c, plan, from, budget| check::slice(c, plan, from, budget.max(1))
         }),
-        wrong("a budget from 2,147,483,648 on taken for none", Bent {
-            slice: |c, plan, from, budget| check::slice(c, plan, from, (budget as i32).max(0) as u32),
-            ..RIGHT
+        wrong("a budget from 2,147,483,648 on taken for none", |c| {
+            c.slice = |c, plan, from, budget| check::slice(c, plan, from, (budget as i32).max(0) as u32)
         }),
-        wrong("the last place never looked at", Bent { slice: last_place_unseen, ..RIGHT }),
-        wrong("a stale cursor taken", Bent {
-            fits: |c, plan, cursor| check::fits(c, plan, Cursor { revision: plan.revision, ..cursor }),
-            ..RIGHT
+        wrong("the last place never looked at", |c| c.slice = last_place_unseen),
+        wrong("a stale cursor taken", |c| {
+            c.fits = |c, plan, cursor| check::fits(c, plan, Cursor { revision: plan.revision, ..cursor })
         }),
-        wrong("9 before 8", Bent { fits: nine_before_eight, ..RIGHT }),
-        wrong("the end refused as a cursor", Bent { fits: end_refused, ..RIGHT }),
-        wrong("a place of a leg with itself taken", Bent {
-            fits: place_with_itself,
-            slice: |c, plan, from, budget| {
+        wrong("9 before 8", |c| c.fits = nine_before_eight),
+        wrong("the end refused as a cursor", |c| c.fits = end_refused),
+        wrong("a place of a leg with itself taken", |c| {
+            c.fits = place_with_itself;
+            c.slice = |c, plan, from, budget| {
                 check::slice(c, plan, Cursor { place: from.place.min(places_of(from.leg) - 1), ..from }, budget)
-            },
-            ..RIGHT
+            };
         }),
     ]
 }
@@ -745,30 +732,27 @@ fn of_moves() -> Vec<Wrong> {
         Ok(Cursor { revision: plan.revision, ..after })
     };
     vec![
-        wrong("the cursor kept after a move", Bent {
-            moved: |c, plan, cursor, leg, offset| {
+        wrong("the cursor kept after a move", |c| {
+            c.moved = |c, plan, cursor, leg, offset| {
                 check::moved(c, plan, cursor, leg, offset).map(|after| Cursor { revision: after.revision, ..cursor })
-            },
-            ..RIGHT
+            }
         }),
-        wrong("the cursor always at the moved leg", Bent {
-            moved: |c, plan, cursor, leg, offset| {
+        wrong("the cursor always at the moved leg", |c| {
+            c.moved = |c, plan, cursor, leg, offset| {
                 check::moved(c, plan, cursor, leg, offset).map(|after| Cursor { leg, place: 0, ..after })
-            },
-            ..RIGHT
+            }
         }),
-        wrong("the revision not raised", Bent { moved: revision_kept, ..RIGHT }),
-        wrong("the revision not raised where the offset stays", Bent { moved: same_value_no_move, ..RIGHT }),
-        wrong("11 before 10", Bent {
-            moved: |c, plan, cursor, leg, offset| {
+        wrong("the revision not raised", |c| c.moved = revision_kept),
+        wrong("the revision not raised where the offset stays", |c| c.moved = same_value_no_move),
+        wrong("11 before 10", |c| {
+            c.moved = |c, plan, cursor, leg, offset| {
                 if plan.revision == u32::MAX {
                     return refused(LAST_REVISION, 0);
                 }
                 check::moved(c, plan, cursor, leg, offset)
-            },
-            ..RIGHT
+            }
         }),
-        wrong("the last revision followed by 0", Bent { moved: revision_wraps, ..RIGHT }),
+        wrong("the last revision followed by 0", |c| c.moved = revision_wraps),
     ]
 }
 
@@ -787,7 +771,11 @@ fn of_lent_memory() -> Vec<Wrong> {
     let room_of_the_old_plan = |c: &Bent, plan: &mut Plan, cursor: Cursor, leg: u32, offset: u32| {
         let old = plan_bytes(plan).len();
         let after = check::moved(c, plan, cursor, leg, offset)?;
-        if plan_bytes(plan).len() > old { refused(NO_ROOM, 0) } else { Ok(after) }
+        if plan_bytes(plan).len() > old {
+            refused(NO_ROOM, 0)
+        } else {
+            Ok(after)
+        }
     };
     let written_on_refusal = |c: &Bent, refusal: Refusal, lent: &mut [u8]| {
         lent.iter_mut().take(1).for_each(|byte| *byte = 0);
@@ -798,21 +786,21 @@ fn of_lent_memory() -> Vec<Wrong> {
         check::give(c, lent, bytes);
     };
     vec![
-        wrong("bytes left over behind a cursor taken", Bent { cursor_ends: |_, _, _| Ok(()), ..RIGHT }),
-        wrong("the cursor read before the plan", Bent { opened: cursor_first, ..RIGHT }),
-        wrong("15 one byte off", Bent { room: |c, least, lent| format::room(c, least + 1, lent), ..RIGHT }),
-        wrong("14 bytes taken as enough for a cursor", Bent {
-            room: |c, least, lent| format::room(c, if least == CURSOR_BYTES { CURSOR_BYTES - 1 } else { least }, lent),
-            ..RIGHT
+        wrong("bytes left over behind a cursor taken", |c| c.cursor_ends = |_, _, _| Ok(())),
+        wrong("the cursor read before the plan", |c| c.opened = cursor_first),
+        wrong("15 one byte off", |c| c.room = |c, least, lent| format::room(c, least + 1, lent)),
+        wrong("14 bytes taken as enough for a cursor", |c| {
+            c.room =
+                |c, least, lent| format::room(c, if least == CURSOR_BYTES { CURSOR_BYTES - 1 } else { least }, lent)
         }),
-        wrong("15 behind 1 to 7", Bent { opened: room_last, ..RIGHT }),
-        wrong("the room of a new plan judged by the old one", Bent { moved: room_of_the_old_plan, ..RIGHT }),
-        wrong("a byte written on a refusal", Bent { refuse: written_on_refusal, ..RIGHT }),
-        wrong("the bytes behind what is written set to 0", Bent { give: rest_cleared, ..RIGHT }),
-        wrong("every refusal at 0", Bent { refuse: |_, refusal, _| packed(REFUSED + refusal.number, 0), ..RIGHT }),
+        wrong("15 behind 1 to 7", |c| c.opened = room_last),
+        wrong("the room of a new plan judged by the old one", |c| c.moved = room_of_the_old_plan),
+        wrong("a byte written on a refusal", |c| c.refuse = written_on_refusal),
+        wrong("the bytes behind what is written set to 0", |c| c.give = rest_cleared),
+        wrong("every refusal at 0", |c| c.refuse = |_, refusal, _| packed(REFUSED + refusal.number, 0)),
     ]
 }
 
 pub fn callers() -> Vec<Wrong> {
-    of_slices().into_iter().chain(of_moves()).chain(of_lent_memory()).collect()
+    of_far_offsets().into_iter().chain(of_slices()).chain(of_moves()).chain(of_lent_memory()).collect()
 }
