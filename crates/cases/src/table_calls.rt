@@ -5,6 +5,7 @@ use checker::SliceAnswer;
 use files::Cursor;
 use rules::Rule;
 use shape::Shape;
+use table::Move;
 
 fn number(n: u32) {
     show::text(b" ");
@@ -94,7 +95,7 @@ pub(crate) fn slice(t: &[u32], c: Cursor, budget: u32) -> Cursor {
 }
 
 pub(crate) fn move_leg(t: &mut [u32], c: Cursor, leg: u32, offset: u32) -> Cursor {
-    let d = granted(checker::move_leg(t, c, leg, offset));
+    let d = granted(checker::move_leg(t, c, Move { leg, offset }));
     show::text(b"table: ");
     show::rest_words(t, 0);
     d
