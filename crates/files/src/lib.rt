@@ -44,7 +44,7 @@ pub enum CursorWritten {
 pub fn read_plan(bytes: &[u8], words: &mut [u32]) -> PlanRead
     ensures { λ r. ⌜ ReadsPlan (now (bytes .entry)) (now (words .entry)) r (now (words .exit)) ⌝ }
 {
-    let told = look::plan_size(bytes);
+    let told = look::plan_size(table::CURRENT, bytes);
     match told {
         PlanRead::Refused(number, at) => PlanRead::Refused(number, at),
         PlanRead::Words(size) => {
