@@ -7,6 +7,9 @@ use mathlib.Core.List.{List, _++_}
 use mathlib.Core.Logic.{inl, inr, ⊎-elim}
 use lib.ListN.{length, length-append}
 use native.Mathlib.Omega.{arith}
+use Rattle.basics.specs.Refusals.{OneFault}
+use Rattle.basics.proofs.Refusals.{unless-one, then-one}
+use Rattle.numbers.specs.Number.{noRoom}
 use Rattle.numbers.specs.Series.{fileOf, Row, Laid}
 use Rattle.basics.proofs.Splits.{lt-or-ge}
 use Rattle.numbers.proofs.OneNumber.{refused-once}
@@ -15,9 +18,9 @@ use Rattle.numbers.proofs.Rows.{row-compare, row-same, row-stops, file-row}
 use Rattle.table.specs.Layout.{current, headWords, wordsIn, LimitsIn, SizedIn, Sized}
 use Rattle.table.specs.declared.Edition.{Edition}
 use Rattle.table.proofs.Headers.{header-in-front, limits-same, words-same, same-header-back}
-use Rattle.table.proofs.Sizes.{sized-no-fault, fault-once}
+use Rattle.table.proofs.Sizes.{size-one}
 use Rattle.files.specs.Reading.{IsFile, Cut, Over}
-use Rattle.files.specs.Plan.{PlanDueIn, HeaderAboveIn, PlanFaultIn, PlanUnreadIn, asItStands, PlanUnwritten}
+use Rattle.files.specs.Plan.{PlanDueIn, HeaderAboveIn, PlanFaultIn, PlanUnreadIn, asItStands, writeRefusals}
 use Rattle.files.specs.Cursors.{cursorWords, CursorDue, CursorComplete, ReadsCursor}
 use Rattle.files.specs.Theorems.{ReadPlanInOneAnswer, ReadPlanOneAnswer, WritePlanOneAnswer, ReadCursorOneAnswer, WriteCursorOneAnswer}
 use Rattle.numbers.specs.declared.Written.the-variants as written
@@ -134,22 +137,20 @@ read-plan-in-one-answer v given s b b′ b″ (plan.Refused k p) (plan.Refused l
 pub read-plan-one-answer : ReadPlanOneAnswer
 read-plan-one-answer = read-plan-in-one-answer current asItStands
 
-unwritten-one : (t : List ℕ) (room k l : ℕ) → PlanUnwritten t room k → PlanUnwritten t room l → k ≡ l
-unwritten-one t room k l (inl f) (inl g) = fault-once t k l f g
-unwritten-one t room k l (inl f) (inr (e, z, h)) = absurd (sized-no-fault t k z f)
-unwritten-one t room k l (inr (e, z, h)) (inl f) = absurd (sized-no-fault t l z f)
-unwritten-one t room k l (inr (e, z, h)) (inr (e′, z′, h′)) = e ∙ sym e′
+pub write-one : (t : List ℕ) (room : ℕ) → OneFault (writeRefusals t room)
+write-one t room = then-one (size-one t) (unless-one noRoom _)
 
-table-written : (t b b′ : List ℕ) (n k : ℕ) → Sized t → Laid b 0 (fileOf t) n b′ → PlanUnwritten t (length b) k → ⊥
-table-written t b b′ n k z l (inl f) = sized-no-fault t k z f
-table-written t b b′ n k z l (inr (e, y, h)) = omega (arith, l .count, l .room)
+table-written : (t b b′ : List ℕ) (n k p : ℕ) → Sized t → Laid b 0 (fileOf t) n b′ → writeRefusals t (length b) .Fault k p → ⊥
+table-written t b b′ n k p z l f = write-one t (length b) .none (z, omega (arith, l .count, l .room)) f
 
 pub write-plan-one-answer : WritePlanOneAnswer
 write-plan-one-answer t b b′ b″ (written.Bytes n) (written.Bytes m) (z, l) (y, k) = let e = laid-once l k in let e0 = e .0 in (cc, e .1)
-write-plan-one-answer t b b′ b″ (written.Bytes n) (written.Refused k p) (z, l) (u, e, g) = absurd (table-written t b b′ n k z l u)
-write-plan-one-answer t b b′ b″ (written.Refused k p) (written.Bytes n) (u, e, g) (z, l) = absurd (table-written t b b″ n k z l u)
-write-plan-one-answer t b b′ b″ (written.Refused k p) (written.Refused l q) (u, e, g) (v, f, h) =
-    let i = unwritten-one t _ k l u v in
+write-plan-one-answer t b b′ b″ (written.Bytes n) (written.Refused k p) (z, l) (u, g) = absurd (table-written t b b′ n k p z l u)
+write-plan-one-answer t b b′ b″ (written.Refused k p) (written.Bytes n) (u, g) (z, l) = absurd (table-written t b b″ n k p z l u)
+write-plan-one-answer t b b′ b″ (written.Refused k p) (written.Refused l q) (u, g) (v, h) =
+    let e = write-one t _ .one u v in
+    let e0 = e .0 in
+    let e1 = e .1 in
     (cc, g ∙ sym h)
 
 -- No number of a whole cursor is due, and behind its file nothing is left over.

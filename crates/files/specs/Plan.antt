@@ -1,14 +1,15 @@
 -- Plan files: what reading and writing one promise, by the cases of the answers (document 01, "Files" and "Numbered refusals").
-use Prim.Native.Nat.{ℕ, _<_}
+use Prim.Native.Nat.{ℕ, _≤_, _<_}
 use mathlib.Core.Path.{_≡_}
 use mathlib.Core.List.{List}
 use mathlib.Core.Logic.{_⊎_}
 use lib.ListN.{length}
+use Rattle.basics.specs.Refusals.{Refusals, unless, _then_}
 use Rattle.numbers.specs.Number.{noRoom}
 use Rattle.numbers.specs.Series.{fileOf, Row, Laid}
 use Rattle.table.specs.Layout.{current, headWords, wordsIn, LimitsIn, SizedIn, Sized}
 use Rattle.table.specs.declared.Edition.{Edition}
-use Rattle.table.specs.Size.{aboveLimit, SizeFault}
+use Rattle.table.specs.Size.{aboveLimit, sizeRefusals}
 use Rattle.files.specs.Reading.{leftOver, IsFile, Cut, Over}
 use Rattle.numbers.specs.declared.Written.{Written}
 use Rattle.numbers.specs.declared.Written.the-variants as written
@@ -64,11 +65,13 @@ abbrev pub ReadsPlan : List ℕ → List ℕ → PlanRead → List ℕ → Type 
 ReadsPlan s b r b′ = ReadsPlanIn current asItStands s b r b′
 
 -- Why a table is not written: 1, 2, 3, then 15 by the exact size.
-abbrev pub PlanUnwritten : List ℕ → ℕ → ℕ → Type 0
-PlanUnwritten t room k = SizeFault t k ⊎ ((k ≡ noRoom) × Sized t × (room < length (fileOf t)))
+abbrev pub writeRefusals : List ℕ → ℕ → Refusals
+writeRefusals t room =
+    sizeRefusals t
+    then unless noRoom (length (fileOf t) ≤ room)
 
 -- Writing the table t to the bytes b, which makes them b′: its file lies in the first bytes, every other is what it was, and the answer is
--- how many; or a refusal at 0, and nothing changes.
+-- how many; or a refusal, and nothing changes.
 abbrev pub WritesPlan : List ℕ → List ℕ → Written → List ℕ → Type 0
 WritesPlan t b (written.Bytes n) b′ = Sized t × Laid b 0 (fileOf t) n b′
-WritesPlan t b (written.Refused k p) b′ = PlanUnwritten t (length b) k × (p ≡ 0) × (b′ ≡ b)
+WritesPlan t b (written.Refused k p) b′ = writeRefusals t (length b) .Fault k p × (b′ ≡ b)
