@@ -6,10 +6,11 @@ use mathlib.Core.Logic.{⊎-elim}
 use native.Mathlib.Nat.{eq-or-lt-of-le}
 use native.Mathlib.Omega.{arith}
 use Rattle.basics.proofs.Splits.{lt-or-ge}
-use Rattle.rules.specs.Places.{ownPlaces, PlaceHolds}
+use Rattle.rules.specs.Places.{ownPlaces, overlapPlace, PlaceHolds}
+use Rattle.rules.specs.declared.Asked.the-variants as asked
 use Rattle.rules.specs.declared.Rule.{Rule}
 use Rattle.rules.specs.declared.Rule.the-variants as rule
-use Rattle.rules.proofs.Placing.{overlap-place, place-overlap, overlap-rule}
+use Rattle.rules.proofs.Placing.{place-holds, asked-holds, place-rule}
 use Rattle.places.specs.Told.{LegHolds, FirstBroken, Clear, FirstMet}
 
 pub holds-none : (t : List ℕ) (a p : ℕ) → LegHolds t a p p
@@ -28,18 +29,18 @@ own-and-overlaps t a p n m limit d e own clear s l h =
     ⊎-elim
     (λ (k : s < ownPlaces). own s l k)
     (λ (k : ownPlaces ≤ s).
-    let f : ownPlaces + (s - ownPlaces) ≡ s = omega arith in
-    subst (λ (x : ℕ). PlaceHolds t a x) f (overlap-place t a (s - ownPlaces) (clear (s - ownPlaces) (omega arith) (omega arith))))
+    let f : overlapPlace (s - ownPlaces) ≡ s = omega arith in
+    subst (λ (x : ℕ). PlaceHolds t a x) f (place-holds t a (asked.Overlap (s - ownPlaces)) (clear (s - ownPlaces) (omega arith) (omega arith))))
     (lt-or-ge s ownPlaces)
 
 pub met-is-broken : (t : List ℕ) (a p n m limit b : ℕ) → n ≡ p - ownPlaces → ownPlaces + m ≡ limit → LegHolds t a p ownPlaces → FirstMet t a n m b
-    → FirstBroken t a p limit (ownPlaces + b) rule.Overlap
+    → FirstBroken t a p limit (overlapPlace b) rule.Overlap
 met-is-broken t a p n m limit b d e own met = record {
   from = omega (arith, met .from);
   below = omega (arith, met .below);
-  before = own-and-overlaps t a p n b (ownPlaces + b) d refl own (met .before);
-  broken = λ h. met .meets (place-overlap t a b h);
-  rule = overlap-rule b;
+  before = own-and-overlaps t a p n b (overlapPlace b) d (omega arith) own (met .before);
+  broken = λ h. met .meets (asked-holds t a (asked.Overlap b) h);
+  rule = place-rule (asked.Overlap b);
 }
 
 -- Among more places the first broken one is the same.

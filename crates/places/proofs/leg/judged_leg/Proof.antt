@@ -57,8 +57,8 @@ overlaps-told-requires c κs =
 enum-known-met : tie.Need-enum-known-met
 enum-known-met c = search needs
 
-add-t18 : tie.Need-add-t18
-add-t18 c =
+overlap-place-requires : tie.Need-overlap-place-requires
+overlap-place-requires c κs =
     let m = subst (ToldOfMeeting _ _ _ _) (c .before .met .given .1) (c .before .before .before .overlaps-told .ensures) in
     omega (arith, m .below, c .before .before .before .before .before .before .before .before .before .before .before .before .before .before .pre .1 .1 .1, c .before .before .before .before .before .before .before .before .before .before .before .before .before .before .pre .0 .leg, c .before .before .before .before .before .before .before .before .before .before .before .before .before .before .pre .0 .table .sized .limits .legs)
 
@@ -66,7 +66,7 @@ enum-told-2 : tie.Need-enum-told-2
 enum-told-2 c = search needs
 
 returns-3 : tie.Need-returns-3
-returns-3 c = met-is-broken _ _ _ _ _ _ _ (c .before .before .before .before .how-far-past .ensures) (whole (c .before .before .before .before .before)) (own (c .before .before .before .before .before)) (subst (ToldOfMeeting _ _ _ _) (c .before .met .given .1) (c .before .before .before .overlaps-told .ensures))
+returns-3 c = rw (c .overlap-place .ensures) (met-is-broken _ _ _ _ _ _ _ (c .before .before .before .before .before .how-far-past .ensures) (whole (c .before .before .before .before .before .before)) (own (c .before .before .before .before .before .before)) (subst (ToldOfMeeting _ _ _ _) (c .before .before .met .given .1) (c .before .before .before .before .overlaps-told .ensures)))
 
 returns-4 : tie.Need-returns-4
 returns-4 c = own-and-overlaps _ _ _ _ _ _ (c .before .before .before .how-far-past .ensures) (whole (c .before .before .before .before)) (own (c .before .before .before .before)) (subst (ToldOfMeeting _ _ _ _) (c .enum-told2 .given .1) (c .before .before .overlaps-told .ensures))
@@ -86,7 +86,7 @@ judged-leg-spec =
     sub-overlaps-told
     overlaps-told-requires
     enum-known-met
-    add-t18
+    overlap-place-requires
     enum-told-2
     returns-3
     returns-4)
