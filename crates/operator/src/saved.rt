@@ -1,5 +1,4 @@
 // The saved cursor, and what was last seen of its plan beside it.
-use crate::answers;
 use crate::ours;
 use basics::Holds;
 use durable::FileRead;
@@ -7,6 +6,8 @@ use files::Cursor;
 use files::CursorRead;
 use files::CursorWritten;
 use numbers::Written;
+use show::answers;
+use show::answers::Part;
 
 // One byte more than the largest file, so that a byte left over is seen.
 const CURSOR_ROOM: usize = files::MAX_CURSOR_BYTES + 1;
@@ -48,7 +49,7 @@ pub(crate) fn cursor(path: &[u8]) -> Saved {
     match at {
         Saved::At(c) => Saved::At(c),
         Saved::Refused(number, position) => {
-            answers::unread(number, position, b"in the cursor\n");
+            answers::unread(number, position, Part::Cursor);
             ours::no_cursor(path);
             Saved::Failed
         }
