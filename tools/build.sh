@@ -139,9 +139,10 @@ Libs: -L\${libdir} -lconepalhui
 END
 }
 
-# Writes standard input to a file of the folder $to.
+# Writes standard input to a file of the folder $to, which it replaces whole.
 put() { # FILE [MODE]
-    mkdir -p "$to/${1%/*}" && rm -f "$to/$1" && cat >"$to/$1" && chmod "${2-644}" "$to/$1" || stop "cannot write $to/$1"
+    local file=$to/$1
+    mkdir -p "${file%/*}" && cat >"$file.new" && chmod "${2-644}" "$file.new" && mv -f "$file.new" "$file" || stop "cannot write $file"
 }
 
 do_install() {

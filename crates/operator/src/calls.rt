@@ -1,15 +1,15 @@
 // Start, slice and move on files. Everything is written beside first, so that a full disk is met before any file is replaced.
 use crate::Order;
-use crate::ours;
-use crate::ours::Standing;
-use crate::saved;
-use crate::saved::Saved;
 use basics::Holds;
 use checker::Grant;
 use checker::SliceAnswer;
 use durable::FileRead;
 use files::Cursor;
 use files::PlanRead;
+use kept::ours;
+use kept::ours::Standing;
+use kept::saved;
+use kept::saved::Saved;
 use numbers::Written;
 use show::answers;
 use show::answers::Part;

@@ -4,9 +4,7 @@
 use decimal::Decimal;
 
 mod calls;
-mod ours;
 mod plans;
-mod saved;
 
 // What is asked for. A start says whether a check that has begun may be dropped.
 pub(crate) enum Order {

@@ -6,7 +6,7 @@ use durable::FileRead;
 use files::Cursor;
 
 // What stands where a start makes its files: nothing that would be lost, the cursor of a check that has begun, or a file that is not ours.
-pub(crate) enum Standing {
+pub enum Standing {
     Free,
     Begun(Cursor),
     NotOurs,
@@ -112,8 +112,8 @@ fn without_cursor(path: &[u8]) -> Standing {
     }
 }
 
-// What stands where a start makes its files.
-pub(crate) fn judged(path: &[u8]) -> Standing {
+// Internal: what stands where a start makes its files. Of a file that is not ours, that is said.
+pub fn judged(path: &[u8]) -> Standing {
     let found = saved::found(path);
     match found {
         Saved::Missing => without_cursor(path),

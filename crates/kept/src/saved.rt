@@ -15,7 +15,7 @@ const CURSOR_ROOM: usize = files::MAX_CURSOR_BYTES + 1;
 pub(crate) const SEEN_ROOM: usize = seen::MAX_SEEN_BYTES + 1;
 
 // A cursor file: its cursor, a refusal's number and position, that there is none, or that it cannot be read.
-pub(crate) enum Saved {
+pub enum Saved {
     At(Cursor),
     Refused(u32, usize),
     Missing,
@@ -43,8 +43,8 @@ pub(crate) fn found(path: &[u8]) -> Saved {
     }
 }
 
-// The cursor to go on with. Where it is missing or refused, that is said or is the answer, which is written.
-pub(crate) fn cursor(path: &[u8]) -> Saved {
+// Internal: the cursor to go on with. Where it is missing or refused, that is said or is the answer, which is written.
+pub fn cursor(path: &[u8]) -> Saved {
     let at = found(path);
     match at {
         Saved::At(c) => Saved::At(c),
@@ -84,7 +84,8 @@ pub(crate) fn seen_file(path: &[u8], bytes: &mut [u8]) -> FileRead {
     durable::file(&name[..n], bytes)
 }
 
-pub(crate) fn is_known(path: &[u8], plan: &[u8], revision: u32) -> bool {
+// Internal: whether the plan is one that was last seen with the cursor. Where it is not, that is the answer, and it is written.
+pub fn is_known(path: &[u8], plan: &[u8], revision: u32) -> bool {
     let mut bytes = [0u8; SEEN_ROOM];
     let read = seen_file(path, &mut bytes);
     match read {
@@ -97,8 +98,8 @@ pub(crate) fn is_known(path: &[u8], plan: &[u8], revision: u32) -> bool {
     }
 }
 
-// Writes the cursor beside its file.
-pub(crate) fn cursor_beside(path: &[u8], c: Cursor) -> bool {
+// Internal: writes the cursor beside its file.
+pub fn cursor_beside(path: &[u8], c: Cursor) -> bool {
     let mut bytes = [0u8; files::MAX_CURSOR_BYTES];
     let written = files::write_cursor(c, &mut bytes);
     match written {
@@ -119,8 +120,8 @@ fn sized_beside(name: &[u8], size: &[u8], n: usize, plan: &[u8], other: &[u8]) -
     durable::write_beside(name, &size[0..n], plan, other)
 }
 
-// Writes what is seen beside its file: a plan, and the other of a move or nothing.
-pub(crate) fn seen_beside(path: &[u8], plan: &[u8], other: &[u8]) -> bool {
+// Internal: writes what is seen beside its file: a plan, and the other of a move or nothing.
+pub fn seen_beside(path: &[u8], plan: &[u8], other: &[u8]) -> bool {
     let mut name = io::buffer();
     let n = durable::ended(path, b".seen", &mut name);
     let mut size = [0u8; seen::MAX_SIZE_BYTES];
@@ -134,7 +135,8 @@ pub(crate) fn seen_beside(path: &[u8], plan: &[u8], other: &[u8]) -> bool {
     }
 }
 
-pub(crate) fn put_seen_in_place(path: &[u8]) -> bool {
+// Internal: gives what was written beside the copy its name.
+pub fn put_seen_in_place(path: &[u8]) -> bool {
     let mut name = io::buffer();
     let n = durable::ended(path, b".seen", &mut name);
     durable::put_in_place(&name[..n])
