@@ -45,7 +45,7 @@ fn violated(c: Cursor, n: u32, r: Rule) {
     cursor(c);
     steps(n);
     show::text(b" rule ");
-    told::rule(r);
+    show::told::rule(r);
     show::end_line();
 }
 
