@@ -1,5 +1,6 @@
-# Builds the comparison and the benchmark in .built/compare. The command conepalhui reads this file and gives it its own
-# functions. Both need the archive of the calls for C, which is for x86-64: so is what is linked with it.
+# Builds the driver of the comparison, and the benchmark, in .built/compare. The command conepalhui reads this file and gives it
+# its own functions. Both need the archive of the calls for C, which is for x86-64: so is what is linked with it. The judge, which
+# the comparison asks, is for this processor; compare/judge builds it.
 
 rust_target=x86_64-unknown-linux-gnu
 
@@ -45,7 +46,6 @@ build_comparison() {
     find_c
     make_if_old driver .built/libconepalhui.a include/conepalhui.h compare/driver.c -- \
         "$c_compiler" -O2 -static -Iinclude compare/driver.c .built/libconepalhui.a -o
-    make_if_old compare compare/*.rs -- rustc --edition 2021 -O compare/compare.rs -o
 }
 
 # Prints a compiler of Rust that has the library of x86-64.

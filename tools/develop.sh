@@ -152,7 +152,7 @@ do_compare() {
     numbers_from 'calls seed' "$@"
     . compare/build.sh
     build_comparison
-    .built/compare/compare "$seed" "$calls" "${emulator[@]}" .built/compare/driver
+    compare/judge compare "$seed" "$calls" "${emulator[@]}" .built/compare/driver
 }
 
 about_bench() {
