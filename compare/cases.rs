@@ -5,7 +5,7 @@ use crate::chance::Chance;
 use crate::check::{begin, next, places_before, places_of, Checker, Plain};
 use crate::damage::{any_bytes, bend_route, damage_bytes, damage_table, double_links, shift_legs};
 use crate::drafts::{beyond, large, medium, one_link, plan_a, row, small, to_an_edge};
-use crate::format::{cursor_bytes, encoded, plan_bytes, table_words, Cursor, Plan};
+use crate::format::{cursor_bytes, encoded, is_whole, plan_bytes, Cursor, Plan};
 use crate::paper::{CURSOR_BYTES, GRANTED, MORE, NOTHING_VIOLATED, REFUSED, VIOLATED};
 use std::sync::Arc;
 
@@ -342,7 +342,7 @@ impl Batch {
             let mut words = bent.words();
             for _ in 0..self.chance.of(&[0, 1, 1, 1, 2, 3]) {
                 // A header that no longer fits the rest is damaged enough.
-                if words.len() as u64 == table_words(words.first_chunk().expect("a table has a header")) {
+                if is_whole(&words) {
                     damage_table(&mut self.chance, &mut words);
                 }
             }

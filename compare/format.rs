@@ -141,6 +141,16 @@ pub fn index_of(plan: &Plan, kind: &str, record: usize, word: &str) -> Option<us
     None
 }
 
+/// The first words of a table, where it has so many.
+fn header_of(words: &[u32]) -> Option<[u32; HEADER_WORDS]> {
+    words.get(..HEADER_WORDS)?.try_into().ok()
+}
+
+/// Whether a table is as long as its header says.
+pub fn is_whole(words: &[u32]) -> bool {
+    header_of(words).map_or(false, |header| words.len() as u64 == table_words(&header))
+}
+
 /// How many words the table with this header has.
 pub fn table_words(header: &[u32; HEADER_WORDS]) -> u64 {
     let [_, links, streams, legs, _] = header.map(u64::from);
@@ -244,8 +254,8 @@ pub fn read_cursor<C: Checker>(c: &C, bytes: &[u8]) -> Outcome<Cursor> {
 
 /// The plan of a table: refusals 1, 2 and 3.
 pub fn table<C: Checker>(c: &C, words: &[u32]) -> Outcome<Plan> {
-    let header: [u32; HEADER_WORDS] = match words.first_chunk() {
-        Some(header) => *header,
+    let header = match header_of(words) {
+        Some(header) => header,
         None => return refused(TOO_FEW_WORDS, 0),
     };
     in_limits(c, &header)?;

@@ -4,7 +4,7 @@ use crate::chance::Chance;
 use crate::check::{Checker, Plain};
 use crate::damage::{any_bytes, bend_route, damage_bytes, damage_table, double_links, each_edge, shift_legs};
 use crate::drafts::{accepted, alike, full_line, large, medium, one_link, plan_a, row, small, to_an_edge};
-use crate::format::{encoded, plan_bytes, table_words, Plan};
+use crate::format::{encoded, is_whole, plan_bytes, table_words, Plan};
 use crate::paper::{HEADER_WORDS, LIMITS, MORE, NUMBER_BYTES};
 use crate::told::{printed, Verb};
 use crate::wrong::{self, given};
@@ -20,6 +20,7 @@ pub struct Inputs {
 
 /// Gives so many files of each family at the most, evenly, and those that tell wrong checkers.
 pub fn inputs(verb: Verb, seed: u64, most: usize) -> Inputs {
+    let most = most.max(1);
     let families = families(verb, &mut Chance::new(seed, verb as u64));
     let mut wrong = match verb {
         Verb::Words => wrong::readers(),
@@ -28,7 +29,7 @@ pub fn inputs(verb: Verb, seed: u64, most: usize) -> Inputs {
     };
     let mut files = Vec::new();
     for family in families {
-        let step = family.len().div_ceil(most.max(1)).max(1);
+        let step = ((family.len() + most - 1) / most).max(1);
         for (number, bytes) in family.into_iter().enumerate() {
             let before = wrong.len();
             let right = printed(&Plain, verb, Plain.read_plan(&bytes));
@@ -223,7 +224,7 @@ fn damaged(chance: &mut Chance, kind: impl Fn(&mut Chance) -> Plan, most: usize)
     let mut words = plan.words();
     for _ in 0..chance.below(most + 1) {
         // A header that no longer fits the rest is damaged enough.
-        if words.len() as u64 == table_words(words.first_chunk().expect("a table has a header")) {
+        if is_whole(&words) {
             damage_table(chance, &mut words);
         }
     }

@@ -25,10 +25,12 @@ def ask(*question):
             atexit.register(process.communicate)
         process.stdin.write(" ".join(map(str, question)) + "\n")
         process.stdin.flush()
-        lines = list(iter(process.stdout.readline, "\n"))
-    if not lines or lines[0].startswith("bad question"):
-        raise AssertionError(f"{' '.join(map(str, question))[:200]}: {lines}")
-    return [line.rstrip("\n") for line in lines]
+        lines = [process.stdout.readline()]
+        while lines[-1] not in ("", "\n"):
+            lines.append(process.stdout.readline())
+    if lines[-1] == "" or len(lines) == 1 or lines[0].startswith("bad question"):
+        raise AssertionError(f"the judge has no answer to {' '.join(map(str, question))[:200]}: {lines}")
+    return [line.rstrip("\n") for line in lines[:-1]]
 
 
 # ---- How questions and answers are told

@@ -1,10 +1,10 @@
 // The calls on a table, each with its answer printed.
 use crate::text;
+use basics::Checked;
 use checker::Grant;
 use checker::SliceAnswer;
 use files::Cursor;
 use rules::Rule;
-use shape::Shape;
 use table::Move;
 
 fn number(n: u32) {
@@ -37,7 +37,7 @@ fn violated(c: Cursor, n: u32, r: Rule) {
     cursor(c);
     steps(n);
     show::text(b" rule ");
-    told::rule(r);
+    show::told::rule(r);
     show::end_line();
 }
 
@@ -104,10 +104,10 @@ pub(crate) fn move_leg(t: &mut [u32], c: Cursor, leg: u32, offset: u32) -> Curso
 fn shape_line(t: &[u32]) {
     let shape = shape::judged_shape(t);
     match shape {
-        Shape::Right => {
+        Checked::Clear => {
             show::text(b"well-formed\n");
         }
-        Shape::Wrong(number, at) => {
+        Checked::Refused(number, at) => {
             show::refused(number, at);
         }
     }

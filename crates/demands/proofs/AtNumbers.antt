@@ -11,7 +11,9 @@ use Rattle.shape.specs.Shape.{WellFormedTable}
 use Rattle.shape.proofs.StreamLaws.{legs-none}
 use Rattle.files.specs.declared.Cursor.{Cursor}
 use Rattle.rules.specs.declared.Rule.the-variants as rule
-use Rattle.rules.proofs.Placing.{hop-rule, overlap-rule}
+use Rattle.rules.specs.Places.{placesOf}
+use Rattle.rules.specs.declared.Asked.the-variants as asked
+use Rattle.rules.proofs.Placing.{place-rule}
 use Rattle.rules.proofs.CasePlaces.{meets-at-2-3, late-at-1-1}
 use Rattle.rules.proofs.AtNumbers.{starred-cases}
 use Rattle.places.specs.Order.{rank, PlaceOrEnd}
@@ -36,7 +38,7 @@ begins o2 w = (
 )
 
 -- Slices of the accepted table that pause and that end, by the places between two cursors.
-pauses : (a p b q n : ℕ) → a < 3 → p < 3 + a → b < 3 → q < 3 + b → rank a p + n ≡ rank b q → rank b q ≤ 12 → Slices good (at 0 a p) n (Paused (at 0 b q) n)
+pauses : (a p b q n : ℕ) → a < 3 → p < placesOf a → b < 3 → q < placesOf b → rank a p + n ≡ rank b q → rank b q ≤ 12 → Slices good (at 0 a p) n (Paused (at 0 b q) n)
 pauses a p b q n l k m h e le = pause 0 0 1176 576 12 (accepted 0) a p b q n (here 0 0 1176 576 a p l k) m h e le
 
 ends : (a p n : ℕ) → PlaceOrEnd good a p → rank a p + n ≡ rank 3 0 → Slices good (at 0 a p) n (NothingViolated (at 0 3 0) n)
@@ -60,7 +62,7 @@ move-ahead = (
   granted 0 0 1176 576 1 2 (moveTo 2 700) 1 2 (omega arith) (at-1-2 576) (omega arith) (inl (refl, refl)) (omega arith) (omega (arith, ranks .1, ranks .2)),
 )
 
-goes-on-ahead : (p b q : ℕ) → p < 4 → b < 3 → q < 3 + b → rank 1 p + 1 ≡ rank b q → rank b q ≤ 10 → Slices (moved good (moveTo 2 700)) (at 1 1 p) 1 (Paused (at 1 b q) 1)
+goes-on-ahead : (p b q : ℕ) → p < 4 → b < 3 → q < placesOf b → rank 1 p + 1 ≡ rank b q → rank b q ≤ 10 → Slices (moved good (moveTo 2 700)) (at 1 1 p) 1 (Paused (at 1 b q) 1)
 goes-on-ahead p b q k l h e le =
     on (at 1 1 p) 1 (Paused (at 1 b q) 1) (moved-2 (offsetsA 0 1176 576) 700) (pause 1 0 1176 700 10 (before-2-3 1 700 (omega arith)) 1 p b q 1 (here 1 0 1176 700 1 p (omega arith) k) l h e le)
 
@@ -158,7 +160,7 @@ run-11 : Run case11 planA
 run-11 = (
   paused-twice,
   inl refl,
-  violate 0 0 1176 0 10 (before-2-3 0 0 (omega arith)) 2 3 2 3 0 5 rule.Overlap (here 0 0 1176 0 2 3 (omega arith) (omega arith)) (omega arith) (omega arith) (meets-at-2-3 0) (overlap-rule 0) (omega arith) (omega (arith, ranks .2)) (omega arith),
+  violate 0 0 1176 0 10 (before-2-3 0 0 (omega arith)) 2 3 2 3 0 5 rule.Overlap (here 0 0 1176 0 2 3 (omega arith) (omega arith)) (omega arith) (omega arith) (meets-at-2-3 0) (place-rule (asked.Overlap 0)) (omega arith) (omega (arith, ranks .2)) (omega arith),
 )
 
 run-12 : Run case12 (moved planA (moveTo 2 576))
@@ -185,7 +187,7 @@ run-13 = (
   ),
   inl refl,
   on (at 1 0 0) 5 (Violated (at 1 1 1) 5 rule.Hop) (moved-0 (offsetsA 0 1176 0) 600)
-      (violate 1 600 1176 0 4 (before-1-1 1) 0 0 1 1 4 5 rule.Hop (here 1 600 1176 0 0 0 (omega arith) (omega arith)) (omega arith) (omega arith) (late-at-1-1 1) hop-rule
+      (violate 1 600 1176 0 4 (before-1-1 1) 0 0 1 1 4 5 rule.Hop (here 1 600 1176 0 0 0 (omega arith) (omega arith)) (omega arith) (omega arith) (late-at-1-1 1) (place-rule asked.Hop)
       (omega (arith, ranks .0, ranks .1)) (omega (arith, ranks .1)) (omega arith)),
 )
 

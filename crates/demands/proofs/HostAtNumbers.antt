@@ -21,7 +21,8 @@ use Rattle.files.specs.declared.CursorRead.the-variants as read
 use Rattle.files.proofs.AtNumbers.{plan-a-file}
 use Rattle.rules.specs.declared.Rule.{Rule}
 use Rattle.rules.specs.declared.Rule.the-variants as rule
-use Rattle.rules.proofs.Placing.{overlap-rule}
+use Rattle.rules.specs.declared.Asked.the-variants as asked
+use Rattle.rules.proofs.Placing.{place-rule}
 use Rattle.rules.proofs.CasePlaces.{meets-at-2-3}
 use Rattle.checker.specs.Slices.{Slices}
 use Rattle.checker.specs.declared.Grant.the-variants.{Granted}
@@ -126,7 +127,7 @@ violates : SliceMade planAFile (saved 0 2 3) 5 (answered 5 1) (left 0 2 3)
 violates =
     slice-made planAFile planA (saved 0 2 3) (at 0 2 3) 5 (Violated (at 0 2 3) 1 rule.Overlap) (left 0 2 3) file-a (at-2-3 .reads)
     (violate 0 0 1176 0 10 (before-2-3 0 0 (omega arith)) 2 3 2 3 0 5 rule.Overlap (here 0 0 1176 0 2 3 (omega arith) (omega arith)) (omega arith) (omega arith)
-    (meets-at-2-3 0) (overlap-rule 0) (omega arith) (omega (arith, ranks .2)) (omega arith))
+    (meets-at-2-3 0) (place-rule (asked.Overlap 0)) (omega arith) (omega (arith, ranks .2)) (omega arith))
     (omega arith) (at-2-3 .written)
 
 laid : movedFile ++ zeros 4 ≡ overlaid (zeros 46) 0 movedFile

@@ -1,5 +1,4 @@
 // What a start may replace: a saved cursor and a copy that are ours. Any other file of such a name is left as it is, and standard error says so.
-use crate::answers;
 use crate::saved;
 use crate::saved::Saved;
 use basics::Holds;
@@ -7,7 +6,7 @@ use durable::FileRead;
 use files::Cursor;
 
 // What stands where a start makes its files: nothing that would be lost, the cursor of a check that has begun, or a file that is not ours.
-pub(crate) enum Standing {
+pub enum Standing {
     Free,
     Begun(Cursor),
     NotOurs,
@@ -21,29 +20,29 @@ enum Beside {
 }
 
 fn left_as_it_is() {
-    answers::say(
+    show::complaint(
         b". It was left as it is: start with another name for the cursor, or remove this file by hand\n",
     );
 }
 
 pub(crate) fn no_cursor(path: &[u8]) {
-    answers::say(path);
-    answers::say(b" is no saved cursor");
+    show::complaint(path);
+    show::complaint(b" is no saved cursor");
     left_as_it_is();
 }
 
 fn no_copy(path: &[u8]) {
-    answers::say(path);
-    answers::say(b".seen is no copy of a plan as it is kept beside a cursor");
+    show::complaint(path);
+    show::complaint(b".seen is no copy of a plan as it is kept beside a cursor");
     left_as_it_is();
 }
 
 // Three bytes of any text have the form of a saved cursor, so one is ours only where its copy stands beside it.
 fn perhaps_no_cursor(path: &[u8]) {
-    answers::say(path);
-    answers::say(b" is no saved cursor of these commands: there is no ");
-    answers::say(path);
-    answers::say(b".seen");
+    show::complaint(path);
+    show::complaint(b" is no saved cursor of these commands: there is no ");
+    show::complaint(path);
+    show::complaint(b".seen");
     left_as_it_is();
 }
 
@@ -113,8 +112,8 @@ fn without_cursor(path: &[u8]) -> Standing {
     }
 }
 
-// What stands where a start makes its files.
-pub(crate) fn judged(path: &[u8]) -> Standing {
+// Internal: what stands where a start makes its files. Of a file that is not ours, that is said.
+pub fn judged(path: &[u8]) -> Standing {
     let found = saved::found(path);
     match found {
         Saved::Missing => without_cursor(path),

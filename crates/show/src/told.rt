@@ -1,4 +1,6 @@
-// How a rule and a violated place are printed. As the crate show, this promises only to be safe and to end.
+// How a rule and a place are printed.
+use crate::number;
+use crate::text;
 use files::Cursor;
 use rules::Rule;
 
@@ -6,32 +8,32 @@ use rules::Rule;
 pub fn rule(rule: Rule) {
     match rule {
         Rule::Window => {
-            show::text(b"window");
+            text(b"window");
         }
         Rule::Hop => {
-            show::text(b"hop");
+            text(b"hop");
         }
         Rule::Deadline => {
-            show::text(b"deadline");
+            text(b"deadline");
         }
         Rule::Overlap => {
-            show::text(b"overlap");
+            text(b"overlap");
         }
     }
 }
 
 // Internal: prints a word, and the leg and the place of a cursor.
 pub fn place(word: &[u8], at: Cursor) {
-    show::text(word);
-    show::text(b" ");
-    show::number(at.leg as u64);
-    show::text(b" ");
-    show::number(at.place as u64);
+    text(word);
+    text(b" ");
+    number(at.leg as u64);
+    text(b" ");
+    number(at.place as u64);
 }
 
 // Internal: prints a violated place and its rule, and ends no line.
 pub fn violated(at: Cursor, broken: Rule) {
     place(b"violated", at);
-    show::text(b" ");
+    text(b" ");
     rule(broken);
 }

@@ -1,5 +1,4 @@
 // The saved cursor, and what was last seen of its plan beside it.
-use crate::answers;
 use crate::ours;
 use basics::Holds;
 use durable::FileRead;
@@ -7,6 +6,8 @@ use files::Cursor;
 use files::CursorRead;
 use files::CursorWritten;
 use numbers::Written;
+use show::answers;
+use show::answers::Part;
 
 // One byte more than the largest file, so that a byte left over is seen.
 const CURSOR_ROOM: usize = files::MAX_CURSOR_BYTES + 1;
@@ -14,7 +15,7 @@ const CURSOR_ROOM: usize = files::MAX_CURSOR_BYTES + 1;
 pub(crate) const SEEN_ROOM: usize = seen::MAX_SEEN_BYTES + 1;
 
 // A cursor file: its cursor, a refusal's number and position, that there is none, or that it cannot be read.
-pub(crate) enum Saved {
+pub enum Saved {
     At(Cursor),
     Refused(u32, usize),
     Missing,
@@ -42,13 +43,13 @@ pub(crate) fn found(path: &[u8]) -> Saved {
     }
 }
 
-// The cursor to go on with. Where it is missing or refused, that is said or is the answer, which is written.
-pub(crate) fn cursor(path: &[u8]) -> Saved {
+// Internal: the cursor to go on with. Where it is missing or refused, that is said or is the answer, which is written.
+pub fn cursor(path: &[u8]) -> Saved {
     let at = found(path);
     match at {
         Saved::At(c) => Saved::At(c),
         Saved::Refused(number, position) => {
-            answers::unread(number, position, b"in the cursor\n");
+            answers::unread(number, position, Part::Cursor);
             ours::no_cursor(path);
             Saved::Failed
         }
@@ -83,7 +84,8 @@ pub(crate) fn seen_file(path: &[u8], bytes: &mut [u8]) -> FileRead {
     durable::file(&name[..n], bytes)
 }
 
-pub(crate) fn is_known(path: &[u8], plan: &[u8], revision: u32) -> bool {
+// Internal: whether the plan is one that was last seen with the cursor. Where it is not, that is the answer, and it is written.
+pub fn is_known(path: &[u8], plan: &[u8], revision: u32) -> bool {
     let mut bytes = [0u8; SEEN_ROOM];
     let read = seen_file(path, &mut bytes);
     match read {
@@ -96,8 +98,8 @@ pub(crate) fn is_known(path: &[u8], plan: &[u8], revision: u32) -> bool {
     }
 }
 
-// Writes the cursor beside its file.
-pub(crate) fn cursor_beside(path: &[u8], c: Cursor) -> bool {
+// Internal: writes the cursor beside its file.
+pub fn cursor_beside(path: &[u8], c: Cursor) -> bool {
     let mut bytes = [0u8; files::MAX_CURSOR_BYTES];
     let written = files::write_cursor(c, &mut bytes);
     match written {
@@ -118,8 +120,8 @@ fn sized_beside(name: &[u8], size: &[u8], n: usize, plan: &[u8], other: &[u8]) -
     durable::write_beside(name, &size[0..n], plan, other)
 }
 
-// Writes what is seen beside its file: a plan, and the other of a move or nothing.
-pub(crate) fn seen_beside(path: &[u8], plan: &[u8], other: &[u8]) -> bool {
+// Internal: writes what is seen beside its file: a plan, and the other of a move or nothing.
+pub fn seen_beside(path: &[u8], plan: &[u8], other: &[u8]) -> bool {
     let mut name = io::buffer();
     let n = durable::ended(path, b".seen", &mut name);
     let mut size = [0u8; seen::MAX_SIZE_BYTES];
@@ -133,7 +135,8 @@ pub(crate) fn seen_beside(path: &[u8], plan: &[u8], other: &[u8]) -> bool {
     }
 }
 
-pub(crate) fn put_seen_in_place(path: &[u8]) -> bool {
+// Internal: gives what was written beside the copy its name.
+pub fn put_seen_in_place(path: &[u8]) -> bool {
     let mut name = io::buffer();
     let n = durable::ended(path, b".seen", &mut name);
     durable::put_in_place(&name[..n])
