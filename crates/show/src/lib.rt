@@ -121,12 +121,3 @@ pub fn rest_words(words: &[u32], n: usize) {
         text(b"none\n");
     }
 }
-
-// Internal: prints the first n bytes of a buffer on one line, and those after them on another.
-pub fn parted_bytes(bs: &[u8], n: usize) {
-    if n <= bs.len() {
-        bytes(&bs[0..n]);
-        text(b"rest: ");
-        bytes(&bs[n..]);
-    }
-}
