@@ -15,18 +15,7 @@ struct Size {
 
 /// Plan A of document 01.
 pub fn plan_a() -> Plan {
-    let link = |from, to| Link { from, to, ns_per_octet: 8, propagation: 500 };
-    let leg = |stream, link, offset| Leg { stream, link, offset };
-    Plan {
-        revision: 0,
-        precision: 100,
-        links: vec![link(1, 2), link(2, 3)],
-        streams: vec![
-            Stream { period: 100_000, deadline: 2_352, octets: 64, first_leg: 0, leg_count: 2 },
-            Stream { period: 150_000, deadline: 2_000, octets: 64, first_leg: 2, leg_count: 1 },
-        ],
-        legs: vec![leg(0, 0, 0), leg(0, 1, 1_176), leg(1, 0, 0)],
-    }
+    Plain.read_plan(include_bytes!("../plans/plan-a.plan")).expect("it is a plan file")
 }
 
 /// A plan of a few records.

@@ -15,11 +15,14 @@
 //!
 //! PLAN and CURSOR are bytes, x0AFF or @FILE, or words, w0,2,2. Each may be refused: refused NUMBER AT.
 //!
-//! Two commands are no questions:
+//! These commands are no questions:
 //!
 //!   judge inputs words|shape|check SEED MOST      plan files for a program, so many of each family, in lines
+//!   judge list                                    the list of cases on standard input, spelled out (list.rs)
+//!   judge answers                                 what the program of cases has to print for what list made
 //!   judge compare SEED CALLS DRIVER...            holds the calls for C against the checker; the driver is that of driver.c
 
+mod answers;
 mod calls;
 mod cases;
 mod chance;
@@ -30,6 +33,7 @@ mod drafts;
 mod format;
 mod inputs;
 mod layout;
+mod list;
 mod paper;
 mod rules;
 mod shape;
@@ -219,6 +223,15 @@ fn inputs(verb: Verb, seed: u64, most: usize) -> bool {
     inputs.at_large.is_empty()
 }
 
+fn input() -> Asked<String> {
+    std::io::read_to_string(std::io::stdin()).map_err(|fault| fault.to_string())
+}
+
+fn shown_all(told: String) -> bool {
+    print!("{}", told);
+    true
+}
+
 /// Does what is asked for, and says whether all is well.
 fn done(words: &[&str], rest: &[String]) -> Asked<bool> {
     let number = |text: &str| text.parse().map_err(|_| format!("'{}' is no number", text));
@@ -229,10 +242,9 @@ fn done(words: &[&str], rest: &[String]) -> Asked<bool> {
             let verb = Verb::named(verb).ok_or("no program of this name")?;
             Ok(inputs(verb, number(seed)?, number(most)? as usize))
         }
-        question => answer(question).map(|told| {
-            print!("{}", told);
-            true
-        }),
+        ["list"] => list::spelled(&input()?).map(shown_all),
+        ["answers"] => answers::answers(&input()?).map(shown_all),
+        question => answer(question).map(shown_all),
     }
 }
 

@@ -1,12 +1,21 @@
 // What the programs print to standard output. No contract can say what a call of the operating system writes, so these promise only to be
 // safe and to end; the programs' expected output tests the rest.
 ghost use Rattle.table.specs.Layout.{Sized};
+use basics::Checked;
+use libc::STDERR_FILENO;
 use libc::STDOUT_FILENO;
-use table::Size;
+
+pub mod answers;
+pub mod told;
 
 // Internal: prints text as it is.
 pub fn text(bytes: &[u8]) {
     io::write_all(STDOUT_FILENO, bytes);
+}
+
+// Internal: says something on standard error.
+pub fn complaint(bytes: &[u8]) {
+    io::write_all(STDERR_FILENO, bytes);
 }
 
 // Internal: prints a number in decimal.
@@ -88,11 +97,11 @@ fn records(t: &[u32])
 pub fn table(t: &[u32]) {
     let size = table::judged_size(t);
     match size {
-        Size::Right => {
+        Checked::Clear => {
             records(t);
         }
-        Size::Wrong(k) => {
-            refused(k, 0);
+        Checked::Refused(number, at) => {
+            refused(number, at);
         }
     }
 }
