@@ -44,7 +44,7 @@ use chance::Chance;
 use check::{begin, Checker, Plain};
 use format::{encoded, index_of, table, write_cursor, write_plan, Cursor, Outcome, Plan, HEADER};
 use paper::{CURSOR_WORDS, NOTHING_VIOLATED, PAUSED};
-use std::io::{BufRead, Write};
+use std::io::{BufRead, Read, Write};
 use told::{joined, printed, rule_named, Verb};
 
 /// What is wrong with a question.
@@ -224,7 +224,9 @@ fn inputs(verb: Verb, seed: u64, most: usize) -> bool {
 }
 
 fn input() -> Asked<String> {
-    std::io::read_to_string(std::io::stdin()).map_err(|fault| fault.to_string())
+    let mut text = String::new();
+    std::io::stdin().read_to_string(&mut text).map_err(|fault| fault.to_string())?;
+    Ok(text)
 }
 
 fn shown_all(told: String) -> bool {
