@@ -7,12 +7,13 @@ use mathlib.Core.Logic.{_⊎_, inl, inr}
 use native.Mathlib.Omega.{arith}
 use Rattle.numbers.specs.Number.{maxWord}
 use Rattle.table.specs.Records.{moved}
+use Rattle.table.specs.declared.Move.{Move}
 use Rattle.table.specs.PlanA.{planWith}
 use Rattle.table.proofs.MovedPlans.{revisedA}
 use Rattle.shape.specs.Shape.{WellFormedTable}
 use Rattle.shape.proofs.AtNumbers.{plan-a-in-range, plans-are-well-formed}
 use Rattle.files.specs.declared.Cursor.{Cursor}
-use Rattle.rules.specs.Places.{ruleAt, PlaceHolds}
+use Rattle.rules.specs.Places.{placesOf, ruleAt, PlaceHolds}
 use Rattle.rules.specs.declared.Rule.{Rule}
 use Rattle.rules.proofs.CasePlaces.{places-0, place-1-0, bounded-a, first-ten, all-twelve}
 use Rattle.places.specs.Order.{placesBelow, rank, PlaceOrEnd, HoldFrom}
@@ -45,16 +46,16 @@ module _ (revision o0 o1 o2 : ℕ) where
   shape = plans-are-well-formed _ (plan-a-in-range revision o0 o1 o2)
 
   -- A cursor of it, and a granted move.
-  pub here : (a p : ℕ) → a < 3 → p < 3 + a → PlaceOrEnd t a p
+  pub here : (a p : ℕ) → a < 3 → p < placesOf a → PlaceOrEnd t a p
   here a p l h = inl (record { leg = l; place = h })
 
   pub right : (a p : ℕ) → PlaceOrEnd t a p → CursorRight t (at revision a p)
   right a p s = record { shape = shape; revision = refl; stands = s }
 
-  pub granted : (a p leg offset b q : ℕ) → revision < maxWord → PlaceOrEnd t a p → leg < 3
-      → ((b ≡ a) × (q ≡ p)) ⊎ ((b ≡ leg) × (q ≡ 0)) → rank b q ≤ rank a p → rank b q ≤ rank leg 0
-      → Moves t (at revision a p) leg offset (Granted (at (revision + 1) b q)) (moved t leg offset)
-  granted a p leg offset b q rises s l one given to-leg = record {
+  pub granted : (a p : ℕ) (mv : Move) (b q : ℕ) → revision < maxWord → PlaceOrEnd t a p → mv .leg < 3
+      → ((b ≡ a) × (q ≡ p)) ⊎ ((b ≡ mv .leg) × (q ≡ 0)) → rank b q ≤ rank a p → rank b q ≤ rank (mv .leg) 0
+      → Moves t (at revision a p) mv (Granted (at (revision + 1) b q)) (moved t mv)
+  granted a p mv b q rises s l one given to-leg = record {
     cursor = right a p s;
     below = l;
     rises = rises;
@@ -79,14 +80,14 @@ module _ (revision o0 o1 o2 : ℕ) where
     went : (a p b q n : ℕ) → rank a p + n ≡ rank b q → rank b q ≤ m → Went t (at revision a p) (at revision b q) n
     went a p b q n e le = record { revision = refl; steps = e; held = λ c r i from below. held c r i (omega arith) (omega (arith, below, le)) }
 
-    pub pause : (a p b q n : ℕ) → PlaceOrEnd t a p → b < 3 → q < 3 + b → rank a p + n ≡ rank b q → rank b q ≤ m
+    pub pause : (a p b q n : ℕ) → PlaceOrEnd t a p → b < 3 → q < placesOf b → rank a p + n ≡ rank b q → rank b q ≤ m
         → Slices t (at revision a p) n (Paused (at revision b q) n)
     pause a p b q n s l h e le = (right a p s, record { went = went a p b q n e le; place = record { leg = l; place = h }; used = refl })
 
     pub end : (a p n : ℕ) → PlaceOrEnd t a p → rank a p + n ≡ rank 3 0 → rank 3 0 ≤ m → Slices t (at revision a p) n (NothingViolated (at revision 3 0) n)
     end a p n s e le = (right a p s, record { went = went a p 3 0 n e le; end = record { leg = refl; place = refl }; within = omega arith })
 
-    pub violate : (a p b q n budget : ℕ) (r : Rule) → PlaceOrEnd t a p → b < 3 → q < 3 + b → (PlaceHolds t b q → ⊥) → r ≡ ruleAt q
+    pub violate : (a p b q n budget : ℕ) (r : Rule) → PlaceOrEnd t a p → b < 3 → q < placesOf b → (PlaceHolds t b q → ⊥) → r ≡ ruleAt q
         → rank a p + n ≡ rank b q → rank b q ≤ m → n + 1 ≤ budget → Slices t (at revision a p) budget (Violated (at revision b q) (n + 1) r)
     violate a p b q n budget r s l h broken rule e le within = (
       right a p s,

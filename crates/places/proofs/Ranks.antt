@@ -8,8 +8,8 @@ use native.Mathlib.Numerals.{add-one}
 use native.Mathlib.Omega.{arith}
 use Rattle.basics.proofs.Splits.{lt-or-ge}
 use Rattle.table.specs.Layout.{maxLegs, legCount}
-use Rattle.rules.specs.Places.{placesOf, PlaceHolds}
-use Rattle.places.specs.Order.{placesBelow, rank, Earlier, IsPlace, IsEnd, PlaceOrEnd, placeCount, HoldFrom}
+use Rattle.rules.specs.Places.{ownPlaces, pairPlaces, placesOf, PlaceHolds}
+use Rattle.places.specs.Order.{placesBelow, pairsOf, rank, Earlier, IsPlace, IsEnd, PlaceOrEnd, placeCount, HoldFrom}
 use Rattle.places.specs.Told.{LegHolds}
 use Rattle.places.specs.Theorems.{CountOfPlaces, OrderIsByLeg, RankIsOne, EndIsLast, RanksCountPlaces}
 
@@ -34,40 +34,44 @@ below-mono a b h = let e : a + (b - a) ≡ b = omega arith in omega (arith, belo
 pub leg-below : (a b p : ℕ) → a < b → p < placesOf a → rank a p < placesBelow b
 leg-below a b p l h = omega (arith, below-more a, below-mono (a + 1) b (omega arith))
 
-twice : (g : ℕ) → 2 * placesBelow g ≡ g * (g + 5)
-unfolding placesBelow
+-- The pairs of so many legs, counted leg by leg: each makes one with every leg below it.
+pairsBelow : ℕ → ℕ
+pairsBelow zero = 0
+pairsBelow (suc g) = pairsBelow g + g
+
+twice : (g : ℕ) → 2 * pairsBelow g + g ≡ g * g
+unfolding pairsBelow
 twice zero = refl
 twice (suc g) =
     let e : suc g ≡ g + 1 = omega arith in
     let i = twice g in
-    let x : (g + 1) * (g + 1 + 5) ≡ g * (g + 1 + 5) + 1 * (g + 1 + 5) = add-mul g 1 (g + 1 + 5) in
-    let y : g * (g + 1 + 5) ≡ g * (g + 5) + g * 1 = ap (λ (z : ℕ). g * z) (omega arith) ∙ mul-add g (g + 5) 1 in
+    let x : (g + 1) * (g + 1) ≡ g * (g + 1) + 1 * (g + 1) = add-mul g 1 (g + 1) in
+    let y : g * (g + 1) ≡ g * g + g * 1 = mul-add g g 1 in
     let z = mul-one g in
     omega arith
 
--- The product that is halved.
-pub half : (g : ℕ) → g * (g + 5) / 2 ≡ placesBelow g
-half g = sym (ap (λ (x : ℕ). x / 2) (twice g)) ∙ mul-div-cancel-left (placesBelow g) (omega arith)
+pairs-are : (g : ℕ) → pairsOf g ≡ pairsBelow g
+pairs-are g =
+    let s : g * (g - 1) ≡ g * g - g * 1 = mul-sub g g 1 in
+    let o = mul-one g in
+    let x : g * (g - 1) ≡ 2 * pairsBelow g = omega (arith, twice g) in
+    ap (λ (z : ℕ). z / 2) x ∙ mul-div-cancel-left (pairsBelow g) (omega arith)
+
+-- The places of the legs alone, and those of the pairs.
+count-below : (g : ℕ) → placesBelow g ≡ ownPlaces * g + pairPlaces * pairsBelow g
+unfolding placesBelow pairsBelow
+count-below zero = refl
+count-below (suc g) = omega (arith, count-below g)
+
+pub count-of-legs : (g : ℕ) → ownPlaces * g + pairPlaces * pairsOf g ≡ placesBelow g
+count-of-legs g = omega (arith, count-below g, pairs-are g)
 
 -- The most places that a table has are 2,102,272.
 pub places-at-most : placesBelow maxLegs ≡ 2102272
-places-at-most = let t = twice maxLegs in omega arith
-
-square : (g : ℕ) → g ≤ g * g
-square zero = omega arith
-square (suc g) = le-mul-of-pos-right (suc g) (omega arith)
+places-at-most = omega (arith, count-of-legs maxLegs)
 
 pub count-of-places : CountOfPlaces
-count-of-places t =
-    let g = legCount t in
-    let e = twice g in
-    let m : g * (g + 5) ≡ g * g + g * 5 = mul-add g g 5 in
-    let s : g * (g - 1) ≡ g * g - g * 1 = mul-sub g g 1 in
-    let o = mul-one g in
-    let q = square g in
-    let x : g * (g - 1) ≡ 2 * (placesBelow g - 3 * g) = omega arith in
-    let h : g * (g - 1) / 2 ≡ placesBelow g - 3 * g = ap (λ (z : ℕ). z / 2) x ∙ mul-div-cancel-left (placesBelow g - 3 * g) (omega arith) in
-    omega arith
+count-of-places t = omega (arith, count-of-legs (legCount t))
 
 module _ {t : List ℕ} where
   pub end-rank : {a p : ℕ} → IsEnd t a p → rank a p ≡ placeCount t

@@ -1,5 +1,5 @@
 -- The places in order, and the steps between two of them (document 01, "Places and slices").
-use Prim.Native.Nat.{ℕ, zero, suc, _+_, _≤_, _<_}
+use Prim.Native.Nat.{ℕ, zero, suc, _+_, _*_, _-_, _/_, _≤_, _<_}
 use mathlib.Core.Path.{_≡_}
 use mathlib.Core.List.{List}
 use mathlib.Core.Logic.{_⊎_}
@@ -36,6 +36,10 @@ PlaceOrEnd t a p = IsPlace t a p ⊎ IsEnd t a p
 -- The number of places of table t.
 abbrev pub placeCount : List ℕ → ℕ
 placeCount t = placesBelow (legCount t)
+
+-- So many legs make so many pairs.
+abbrev pub pairsOf : ℕ → ℕ
+pairsOf g = g * (g - 1) / 2
 
 -- Every place of rank from n up to but without m holds.
 abbrev pub HoldFrom : List ℕ → ℕ → ℕ → Type 0

@@ -7,12 +7,12 @@ ghost use Rattle.rules.specs.Steps.{LegIn, FrameOf};
 ghost use Rattle.places.specs.Chains.{NextOn, Begun, Chained};
 ghost use Rattle.places.specs.Told.{ToldOfLeg, ToldOfMeeting, LegLooked};
 use crate::LegTold;
+use basics::Found;
 use basics::Holds;
 use overlap::Known;
 use rules::Frame;
 use rules::Judged;
 use rules::Rule;
-use shape::Found;
 
 // The places of leg a from p on and below the limit, one by one.
 fn each_told(t: &[u32], a: usize, f: Frame, p: usize, limit: usize) -> LegTold
@@ -120,7 +120,7 @@ pub fn judged_leg(
     ensures { λ r. ⌜ ToldOfLeg (now (t .entry)) a p limit r ⌝ }
 {
     let f = rules::times::frame(t, a);
-    let own = crate::lesser(limit, crate::OWN_PLACES);
+    let own = crate::lesser(limit, rules::place::OWN_PLACES);
     let told = each_told(t, a, f, p, own);
     match told {
         LegTold::Broken(q, rule) => {
@@ -128,13 +128,13 @@ pub fn judged_leg(
         }
         LegTold::Kept => {}
     }
-    if limit <= crate::OWN_PLACES {
+    if limit <= rules::place::OWN_PLACES {
         return LegTold::Kept;
     }
-    let n = crate::how_far_past(p, crate::OWN_PLACES);
-    let met = overlaps_told(t, first, next, a, f, n, limit - crate::OWN_PLACES);
+    let n = crate::how_far_past(p, rules::place::OWN_PLACES);
+    let met = overlaps_told(t, first, next, a, f, n, limit - rules::place::OWN_PLACES);
     match met {
-        Found::At(b) => LegTold::Broken(crate::OWN_PLACES + b, Rule::Overlap),
+        Found::At(b) => LegTold::Broken(rules::place::overlap_place(b), Rule::Overlap),
         Found::Nowhere => LegTold::Kept,
     }
 }

@@ -3,15 +3,14 @@ ghost use mathlib.Core.Path.{_≡_};
 ghost use Prim.Native.Nat.{_-_, _≤_};
 ghost use Rattle.table.specs.Layout.{maxLegs};
 ghost use Rattle.rules.specs.Places.{placesOf};
-ghost use Rattle.places.specs.Order.{placesBelow};
+ghost use Rattle.places.specs.Order.{placesBelow, pairsOf};
 ghost use Rattle.places.specs.Told.{IsLesser};
 use rules::Rule;
+use rules::place::OWN_PLACES;
+use rules::place::PAIR_PLACES;
 
 pub mod chains;
 pub mod leg;
-
-// The places of a leg in front of its overlaps.
-pub const OWN_PLACES: usize = 3;
 
 // What is told of some places of a leg: the first that is broken and its rule, or that all are kept.
 pub enum LegTold {
@@ -24,7 +23,7 @@ pub fn places_of(a: usize) -> usize
     requires { ⌜ a ≤ maxLegs ⌝ }
     ensures { λ r. ⌜ r ≡ placesOf a ⌝ }
 {
-    OWN_PLACES + a
+    OWN_PLACES + PAIR_PLACES * a
 }
 
 // Internal: how many places so many legs have.
@@ -32,7 +31,18 @@ pub fn place_count(legs: usize) -> usize
     requires { ⌜ legs ≤ maxLegs ⌝ }
     ensures { λ r. ⌜ r ≡ placesBelow legs ⌝ }
 {
-    legs * (legs + 5) / 2
+    OWN_PLACES * legs + PAIR_PLACES * pairs(legs)
+}
+
+// How many pairs so many legs make.
+fn pairs(legs: usize) -> usize
+    requires { ⌜ legs ≤ maxLegs ⌝ }
+    ensures { λ r. ⌜ r ≡ pairsOf legs ⌝ }
+{
+    if legs == 0 {
+        return 0;
+    }
+    legs * (legs - 1) / 2
 }
 
 // How far x is past y, and 0 where it is not.

@@ -8,37 +8,43 @@ use Rattle.shape.proofs.AtNumbers.{plan-a-in-range}
 use Rattle.overlap.proofs.Law.{shared-instant}
 use Rattle.overlap.proofs.AtNumbers.{overlap-at-numbers}
 use Rattle.rules.specs.Times.{maxTime}
-use Rattle.rules.specs.Places.{placesOf, PlaceHolds}
-use Rattle.rules.proofs.Placing.{window-place, hop-place, place-hop, deadline-place, overlap-place, place-overlap}
+use Rattle.rules.specs.Places.{placesOf, AskedOf, AskedHolds, PlaceHolds}
+use Rattle.rules.specs.declared.Asked.{Asked}
+use Rattle.rules.specs.declared.Asked.the-variants as asked
+use Rattle.rules.proofs.Placing.{place-holds, asked-holds, places-hold}
 use Rattle.rules.proofs.CasePlans.{Bounded, plan, w1, w2, r1, r2, slot-0, slot-2, window-0, window-1, window-2, hop-0, hop-1, hop-1-broken, hop-2, deadline-0, deadline-1, deadline-2, overlap-10, overlap-20, overlap-20-broken, overlap-21}
 
--- The places of legs 0 and 1, and those of leg 2 but for its overlaps.
+-- What is asked of legs 0 and 1, and of leg 2 alone.
 module _ (n : PlanNumbers) (b : Bounded n) where
-  pub places-0 : n .offset-0 + 576 ≤ n .period-0 → (p : ℕ) → p < 3 → PlaceHolds (planWith n) 0 p
+  asked-0 : n .offset-0 + 576 ≤ n .period-0 → (q : Asked) → AskedOf 0 q → AskedHolds (planWith n) 0 q
   unfolding plan
-  places-0 w zero h = window-place (planWith n) 0 (window-0 n b w)
-  places-0 w (suc zero) h = hop-place (planWith n) 0 (hop-0 n b)
-  places-0 w (suc (suc zero)) h = deadline-place (planWith n) 0 (deadline-0 n b)
-  places-0 w (suc (suc (suc p))) h = absurd (omega arith)
+  asked-0 w asked.Window o = window-0 n b w
+  asked-0 w asked.Hop o = hop-0 n b
+  asked-0 w asked.Deadline o = deadline-0 n b
+  asked-0 w (asked.Overlap c) o = absurd (omega arith)
+
+  pub places-0 : n .offset-0 + 576 ≤ n .period-0 → (p : ℕ) → p < placesOf 0 → PlaceHolds (planWith n) 0 p
+  places-0 w = places-hold (planWith n) 0 0 (asked-0 w)
 
   pub place-1-0 : n .offset-1 + w1 n ≤ n .period-0 → PlaceHolds (planWith n) 1 0
   unfolding plan
-  place-1-0 w = window-place (planWith n) 1 (window-1 n b w)
+  place-1-0 w = place-holds (planWith n) 1 asked.Window (window-1 n b w)
 
-  places-1 : n .offset-1 + w1 n ≤ n .period-0 → n .offset-0 + 1176 ≤ n .offset-1 → r1 n ≤ n .deadline-0 + n .offset-0 → (p : ℕ) → p < 4 → PlaceHolds (planWith n) 1 p
+  asked-1 : n .offset-1 + w1 n ≤ n .period-0 → n .offset-0 + 1176 ≤ n .offset-1 → r1 n ≤ n .deadline-0 + n .offset-0 → (q : Asked) → AskedOf 1 q
+      → AskedHolds (planWith n) 1 q
   unfolding plan
-  places-1 w k d zero h = place-1-0 w
-  places-1 w k d (suc zero) h = hop-place (planWith n) 1 (hop-1 n b k)
-  places-1 w k d (suc (suc zero)) h = deadline-place (planWith n) 1 (deadline-1 n b d)
-  places-1 w k d (suc (suc (suc zero))) h = overlap-place (planWith n) 1 0 (overlap-10 n b)
-  places-1 w k d (suc (suc (suc (suc p)))) h = absurd (omega arith)
+  asked-1 w k d asked.Window o = window-1 n b w
+  asked-1 w k d asked.Hop o = hop-1 n b k
+  asked-1 w k d asked.Deadline o = deadline-1 n b d
+  asked-1 w k d (asked.Overlap zero) o = overlap-10 n b
+  asked-1 w k d (asked.Overlap (suc c)) o = absurd (omega arith)
 
-  places-2 : n .offset-2 + w2 n ≤ n .period-1 → r2 n ≤ n .deadline-1 + n .offset-2 → (p : ℕ) → p < 3 → PlaceHolds (planWith n) 2 p
+  asked-2 : n .offset-2 + w2 n ≤ n .period-1 → r2 n ≤ n .deadline-1 + n .offset-2 → (q : Asked) → AskedOf 0 q → AskedHolds (planWith n) 2 q
   unfolding plan
-  places-2 w d zero h = window-place (planWith n) 2 (window-2 n b w)
-  places-2 w d (suc zero) h = hop-place (planWith n) 2 (hop-2 n b)
-  places-2 w d (suc (suc zero)) h = deadline-place (planWith n) 2 (deadline-2 n b d)
-  places-2 w d (suc (suc (suc p))) h = absurd (omega arith)
+  asked-2 w d asked.Window o = window-2 n b w
+  asked-2 w d asked.Hop o = hop-2 n b
+  asked-2 w d asked.Deadline o = deadline-2 n b d
+  asked-2 w d (asked.Overlap c) o = absurd (omega arith)
 
 -- Plan A with small offsets.
 pub bounded-a : (revision o0 o1 o2 : ℕ) → o0 + o1 + o2 ≤ maxTime → Bounded (revisedA revision o0 o1 o2)
@@ -49,27 +55,30 @@ module _ (revision o2 : ℕ) (w : o2 + 576 ≤ 150000) where
   bounded : Bounded (revisedA revision 0 1176 o2)
   bounded = bounded-a revision 0 1176 o2 (omega arith)
 
+  alone-2 : (q : Asked) → AskedOf 0 q → AskedHolds (planWith (revisedA revision 0 1176 o2)) 2 q
+  alone-2 = asked-2 (revisedA revision 0 1176 o2) bounded (omega arith) (omega arith)
+
   pub first-ten : (a p : ℕ) → a < 3 → p < placesOf a → (a ≡ 2 → p < 3) → PlaceHolds (planWith (revisedA revision 0 1176 o2)) a p
   first-ten zero p l h f = places-0 (revisedA revision 0 1176 o2) bounded (omega arith) p h
-  first-ten (suc zero) p l h f = places-1 (revisedA revision 0 1176 o2) bounded (omega arith) (omega arith) (omega arith) p h
-  first-ten (suc (suc zero)) p l h f = places-2 (revisedA revision 0 1176 o2) bounded (omega arith) (omega arith) p (f refl)
+  first-ten (suc zero) p l h f = places-hold (planWith (revisedA revision 0 1176 o2)) 1 1 (asked-1 (revisedA revision 0 1176 o2) bounded (omega arith) (omega arith) (omega arith)) p h
+  first-ten (suc (suc zero)) p l h f = places-hold (planWith (revisedA revision 0 1176 o2)) 2 0 alone-2 p (f refl)
   first-ten (suc (suc (suc a))) p l h f = absurd (omega arith)
 
 -- With leg 2 at 576 all twelve hold.
 module _ (revision : ℕ) where
-  pub all-twelve : (a p : ℕ) → a < 3 → p < placesOf a → PlaceHolds (planWith (revisedA revision 0 1176 576)) a p
+  beside-2 : (q : Asked) → AskedOf 2 q → AskedHolds (planWith (revisedA revision 0 1176 576)) 2 q
   unfolding plan
+  beside-2 asked.Window o = alone-2 revision 576 (omega arith) asked.Window tt
+  beside-2 asked.Hop o = alone-2 revision 576 (omega arith) asked.Hop tt
+  beside-2 asked.Deadline o = alone-2 revision 576 (omega arith) asked.Deadline tt
+  beside-2 (asked.Overlap zero) o = overlap-20 (revisedA revision 0 1176 576) (bounded revision 576 (omega arith)) (overlap-at-numbers .at-576)
+  beside-2 (asked.Overlap (suc zero)) o = overlap-21 (revisedA revision 0 1176 576) (bounded revision 576 (omega arith))
+  beside-2 (asked.Overlap (suc (suc c))) o = absurd (omega arith)
+
+  pub all-twelve : (a p : ℕ) → a < 3 → p < placesOf a → PlaceHolds (planWith (revisedA revision 0 1176 576)) a p
   all-twelve zero p l h = first-ten revision 576 (omega arith) 0 p l h (λ e. absurd (omega (arith, e)))
   all-twelve (suc zero) p l h = first-ten revision 576 (omega arith) 1 p l h (λ e. absurd (omega (arith, e)))
-  all-twelve (suc (suc zero)) zero l h = first-ten revision 576 (omega arith) 2 0 l h (λ e. omega arith)
-  all-twelve (suc (suc zero)) (suc zero) l h = first-ten revision 576 (omega arith) 2 1 l h (λ e. omega arith)
-  all-twelve (suc (suc zero)) (suc (suc zero)) l h = first-ten revision 576 (omega arith) 2 2 l h (λ e. omega arith)
-  all-twelve (suc (suc zero)) (suc (suc (suc zero))) l h =
-      overlap-place (planWith (revisedA revision 0 1176 576)) 2 0
-      (overlap-20 (revisedA revision 0 1176 576) (bounded revision 576 (omega arith)) (overlap-at-numbers .at-576))
-  all-twelve (suc (suc zero)) (suc (suc (suc (suc zero)))) l h =
-      overlap-place (planWith (revisedA revision 0 1176 576)) 2 1 (overlap-21 (revisedA revision 0 1176 576) (bounded revision 576 (omega arith)))
-  all-twelve (suc (suc zero)) (suc (suc (suc (suc (suc p))))) l h = absurd (omega arith)
+  all-twelve (suc (suc zero)) p l h = places-hold (planWith (revisedA revision 0 1176 576)) 2 2 beside-2 p h
   all-twelve (suc (suc (suc a))) p l h = absurd (omega arith)
 
   -- At 0 it meets leg 0 at once.
@@ -79,11 +88,11 @@ module _ (revision : ℕ) where
       let n = revisedA revision 0 1176 0 in
       overlap-20-broken n (bounded revision 0 (omega arith))
       (shared-instant (slot-0 n) (slot-2 n) 0 0 0 (record { begun = omega arith; not-ended = omega arith }) (record { begun = omega arith; not-ended = omega arith }))
-      (place-overlap (planWith n) 2 0 h)
+      (asked-holds (planWith n) 2 (asked.Overlap 0) h)
 
   -- With leg 0 at 600 it is not ready in time for leg 1.
   pub late-at-1-1 : PlaceHolds (planWith (revisedA revision 600 1176 0)) 1 1 → ⊥
   unfolding plan
   late-at-1-1 h =
       let n = revisedA revision 600 1176 0 in
-      hop-1-broken n (bounded-a revision 600 1176 0 (omega arith)) (omega arith) (place-hop (planWith n) 1 h)
+      hop-1-broken n (bounded-a revision 600 1176 0 (omega arith)) (omega arith) (asked-holds (planWith n) 1 asked.Hop h)

@@ -38,8 +38,8 @@ overlaps-told-requires c κs = (search, (search, (search needs, search needs)))
 enum-known-met : tie.Need-enum-known-met
 enum-known-met c = search needs
 
-add-t18 : tie.Need-add-t18
-add-t18 c = let entry : tie.Start = search in let m : Met = search met-below in omega arith
+overlap-place-requires : tie.Need-overlap-place-requires
+overlap-place-requires c κs = let entry : tie.Start = search in let m : Met = search met-below in omega arith
 
 enum-told-2 : tie.Need-enum-told-2
 enum-told-2 c = search needs
@@ -65,7 +65,7 @@ judged-leg-spec =
     sub-overlaps-told
     overlaps-told-requires
     enum-known-met
-    add-t18
+    overlap-place-requires
     enum-told-2
     returns-3
     returns-4)
