@@ -3,6 +3,7 @@ use checker::Grant;
 use checker::SliceAnswer;
 use files::Cursor;
 use rules::Rule;
+use table::Move;
 
 // The largest word: no budget, revision, leg or place is above it.
 pub(crate) const MOST: u32 = 4294967295;
@@ -107,7 +108,7 @@ pub(crate) fn from(t: &[u32], leg: u32, place: u32) -> Cursor {
 }
 
 pub(crate) fn move_leg(t: &mut [u32], c: Cursor, leg: u32, offset: u32) -> Cursor {
-    let d = granted(checker::move_leg(t, c, leg, offset));
+    let d = granted(checker::move_leg(t, c, Move { leg, offset }));
     show::text(b"table: ");
     show::rest_words(t, 0);
     d

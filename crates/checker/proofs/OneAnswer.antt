@@ -8,6 +8,7 @@ use native.Mathlib.Nat.{eq-or-lt-of-le}
 use native.Mathlib.Omega.{arith}
 use Rattle.basics.proofs.Splits.{lt-or-ge}
 use Rattle.table.specs.Layout.{legCount}
+use Rattle.table.specs.declared.Move.{Move}
 use Rattle.files.specs.declared.Cursor.{Cursor}
 use Rattle.shape.proofs.OneShape.{well-no-fault, fault-one}
 use Rattle.rules.specs.Places.{ruleAt}
@@ -140,25 +141,6 @@ slice-one-answer t c b (answer.Refused k p d) (answer.Refused l q e) f g =
     cc
 
 module _ {t : List ℕ} {c : Cursor} {leg : ℕ} where
-  move-no-fault : {offset k p : ℕ} {d : Cursor} {u : List ℕ} → MoveRight t c leg offset d u → MoveFault t c leg k p → ⊥
-  move-no-fault m (inl f) = right-no-fault (m .cursor) f
-  move-no-fault m (inr w) = ⊎-elim (λ n. omega (arith, n .not-below, m .below)) (λ l. omega (arith, l .last, m .rises)) (w .cause)
-
-  move-wrong-one : {k p l q : ℕ} → MoveWrong t c leg k p → MoveWrong t c leg l q → (k ≡ l) × (p ≡ q)
-  move-wrong-one v w = (
-    ⊎-elim
-        (λ s. ⊎-elim (λ u. s .number ∙ sym (u .number)) (λ u. absurd (omega (arith, s .not-below, u .below))) (w .cause))
-        (λ s. ⊎-elim (λ u. absurd (omega (arith, s .below, u .not-below))) (λ u. s .number ∙ sym (u .number)) (w .cause))
-        (v .cause),
-    v .at ∙ sym (w .at),
-  )
-
-  move-fault-one : {k p l q : ℕ} → MoveFault t c leg k p → MoveFault t c leg l q → (k ≡ l) × (p ≡ q)
-  move-fault-one (inl f) (inl g) = cursor-fault-one f g
-  move-fault-one (inl f) (inr w) = absurd (right-no-fault (w .cursor) f)
-  move-fault-one (inr w) (inl f) = absurd (right-no-fault (w .cursor) f)
-  move-fault-one (inr v) (inr w) = move-wrong-one v w
-
   -- The lesser of two places stands where one of them does.
   pub lesser-stands : {d : Cursor} → CursorRight t c → leg < legCount t → AtTheLesser c leg d → PlaceOrEnd t (d .leg) (d .place)
   lesser-stands r h a =
@@ -171,14 +153,34 @@ module _ {t : List ℕ} {c : Cursor} {leg : ℕ} where
   moved-cursor-one {d} {e} r h q a b =
       one-cursor q (lesser-stands r h a) (lesser-stands r h b) (omega (arith, not-greater a b, not-greater b a))
 
+module _ {t : List ℕ} {c : Cursor} {mv : Move} where
+  move-no-fault : {k p : ℕ} {d : Cursor} {u : List ℕ} → MoveRight t c mv d u → MoveFault t c mv k p → ⊥
+  move-no-fault m (inl f) = right-no-fault (m .cursor) f
+  move-no-fault m (inr w) = ⊎-elim (λ n. omega (arith, n .not-below, m .below)) (λ l. omega (arith, l .last, m .rises)) (w .cause)
+
+  move-wrong-one : {k p l q : ℕ} → MoveWrong t c mv k p → MoveWrong t c mv l q → (k ≡ l) × (p ≡ q)
+  move-wrong-one v w = (
+    ⊎-elim
+        (λ s. ⊎-elim (λ u. s .number ∙ sym (u .number)) (λ u. absurd (omega (arith, s .not-below, u .below))) (w .cause))
+        (λ s. ⊎-elim (λ u. absurd (omega (arith, s .below, u .not-below))) (λ u. s .number ∙ sym (u .number)) (w .cause))
+        (v .cause),
+    v .at ∙ sym (w .at),
+  )
+
+  move-fault-one : {k p l q : ℕ} → MoveFault t c mv k p → MoveFault t c mv l q → (k ≡ l) × (p ≡ q)
+  move-fault-one (inl f) (inl g) = cursor-fault-one f g
+  move-fault-one (inl f) (inr w) = absurd (right-no-fault (w .cursor) f)
+  move-fault-one (inr w) (inl f) = absurd (right-no-fault (w .cursor) f)
+  move-fault-one (inr v) (inr w) = move-wrong-one v w
+
 pub move-one-answer : MoveOneAnswer
-move-one-answer t c leg offset (Granted d) (Granted e) u v p q = (
+move-one-answer t c mv (Granted d) (Granted e) u v p q = (
   ap Granted (moved-cursor-one (p .cursor) (p .below) (p .revision ∙ sym (q .revision)) (p .lesser) (q .lesser)),
   p .table ∙ sym (q .table),
 )
-move-one-answer t c leg offset (Granted d) (Refused l q e) u v m f = absurd (move-no-fault m (f .0))
-move-one-answer t c leg offset (Refused k p d) (Granted e) u v f m = absurd (move-no-fault m (f .0))
-move-one-answer t c leg offset (Refused k p d) (Refused l q e) u v f g =
+move-one-answer t c mv (Granted d) (Refused l q e) u v m f = absurd (move-no-fault m (f .0))
+move-one-answer t c mv (Refused k p d) (Granted e) u v f m = absurd (move-no-fault m (f .0))
+move-one-answer t c mv (Refused k p d) (Refused l q e) u v f g =
     let x = move-fault-one (f .0) (g .0) in
     let x0 = x .0 in
     let x1 = x .1 in

@@ -6,6 +6,7 @@ use mathlib.Core.Logic.{_⊎_}
 use Rattle.numbers.specs.Number.{maxWord}
 use Rattle.table.specs.Layout.{revisionOf, legCount}
 use Rattle.table.specs.Records.{moved}
+use Rattle.table.specs.declared.Move.{Move}
 use Rattle.files.specs.declared.Cursor.{Cursor}
 use Rattle.places.specs.Order.{rank}
 use Rattle.checker.specs.Cursors.{cursorRank, CursorRight, CursorFault}
@@ -19,24 +20,24 @@ noLeg = 10
 abbrev pub cannotRise : ℕ
 cannotRise = 11
 
-pub record NoLeg (t : List ℕ) (leg k : ℕ) : Type 0 where
+pub record NoLeg (t : List ℕ) (mv : Move) (k : ℕ) : Type 0 where
   pub number : k ≡ noLeg
-  pub not-below : legCount t ≤ leg
+  pub not-below : legCount t ≤ mv .leg
 
-pub record CannotRise (t : List ℕ) (leg k : ℕ) : Type 0 where
+pub record CannotRise (t : List ℕ) (mv : Move) (k : ℕ) : Type 0 where
   pub number : k ≡ cannotRise
-  pub below : leg < legCount t
+  pub below : mv .leg < legCount t
   pub last : revisionOf t ≡ maxWord
 
 -- The cursor is right and the move is wrong, at 0.
-pub record MoveWrong (t : List ℕ) (c : Cursor) (leg k p : ℕ) : Type 0 where
+pub record MoveWrong (t : List ℕ) (c : Cursor) (mv : Move) (k p : ℕ) : Type 0 where
   pub cursor : CursorRight t c
   pub at : p ≡ 0
-  pub cause : NoLeg t leg k ⊎ CannotRise t leg k
+  pub cause : NoLeg t mv k ⊎ CannotRise t mv k
 
 -- The first refusal that is due: 1 to 9, then 10, then 11.
-abbrev pub MoveFault : List ℕ → Cursor → ℕ → ℕ → ℕ → Type 0
-MoveFault t c leg k p = CursorFault t c k p ⊎ MoveWrong t c leg k p
+abbrev pub MoveFault : List ℕ → Cursor → Move → ℕ → ℕ → Type 0
+MoveFault t c mv k p = CursorFault t c k p ⊎ MoveWrong t c mv k p
 
 -- The cursor d is at the lesser of the place of c and (leg,0).
 pub record AtTheLesser (c : Cursor) (leg : ℕ) (d : Cursor) : Type 0 where
@@ -45,15 +46,15 @@ pub record AtTheLesser (c : Cursor) (leg : ℕ) (d : Cursor) : Type 0 where
   pub to-leg : cursorRank d ≤ rank leg 0
 
 -- A granted move: the table t becomes t′, and the cursor d is of the new revision.
-pub record MoveRight (t : List ℕ) (c : Cursor) (leg offset : ℕ) (d : Cursor) (t′ : List ℕ) : Type 0 where
+pub record MoveRight (t : List ℕ) (c : Cursor) (mv : Move) (d : Cursor) (t′ : List ℕ) : Type 0 where
   pub cursor : CursorRight t c
-  pub below : leg < legCount t
+  pub below : mv .leg < legCount t
   pub rises : revisionOf t < maxWord
-  pub table : t′ ≡ moved t leg offset
+  pub table : t′ ≡ moved t mv
   pub revision : d .revision ≡ revisionOf t + 1
-  pub lesser : AtTheLesser c leg d
+  pub lesser : AtTheLesser c (mv .leg) d
 
 -- A move of one leg of table t, which becomes t′; a refused one leaves all.
-abbrev pub Moves : List ℕ → Cursor → ℕ → ℕ → Grant → List ℕ → Type 0
-Moves t c leg offset (grant.Granted d) t′ = MoveRight t c leg offset d t′
-Moves t c leg offset (grant.Refused k p d) t′ = MoveFault t c leg k p × (d ≡ c) × (t′ ≡ t)
+abbrev pub Moves : List ℕ → Cursor → Move → Grant → List ℕ → Type 0
+Moves t c mv (grant.Granted d) t′ = MoveRight t c mv d t′
+Moves t c mv (grant.Refused k p d) t′ = MoveFault t c mv k p × (d ≡ c) × (t′ ≡ t)

@@ -1,6 +1,7 @@
 -- The refusals 8 to 11 at numbers, most of them where a later one is due too.
 use Prim.Native.Nat.{ℕ}
 use mathlib.Core.List.{List}
+use Rattle.table.specs.Records.{moveTo}
 use Rattle.table.specs.PlanA.{planWith}
 use Rattle.shape.specs.RefusalsAtNumbers.{wrongLeg}
 use Rattle.files.specs.declared.Cursor.{Cursor}
@@ -24,8 +25,8 @@ pub record CursorRefusalsAtNumbers : Type 0 where
 
 -- A move: 8 and 9 before 10, 10 before 11, and 11 for a leg that is there.
 pub record MoveRefusalsAtNumbers : Type 0 where
-  pub table : MoveFault wrongLeg (cursorAt 6 0 3) 3 7 1
-  pub stale : MoveFault (planAOf 4294967295) (cursorAt 6 0 3) 3 8 0
-  pub no-place : MoveFault (planAOf 4294967295) (cursorAt 4294967295 0 3) 3 9 0
-  pub no-leg : MoveFault (planAOf 4294967295) (cursorAt 4294967295 0 2) 3 10 0
-  pub cannot-rise : MoveFault (planAOf 4294967295) (cursorAt 4294967295 3 0) 2 11 0
+  pub table : MoveFault wrongLeg (cursorAt 6 0 3) (moveTo 3 0) 7 1
+  pub stale : MoveFault (planAOf 4294967295) (cursorAt 6 0 3) (moveTo 3 0) 8 0
+  pub no-place : MoveFault (planAOf 4294967295) (cursorAt 4294967295 0 3) (moveTo 3 0) 9 0
+  pub no-leg : MoveFault (planAOf 4294967295) (cursorAt 4294967295 0 2) (moveTo 3 0) 10 0
+  pub cannot-rise : MoveFault (planAOf 4294967295) (cursorAt 4294967295 3 0) (moveTo 2 0) 11 0

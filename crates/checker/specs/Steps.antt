@@ -4,6 +4,7 @@ use mathlib.Core.Path.{_≡_}
 use mathlib.Core.List.{List}
 use Rattle.numbers.specs.Number.{maxWord}
 use Rattle.table.specs.Layout.{revisionOf, legCount}
+use Rattle.table.specs.declared.Move.{Move}
 use Rattle.files.specs.declared.Cursor.{Cursor}
 use Rattle.shape.specs.Guarantees.{Guarantees}
 use Rattle.shape.specs.declared.Shape.{Shape}
@@ -18,14 +19,14 @@ CursorTold t c Right = CursorRight t c
 CursorTold t c (Wrong k p) = CursorFault t c k p
 
 -- A move may be made.
-pub record MoveAllowed (t : List ℕ) (c : Cursor) (leg : ℕ) : Type 0 where
+pub record MoveAllowed (t : List ℕ) (c : Cursor) (mv : Move) : Type 0 where
   pub cursor : CursorRight t c
-  pub below : leg < legCount t
+  pub below : mv .leg < legCount t
   pub rises : revisionOf t < maxWord
 
-abbrev pub MoveTold : List ℕ → Cursor → ℕ → Shape → Type 0
-MoveTold t c leg Right = MoveAllowed t c leg
-MoveTold t c leg (Wrong k p) = MoveFault t c leg k p
+abbrev pub MoveTold : List ℕ → Cursor → Move → Shape → Type 0
+MoveTold t c mv Right = MoveAllowed t c mv
+MoveTold t c mv (Wrong k p) = MoveFault t c mv k p
 
 -- A cursor of a revision: where c stands at a lower leg, and else at (leg,0).
 pub record PulledBack (c : Cursor) (rev leg : ℕ) (d : Cursor) : Type 0 where

@@ -2,6 +2,7 @@
 use Prim.Native.Nat.{ℕ}
 use mathlib.Core.Path.{_≡_}
 use mathlib.Core.List.{List}
+use Rattle.table.specs.declared.Move.{Move}
 use Rattle.files.specs.declared.Cursor.{Cursor}
 use Rattle.checker.specs.Slices.{Starts, Slices}
 use Rattle.checker.specs.Moves.{Moves}
@@ -17,5 +18,5 @@ SliceOneAnswer = (t : List ℕ) (c : Cursor) (budget : ℕ) (r r′ : SliceAnswe
 
 abbrev pub MoveOneAnswer : Type 0
 MoveOneAnswer =
-    (t : List ℕ) (c : Cursor) (leg offset : ℕ) (r r′ : Grant) (u u′ : List ℕ)
-    → Moves t c leg offset r u → Moves t c leg offset r′ u′ → (r ≡ r′) × (u ≡ u′)
+    (t : List ℕ) (c : Cursor) (mv : Move) (r r′ : Grant) (u u′ : List ℕ)
+    → Moves t c mv r u → Moves t c mv r′ u′ → (r ≡ r′) × (u ≡ u′)

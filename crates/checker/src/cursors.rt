@@ -8,6 +8,7 @@ ghost use Rattle.checker.specs.Steps.{CursorTold, MoveTold, PulledBack};
 use basics::Holds;
 use files::Cursor;
 use shape::Shape;
+use table::Move;
 
 pub const STALE_CURSOR: u32 = 8;
 
@@ -66,11 +67,11 @@ pub fn judged_cursor(t: &[u32], c: Cursor) -> Shape
 }
 
 // The refusals 10 and 11, or none, of a right cursor.
-fn allowed_told(t: &[u32], c: Cursor, leg: u32) -> Shape
+fn allowed_told(t: &[u32], c: Cursor, mv: Move) -> Shape
     requires { ⌜ CursorRight (now t) c ⌝ }
-    ensures { λ r. ⌜ MoveTold (now (t .entry)) c leg r ⌝ }
+    ensures { λ r. ⌜ MoveTold (now (t .entry)) c mv r ⌝ }
 {
-    if t[table::LEGS_AT] <= leg {
+    if t[table::LEGS_AT] <= mv.leg {
         return Shape::Wrong(NO_LEG, 0);
     }
     if t[table::REVISION_AT] == MAX_REVISION {
@@ -80,13 +81,13 @@ fn allowed_told(t: &[u32], c: Cursor, leg: u32) -> Shape
 }
 
 // Internal: the first of the refusals 1 to 11 that is due, or none.
-pub fn judged_move(t: &[u32], c: Cursor, leg: u32) -> Shape
-    ensures { λ r. ⌜ MoveTold (now (t .entry)) c leg r ⌝ }
+pub fn judged_move(t: &[u32], c: Cursor, mv: Move) -> Shape
+    ensures { λ r. ⌜ MoveTold (now (t .entry)) c mv r ⌝ }
 {
     let told = judged_cursor(t, c);
     match told {
         Shape::Wrong(number, at) => Shape::Wrong(number, at),
-        Shape::Right => allowed_told(t, c, leg),
+        Shape::Right => allowed_told(t, c, mv),
     }
 }
 

@@ -4,6 +4,7 @@ ghost use Rattle.checker.specs.Moves.{Moves};
 use files::Cursor;
 use rules::Rule;
 use shape::Shape;
+use table::Move;
 
 pub mod cursors;
 pub mod look;
@@ -59,18 +60,16 @@ pub fn slice(t: &[u32], cursor: Cursor, budget: u32) -> SliceAnswer
 
 // Sets the offset of one leg and raises the revision by one. The cursor is of the new revision, and where it stood past the start of that leg it goes
 // back to it.
-pub fn move_leg(t: &mut [u32], cursor: Cursor, leg: u32, offset: u32) -> Grant
-    ensures { λ r. ⌜ Moves (now (t .entry)) cursor leg offset r (now (t .exit)) ⌝ }
+pub fn move_leg(t: &mut [u32], cursor: Cursor, mv: Move) -> Grant
+    ensures { λ r. ⌜ Moves (now (t .entry)) cursor mv r (now (t .exit)) ⌝ }
 {
-    let told = cursors::judged_move(t, cursor, leg);
+    let told = cursors::judged_move(t, cursor, mv);
     match told {
         Shape::Wrong(number, at) => Grant::Refused(number, at, cursor),
         Shape::Right => {
-            let at = table::parts::offset_at(t, table::wide(leg));
             let revision = t[table::REVISION_AT] + 1;
-            t[at] = offset;
-            t[table::REVISION_AT] = revision;
-            Grant::Granted(cursors::pulled_back(cursor, revision, leg))
+            table::parts::make_move(t, mv, revision);
+            Grant::Granted(cursors::pulled_back(cursor, revision, mv.leg))
         }
     }
 }

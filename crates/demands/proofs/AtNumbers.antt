@@ -4,7 +4,7 @@ use mathlib.Core.Path.{_≡_, refl, sym, ap, subst}
 use mathlib.Core.List.{List, _∷_}
 use mathlib.Core.Logic.{inl, inr, ⊎-elim}
 use native.Mathlib.Omega.{arith}
-use Rattle.table.specs.Records.{moved}
+use Rattle.table.specs.Records.{moved, moveTo}
 use Rattle.table.specs.PlanA.{offsetsA, planA}
 use Rattle.table.proofs.MovedPlans.{moved-0, moved-2}
 use Rattle.shape.specs.Shape.{WellFormedTable}
@@ -54,19 +54,19 @@ to-the-end : Run (slice (at 0 1 2) 7 (NothingViolated (at 0 3 0) 7) ∷ begun) g
 to-the-end = (on-good, inl refl, ends 1 2 7 (at-1-2 576) (omega (arith, ranks .1, ranks .3)))
 
 -- A leg ahead is moved, to 700. A slice from the new cursor goes on, and the old one is refused.
-move-ahead : Run (move-leg (at 0 1 2) 2 700 (Granted (at 1 1 2)) ∷ begun) (moved good 2 700)
+move-ahead : Run (move-leg (at 0 1 2) (moveTo 2 700) (Granted (at 1 1 2)) ∷ begun) (moved good (moveTo 2 700))
 move-ahead = (
   good,
   on-good,
   inl refl,
-  granted 0 0 1176 576 1 2 2 700 1 2 (omega arith) (at-1-2 576) (omega arith) (inl (refl, refl)) (omega arith) (omega (arith, ranks .1, ranks .2)),
+  granted 0 0 1176 576 1 2 (moveTo 2 700) 1 2 (omega arith) (at-1-2 576) (omega arith) (inl (refl, refl)) (omega arith) (omega (arith, ranks .1, ranks .2)),
 )
 
-goes-on-ahead : (p b q : ℕ) → p < 4 → b < 3 → q < placesOf b → rank 1 p + 1 ≡ rank b q → rank b q ≤ 10 → Slices (moved good 2 700) (at 1 1 p) 1 (Paused (at 1 b q) 1)
+goes-on-ahead : (p b q : ℕ) → p < 4 → b < 3 → q < placesOf b → rank 1 p + 1 ≡ rank b q → rank b q ≤ 10 → Slices (moved good (moveTo 2 700)) (at 1 1 p) 1 (Paused (at 1 b q) 1)
 goes-on-ahead p b q k l h e le =
     on (at 1 1 p) 1 (Paused (at 1 b q) 1) (moved-2 (offsetsA 0 1176 576) 700) (pause 1 0 1176 700 10 (before-2-3 1 700 (omega arith)) 1 p b q 1 (here 1 0 1176 700 1 p (omega arith) k) l h e le)
 
-stale-cursor : Slices (moved good 2 700) (at 0 1 2) 5 (answer.Refused 8 0 (at 0 1 2))
+stale-cursor : Slices (moved good (moveTo 2 700)) (at 0 1 2) 5 (answer.Refused 8 0 (at 0 1 2))
 stale-cursor =
     on (at 0 1 2) 5 (answer.Refused 8 0 (at 0 1 2)) (moved-2 (offsetsA 0 1176 576) 700)
     (inr (record { shape = shape 1 0 1176 700; at = refl; cause = inl (record { number = refl; other = λ e. absurd (omega (arith, e)) }) }), refl)
@@ -102,7 +102,7 @@ runs-at-numbers = record {
     good,
     on-good,
     inl refl,
-    granted 0 0 1176 576 1 2 0 600 0 0 (omega arith) (at-1-2 576) (omega arith) (inr (refl, refl)) (omega (arith, ranks .0, ranks .1)) (omega arith),
+    granted 0 0 1176 576 1 2 (moveTo 0 600) 0 0 (omega arith) (at-1-2 576) (omega arith) (inr (refl, refl)) (omega (arith, ranks .0, ranks .1)) (omega arith),
   );
   ahead = move-ahead;
   stale = (move-ahead, inr (inl refl), stale-cursor);
@@ -163,26 +163,26 @@ run-11 = (
   violate 0 0 1176 0 10 (before-2-3 0 0 (omega arith)) 2 3 2 3 0 5 rule.Overlap (here 0 0 1176 0 2 3 (omega arith) (omega arith)) (omega arith) (omega arith) (meets-at-2-3 0) (place-rule (asked.Overlap 0)) (omega arith) (omega (arith, ranks .2)) (omega arith),
 )
 
-run-12 : Run case12 (moved planA 2 576)
+run-12 : Run case12 (moved planA (moveTo 2 576))
 run-12 = (
   (
     planA,
     run-11,
     inl refl,
-    granted 0 0 1176 0 2 3 2 576 2 0 (omega arith) (here 0 0 1176 0 2 3 (omega arith) (omega arith)) (omega arith) (inr (refl, refl)) (omega arith) (omega arith),
+    granted 0 0 1176 0 2 3 (moveTo 2 576) 2 0 (omega arith) (here 0 0 1176 0 2 3 (omega arith) (omega arith)) (omega arith) (inr (refl, refl)) (omega arith) (omega arith),
   ),
   inl refl,
   on (at 1 2 0) 5 (NothingViolated (at 1 3 0) 5) (moved-2 (offsetsA 0 1176 0) 576)
       (end 1 0 1176 576 12 (accepted 1) 2 0 5 (here 1 0 1176 576 2 0 (omega arith) (omega arith)) (omega (arith, ranks .2, ranks .3)) (omega (arith, ranks .3))),
 )
 
-run-13 : Run case13 (moved planA 0 600)
+run-13 : Run case13 (moved planA (moveTo 0 600))
 run-13 = (
   (
     planA,
     paused-twice,
     inl refl,
-    granted 0 0 1176 0 2 3 0 600 0 0 (omega arith) (here 0 0 1176 0 2 3 (omega arith) (omega arith)) (omega arith) (inr (refl, refl)) (omega (arith, ranks .0, ranks .2))
+    granted 0 0 1176 0 2 3 (moveTo 0 600) 0 0 (omega arith) (here 0 0 1176 0 2 3 (omega arith) (omega arith)) (omega arith) (inr (refl, refl)) (omega (arith, ranks .0, ranks .2))
         (omega arith),
   ),
   inl refl,
@@ -200,7 +200,7 @@ cases-as-runs = record {
     good,
     on-good,
     inl refl,
-    granted 0 0 1176 576 1 2 1 1200 1 0 (omega arith) (at-1-2 576) (omega arith) (inr (refl, refl)) (omega arith) (omega arith),
+    granted 0 0 1176 576 1 2 (moveTo 1 1200) 1 0 (omega arith) (at-1-2 576) (omega arith) (inr (refl, refl)) (omega arith) (omega arith),
   );
   started-again = (
     (run-12, subst (λ (t : List ℕ). Starts t (Granted (at 1 0 0))) (sym (moved-2 (offsetsA 0 1176 0) 576)) (shape 1 0 1176 576, refl)),

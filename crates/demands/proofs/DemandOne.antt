@@ -31,7 +31,7 @@ refusals-lose-nothing = record {
   write-cursor = λ c d b b′ k p w. (w .0 .kept, w .1);
   start = λ t d k p w. w .1;
   slice = λ t c d b k p w. w .1;
-  move-leg = λ t t′ c d leg offset k p w. (w .2, w .1);
+  move-leg = λ t t′ c d mv k p w. (w .2, w .1);
   host = host-refusals-write-nothing;
 }
 

@@ -9,6 +9,7 @@ use native.Mathlib.Omega.{arith}
 use Rattle.basics.proofs.Splits.{lt-or-ge}
 use Rattle.numbers.specs.Number.{maxWord}
 use Rattle.table.specs.Layout.{revisionOf, legCount}
+use Rattle.table.specs.declared.Move.{Move}
 use Rattle.shape.specs.Shape.{WellFormedTable}
 use Rattle.shape.proofs.OneShape.{well-no-fault}
 use Rattle.files.specs.declared.Cursor.{Cursor}
@@ -128,14 +129,14 @@ pub renewed : (last : Call) (earlier : List Call) (t : List ℕ) → Run (last �
 renewed (start (Granted d)) [] t r n = start-right r
 renewed (start (Refused k p d)) [] t r n = absurd r
 renewed (slice c b a) [] t r n = absurd r
-renewed (move-leg c leg offset g) [] t r n = absurd r
+renewed (move-leg c mv g) [] t r n = absurd r
 renewed (start (Granted d)) (call ∷ earlier) t (r, s) n = start-right s
 renewed (start (Refused k p d)) (call ∷ earlier) t (r, s) n = absurd (well-no-fault (run-keeps (call ∷ earlier) t r .shape) (s .0))
 renewed (slice c b a) (call ∷ earlier) t r n = absurd n
-renewed (move-leg c leg offset (Granted d)) (call ∷ earlier) t (u, r, out, m) n =
+renewed (move-leg c mv (Granted d)) (call ∷ earlier) t (u, r, out, m) n =
     let e = m .table in
-    subst (λ (v : List ℕ). CursorRight v d) (sym e) (right-moved u c d leg offset (subst (MoveRight u c leg offset d) e m))
-renewed (move-leg c leg offset (Refused k p d)) (call ∷ earlier) t r n = absurd n
+    subst (λ (v : List ℕ). CursorRight v d) (sym e) (right-moved u c d mv (subst (MoveRight u c mv d) e m))
+renewed (move-leg c mv (Refused k p d)) (call ∷ earlier) t r n = absurd n
 
 -- How far the newest cursor has come where no verdict was given, by calls that were not refused.
 record Progress (t : List ℕ) (made : List Call) (last : Call) : Type 0 where
@@ -169,8 +170,8 @@ step (slice c b (answer.Paused d n)) y ys t part last r s i =
     (i (r .0) (s .1))
 step (slice c b (answer.Refused k p d)) y ys t part last r s i =
     ⊎-elim (λ (v : HasVerdict part). inl (inr v)) (λ (g : Progress t (withoutRefused part) last). inr g) (i (r .0) s)
-step (move-leg c leg offset (Granted d)) y ys t part last r s i = absurd s
-step (move-leg c leg offset (Refused l p d)) y ys t part last (u, r, out, m) s i = i (subst (Run (y ∷ ys)) (sym (m .2)) r) s
+step (move-leg c mv (Granted d)) y ys t part last r s i = absurd s
+step (move-leg c mv (Refused l p d)) y ys t part last (u, r, out, m) s i = i (subst (Run (y ∷ ys)) (sym (m .2)) r) s
 
 progress : (part : List Call) (last : Call) (earlier : List Call) (t : List ℕ)
     → Run (part ++ last ∷ earlier) t → Renews last → Since (withoutRefused part) last → HasVerdict part ⊎ Progress t (withoutRefused part) last
@@ -195,7 +196,7 @@ newest-right [] t r = absurd r
 newest-right (start (Granted d) ∷ []) t r = start-right r
 newest-right (start (Refused k p d) ∷ []) t r = absurd r
 newest-right (slice c b a ∷ []) t r = absurd r
-newest-right (move-leg c leg offset g ∷ []) t r = absurd r
+newest-right (move-leg c mv g ∷ []) t r = absurd r
 newest-right (start (Granted d) ∷ call ∷ earlier) t (r, s) = start-right s
 newest-right (start (Refused k p d) ∷ call ∷ earlier) t (r, s) = newest-right (call ∷ earlier) t r
 newest-right (slice c b (answer.Violated d n q) ∷ call ∷ earlier) t (r, out, s) =
@@ -205,18 +206,18 @@ newest-right (slice c b (answer.NothingViolated d n) ∷ call ∷ earlier) t (r,
 newest-right (slice c b (answer.Paused d n) ∷ call ∷ earlier) t (r, out, s) =
     record { shape = s .0 .shape; revision = s .1 .went .revision; stands = inl (s .1 .place) }
 newest-right (slice c b (answer.Refused k p d) ∷ call ∷ earlier) t (r, out, s) = newest-right (call ∷ earlier) t r
-newest-right (move-leg c leg offset (Granted d) ∷ call ∷ earlier) t r = renewed (move-leg c leg offset (Granted d)) (call ∷ earlier) t r tt
-newest-right (move-leg c leg offset (Refused k p d) ∷ call ∷ earlier) t (u, r, out, m) = newest-right (call ∷ earlier) t (subst (Run (call ∷ earlier)) (sym (m .2)) r)
+newest-right (move-leg c mv (Granted d) ∷ call ∷ earlier) t r = renewed (move-leg c mv (Granted d)) (call ∷ earlier) t r tt
+newest-right (move-leg c mv (Refused k p d) ∷ call ∷ earlier) t (u, r, out, m) = newest-right (call ∷ earlier) t (subst (Run (call ∷ earlier)) (sym (m .2)) r)
 
 -- What is refused of a right cursor: nothing of a slice, and of a move a leg that is not there or a revision that cannot rise.
-pub move-refused : {t : List ℕ} {c : Cursor} {leg k p : ℕ} → CursorRight t c → leg < legCount t → revisionOf t < maxWord → MoveFault t c leg k p → ⊥
+pub move-refused : {t : List ℕ} {c : Cursor} {mv : Move} {k p : ℕ} → CursorRight t c → mv .leg < legCount t → revisionOf t < maxWord → MoveFault t c mv k p → ⊥
 move-refused r below rises (inl f) = right-no-fault r f
 move-refused r below rises (inr w) = ⊎-elim (λ x. omega (arith, x .not-below, below)) (λ x. omega (arith, x .last, rises)) (w .cause)
 
 pub runs-go-on : RunsGoOn
 runs-go-on = record {
   slice = λ calls t latest before b k p d r e s. right-no-fault (subst (NewestRight t) e (newest-right calls t r)) (s .0);
-  move-leg = λ calls t latest before leg offset k p d u r e below rises m. move-refused (subst (NewestRight t) e (newest-right calls t r)) below rises (m .0);
+  move-leg = λ calls t latest before mv k p d u r e below rises m. move-refused (subst (NewestRight t) e (newest-right calls t r)) below rises (m .0);
 }
 
 pub runs-keep-shape : RunsKeepShape

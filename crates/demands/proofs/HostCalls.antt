@@ -3,17 +3,17 @@
 use Prim.Native.Nat.{ℕ, _≤_, _<_}
 use mathlib.Core.Path.{_≡_, _∙_, sym, ap, subst}
 use mathlib.Core.List.{List}
-use mathlib.Core.Logic.{inl, inr, ⊎-elim}
-use lib.ListN.{length, take, getD}
+use mathlib.Core.Logic.{inl, inr}
+use lib.ListN.{length, take}
 use native.Mathlib.Omega.{arith}
-use Rattle.basics.proofs.Splits.{eq-or-ne}
 use Rattle.numbers.specs.Number.{maxWord}
 use Rattle.numbers.specs.Series.{AllWords, fileOf}
 use Rattle.numbers.proofs.Overlay.{overlaid-taken}
 use Rattle.numbers.proofs.Rows.{words-of}
 use Rattle.table.specs.Layout.{revisionOf, legCount, Sized}
-use Rattle.table.specs.Records.{revisionAt, offsetAt, moved}
-use Rattle.table.proofs.Moved.{moved-word, moved-revision, offset-word}
+use Rattle.table.specs.Records.{moved}
+use Rattle.table.specs.declared.Move.{Move}
+use Rattle.table.proofs.Moved.{moved-each}
 use Rattle.shape.proofs.Moved.{moves-keep-shape, moved-same}
 use Rattle.files.specs.Reading.{IsFile}
 use Rattle.files.specs.Cursors.{cursorWords, ReadsCursor}
@@ -31,7 +31,7 @@ use Rattle.host.specs.Answers.{sliceAnswered, startAnswered, bytesAfterSlice, b
 use Rattle.host.specs.Calls.{Lent, AfterMove, HostStarts, HostSlices, HostMoves}
 use Rattle.host.specs.declared.Answer.{Answer}
 use Rattle.demands.specs.Runs.{cursorOfAnswer}
-use Rattle.demands.specs.HostRuns.{savedIn, NotRefused}
+use Rattle.demands.specs.HostRuns.{savedIn, MoveOfWords, NotRefused}
 use Rattle.demands.proofs.SavedCursors.{holds-cursor, word-at, cursor-words}
 
 -- A start that was not refused.
@@ -94,37 +94,29 @@ slice-carried plan cursor b out a out′ h (inr (t, f, inr (c, g, inr x))) =
     }
 
 -- A move that was not refused.
-pub record MoveCarried (old cursor : List ℕ) (leg offset : ℕ) (m′ : Lent) (plan : List ℕ) : Type 0 where
+pub record MoveCarried (old cursor : List ℕ) (mv : Move) (m′ : Lent) (plan : List ℕ) : Type 0 where
   pub before : List ℕ
   pub before-file : IsFile Sized old before
   pub from : Cursor
   pub given : ReadsCursor cursor (read.Saved from)
   pub to : Cursor
   pub table : List ℕ
-  pub moves : Moves before from leg offset (grant.Granted to) table
+  pub moves : Moves before from mv (grant.Granted to) table
   pub file : IsFile Sized plan table
   pub left : ReadsCursor (savedIn (m′ .out)) (read.Saved to)
 
-moved-words : (t : List ℕ) (leg offset : ℕ) (z : Sized t) (below : leg < legCount t) → AllWords t → offset ≤ maxWord → revisionOf t < maxWord → AllWords (moved t leg offset)
-moved-words t leg offset z below w o r =
-    words-of (moved t leg offset)
-    (λ i. ⊎-elim
-    (λ (e : i ≡ revisionAt). subst (λ (j : ℕ). getD (moved t leg offset) j 0 ≤ maxWord) (sym e) (omega (arith, moved-revision t z leg offset below, r)))
-    (λ (n : i ≡ revisionAt → ⊥). ⊎-elim
-    (λ (e : i ≡ offsetAt t leg). subst (λ (j : ℕ). getD (moved t leg offset) j 0 ≤ maxWord) (sym e) (omega (arith, offset-word t z leg offset below, o)))
-    (λ (k : i ≡ offsetAt t leg → ⊥). omega (arith, moved-word t z leg offset below i n k, word-at t w i))
-    (eq-or-ne i (offsetAt t leg)))
-    (eq-or-ne i revisionAt))
+moved-words : (t : List ℕ) (mv : Move) (z : Sized t) (below : mv .leg < legCount t) → AllWords t → MoveOfWords mv → revisionOf t < maxWord → AllWords (moved t mv)
+moved-words t mv z below w o r = words-of (moved t mv) (moved-each t z mv below (λ (n : ℕ). n ≤ maxWord) (λ i. word-at t w i) (omega (arith, r)) o)
 
-move-of : (old plan cursor t : List ℕ) (c : Cursor) (leg offset : ℕ) (m m′ : Lent) (g : Grant) (u : List ℕ) (a : Answer)
-    → IsFile Sized old t → ReadsCursor cursor (read.Saved c) → offset ≤ maxWord → Moves t c leg offset g u → NotRefused a → AfterMove g u m a m′
-    → plan ≡ take (a .beside) (m′ .file) → MoveCarried old cursor leg offset m′ plan
-move-of old plan cursor t c leg offset m m′ (grant.Granted d) u a f q o r h (inl x) e = absurd (omega (arith, ap resultAlone (x .answer), h))
-move-of old plan cursor t c leg offset m m′ (grant.Granted d) u a f q o r h (inr x) e =
+move-of : (old plan cursor t : List ℕ) (c : Cursor) (mv : Move) (m m′ : Lent) (g : Grant) (u : List ℕ) (a : Answer)
+    → IsFile Sized old t → ReadsCursor cursor (read.Saved c) → MoveOfWords mv → Moves t c mv g u → NotRefused a → AfterMove g u m a m′
+    → plan ≡ take (a .beside) (m′ .file) → MoveCarried old cursor mv m′ plan
+move-of old plan cursor t c mv m m′ (grant.Granted d) u a f q o r h (inl x) e = absurd (omega (arith, ap resultAlone (x .answer), h))
+move-of old plan cursor t c mv m m′ (grant.Granted d) u a f q o r h (inr x) e =
     let y = x .1 in
     let w = r .cursor .shape in
-    let z : Sized u = subst Sized (sym (r .table)) (moves-keep-shape t _ (moved-same t (w .sized) leg offset (r .below)) w .sized) in
-    let ws : AllWords u = subst AllWords (sym (r .table)) (moved-words t leg offset (w .sized) (r .below) (f .words) o (r .rises)) in
+    let z : Sized u = subst Sized (sym (r .table)) (moves-keep-shape t _ (moved-same t (w .sized) mv (r .below)) w .sized) in
+    let ws : AllWords u = subst AllWords (sym (r .table)) (moved-words t mv (w .sized) (r .below) (f .words) o (r .rises)) in
     let size : a .beside ≡ length (fileOf u) = ap (λ (b : Answer). b .beside) (y .answer) in
     let bytes : plan ≡ fileOf u
     = e ∙ ap (λ (n : ℕ). take n (m′ .file)) size ∙ ap (λ (l : Lent). take (length (fileOf u)) (l .file)) (y .after) ∙ overlaid-taken (m .file) (fileOf u) in
@@ -141,18 +133,18 @@ move-of old plan cursor t c leg offset m m′ (grant.Granted d) u a f q o r h (i
       file = record { complete = z; words = ws; bytes = bytes };
       left = holds-cursor (m .out) (m′ .out) d dw (ap (λ (l : Lent). l .out) (y .after));
     }
-move-of old plan cursor t c leg offset m m′ (grant.Refused l p d) u a f q o r h x e = absurd (omega (arith, ap resultAlone (x .0), h))
+move-of old plan cursor t c mv m m′ (grant.Refused l p d) u a f q o r h x e = absurd (omega (arith, ap resultAlone (x .0), h))
 
-pub move-carried : (old plan cursor : List ℕ) (leg offset : ℕ) (m m′ : Lent) (a : Answer) → offset ≤ maxWord → NotRefused a → HostMoves old cursor leg offset m a m′
-    → plan ≡ take (a .beside) (m′ .file) → MoveCarried old cursor leg offset m′ plan
-move-carried old plan cursor leg offset m m′ a o h (inl r) e = absurd (omega (arith, ap resultAlone (r .answer), h))
-move-carried old plan cursor leg offset m m′ a o h (inr (t, f, inl r)) e = absurd (omega (arith, ap resultAlone (r .answer), h))
-move-carried old plan cursor leg offset m m′ a o h (inr (t, f, inr (c, g, inl r))) e = absurd (omega (arith, ap resultAlone (r .answer), h))
-move-carried old plan cursor leg offset m m′ a o h (inr (t, f, inr (c, g, inr x))) e =
-    let s = x .1 in move-of old plan cursor t c leg offset m m′ (s .given) (s .table) a f g o (s .moves) h (s .after) e
+pub move-carried : (old plan cursor : List ℕ) (mv : Move) (m m′ : Lent) (a : Answer) → MoveOfWords mv → NotRefused a → HostMoves old cursor mv m a m′
+    → plan ≡ take (a .beside) (m′ .file) → MoveCarried old cursor mv m′ plan
+move-carried old plan cursor mv m m′ a o h (inl r) e = absurd (omega (arith, ap resultAlone (r .answer), h))
+move-carried old plan cursor mv m m′ a o h (inr (t, f, inl r)) e = absurd (omega (arith, ap resultAlone (r .answer), h))
+move-carried old plan cursor mv m m′ a o h (inr (t, f, inr (c, g, inl r))) e = absurd (omega (arith, ap resultAlone (r .answer), h))
+move-carried old plan cursor mv m m′ a o h (inr (t, f, inr (c, g, inr x))) e =
+    let s = x .1 in move-of old plan cursor t c mv m m′ (s .given) (s .table) a f g o (s .moves) h (s .after) e
 
 pub slices-of : (t u : List ℕ) (c d : Cursor) (budget : ℕ) (x : SliceAnswer) → u ≡ t → d ≡ c → Slices u d budget x → Slices t c budget x
 slices-of t u c d b x e f s = subst (λ (v : List ℕ). Slices v c b x) e (subst (λ (k : Cursor). Slices u k b x) f s)
 
-pub moves-of : (t u : List ℕ) (c d : Cursor) (leg offset : ℕ) (g : Grant) (v : List ℕ) → u ≡ t → d ≡ c → Moves u d leg offset g v → Moves t c leg offset g v
-moves-of t u c d leg offset g v e f s = subst (λ (w : List ℕ). Moves w c leg offset g v) e (subst (λ (k : Cursor). Moves u k leg offset g v) f s)
+pub moves-of : (t u : List ℕ) (c d : Cursor) (mv : Move) (g : Grant) (v : List ℕ) → u ≡ t → d ≡ c → Moves u d mv g v → Moves t c mv g v
+moves-of t u c d mv g v e f s = subst (λ (w : List ℕ). Moves w c mv g v) e (subst (λ (k : Cursor). Moves u k mv g v) f s)

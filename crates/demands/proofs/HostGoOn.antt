@@ -8,6 +8,7 @@ use lib.ListN.{length}
 use native.Mathlib.Omega.{arith}
 use Rattle.numbers.specs.Number.{maxWord, noRoom}
 use Rattle.table.specs.Layout.{revisionOf, legCount, Sized}
+use Rattle.table.specs.declared.Move.{Move}
 use Rattle.files.specs.Reading.{IsFile}
 use Rattle.files.specs.Cursors.{ReadsCursor}
 use Rattle.files.specs.Theorems.{maxCursorBytes}
@@ -53,15 +54,15 @@ newest-right : (h : HostCall) (c : Call) (cs : List Call) (t : List ℕ) → Mir
 newest-right (start a out) (runs.start (grant.Granted d)) cs t m r = renewed (runs.start (grant.Granted d)) cs t r tt
 newest-right (start a out) (runs.start (grant.Refused k p d)) cs t m r = absurd m
 newest-right (start a out) (runs.slice c b x) cs t m r = absurd m
-newest-right (start a out) (runs.move-leg c l o g) cs t m r = absurd m
+newest-right (start a out) (runs.move-leg c mv g) cs t m r = absurd m
 newest-right (slice s n a out) (runs.start g) cs t m r = absurd m
 newest-right (slice s n a out) (runs.slice c b x) [] t m r = absurd r
 newest-right (slice s n a out) (runs.slice c b x) (k ∷ ks) t m r = sliced-right t c b x a (m .not-refused) (m .answer) (r .2)
-newest-right (slice s n a out) (runs.move-leg c l o g) cs t m r = absurd m
-newest-right (move-leg s l o a q) (runs.start g) cs t m r = absurd m
-newest-right (move-leg s l o a q) (runs.slice c b x) cs t m r = absurd m
-newest-right (move-leg s l o a q) (runs.move-leg c k p (grant.Granted d)) cs t m r = renewed (runs.move-leg c k p (grant.Granted d)) cs t r tt
-newest-right (move-leg s l o a q) (runs.move-leg c k p (grant.Refused i j d)) cs t m r = absurd m
+newest-right (slice s n a out) (runs.move-leg c mv g) cs t m r = absurd m
+newest-right (move-leg s mv a q) (runs.start g) cs t m r = absurd m
+newest-right (move-leg s mv a q) (runs.slice c b x) cs t m r = absurd m
+newest-right (move-leg s mv a q) (runs.move-leg c nv (grant.Granted d)) cs t m r = renewed (runs.move-leg c nv (grant.Granted d)) cs t r tt
+newest-right (move-leg s mv a q) (runs.move-leg c nv (grant.Refused i j d)) cs t m r = absurd m
 
 -- A slice from a right cursor and a start of a well-formed table are not refused.
 rule-below : (r : Rule) → ruleResult r < refusedResult 0
@@ -105,24 +106,24 @@ slices-go-on latest earlier plan b out a out′ i h (inr (t, f, inr (c, g, inr x
     slice-answers t c b (x .1 .given) a (given-right latest earlier plan t c i f g) (x .1 .slices) (x .1 .answer)
 
 -- A granted move has room for its file, and from a right cursor no other fault is left.
-move-answers : (t : List ℕ) (c : Cursor) (leg offset : ℕ) (m : Lent) (g : Grant) (u : List ℕ) (a : Answer) (m′ : Lent)
-    → CursorRight t c → leg < legCount t → revisionOf t < maxWord → (a .result ≡ refusedResult noRoom → ⊥) → Moves t c leg offset g u → AfterMove g u m a m′ → NotRefused a
-move-answers t c leg offset m (grant.Granted d) u a m′ r below rises room x (inl y) = absurd (room (omega (arith, ap resultAlone (y .answer), y .fault .number)))
-move-answers t c leg offset m (grant.Granted d) u a m′ r below rises room x (inr y) = omega (arith, ap resultAlone (y .1 .answer))
-move-answers t c leg offset m (grant.Refused k p d) u a m′ r below rises room x y = absurd (move-refused r below rises (x .0))
+move-answers : (t : List ℕ) (c : Cursor) (mv : Move) (m : Lent) (g : Grant) (u : List ℕ) (a : Answer) (m′ : Lent)
+    → CursorRight t c → mv .leg < legCount t → revisionOf t < maxWord → (a .result ≡ refusedResult noRoom → ⊥) → Moves t c mv g u → AfterMove g u m a m′ → NotRefused a
+move-answers t c mv m (grant.Granted d) u a m′ r below rises room x (inl y) = absurd (room (omega (arith, ap resultAlone (y .answer), y .fault .number)))
+move-answers t c mv m (grant.Granted d) u a m′ r below rises room x (inr y) = omega (arith, ap resultAlone (y .1 .answer))
+move-answers t c mv m (grant.Refused k p d) u a m′ r below rises room x y = absurd (move-refused r below rises (x .0))
 
-moves-go-on : (latest : HostCall) (earlier : List HostCall) (plan t : List ℕ) (leg offset : ℕ) (m : Lent) (a : Answer) (m′ : Lent)
-    → Carried (latest ∷ earlier) plan → IsFile Sized plan t → leg < legCount t → revisionOf t < maxWord → maxCursorBytes ≤ length (m .out)
-    → (a .result ≡ refusedResult noRoom → ⊥) → HostMoves plan (savedIn (bytesLeft latest)) leg offset m a m′ → NotRefused a
-moves-go-on latest earlier plan t leg offset m a m′ i is below rises h room (inl x) = absurd (file-no-fault (i .file) (x .fault))
-moves-go-on latest earlier plan t leg offset m a m′ i is below rises h room (inr (u, f, inl x)) =
+moves-go-on : (latest : HostCall) (earlier : List HostCall) (plan t : List ℕ) (mv : Move) (m : Lent) (a : Answer) (m′ : Lent)
+    → Carried (latest ∷ earlier) plan → IsFile Sized plan t → mv .leg < legCount t → revisionOf t < maxWord → maxCursorBytes ≤ length (m .out)
+    → (a .result ≡ refusedResult noRoom → ⊥) → HostMoves plan (savedIn (bytesLeft latest)) mv m a m′ → NotRefused a
+moves-go-on latest earlier plan t mv m a m′ i is below rises h room (inl x) = absurd (file-no-fault (i .file) (x .fault))
+moves-go-on latest earlier plan t mv m a m′ i is below rises h room (inr (u, f, inl x)) =
     absurd (saved-not-unread (savedIn (bytesLeft latest)) (cursorOf (i .latest)) (x .number) (x .at) (left-is latest (i .latest) (i .mirrored .0)) (x .fault))
-moves-go-on latest earlier plan t leg offset m a m′ i is below rises h room (inr (u, f, inr (c, g, inl x))) = absurd (omega (arith, x .fault .fewer, h))
-moves-go-on latest earlier plan t leg offset m a m′ i is below rises h room (inr (u, f, inr (c, g, inr x))) =
+moves-go-on latest earlier plan t mv m a m′ i is below rises h room (inr (u, f, inr (c, g, inl x))) = absurd (omega (arith, x .fault .fewer, h))
+moves-go-on latest earlier plan t mv m a m′ i is below rises h room (inr (u, f, inr (c, g, inr x))) =
     let k = given-right latest earlier plan u c i f g in
     let same = same-file is f in
-    move-answers u c leg offset m (x .1 .given) (x .1 .table) a m′ k
-    (subst (λ (v : List ℕ). leg < legCount v) same below) (subst (λ (v : List ℕ). revisionOf v < maxWord) same rises) room (x .1 .moves) (x .1 .after)
+    move-answers u c mv m (x .1 .given) (x .1 .table) a m′ k
+    (subst (λ (v : List ℕ). mv .leg < legCount v) same below) (subst (λ (v : List ℕ). revisionOf v < maxWord) same rises) room (x .1 .moves) (x .1 .after)
 
 verdict-of : (x : SliceAnswer) (a : Answer) (out : List ℕ) → NotRefused a → a ≡ sliceAnswered x → ReadsCursor (savedIn out) (read.Saved (cursorOfAnswer x))
     → (a .result ≡ 1 → ⊥) → (v : Verdict) × HostGives a out v
@@ -135,9 +136,9 @@ pub host-runs-go-on : HostRunsGoOn
 host-runs-go-on = record {
   start = λ calls plan out a out′ r h x. starts-go-on calls plan out a out′ (carried calls plan r) h x;
   slice = λ latest earlier plan b out a out′ r h x. slices-go-on latest earlier plan b out a out′ (carried (latest ∷ earlier) plan r) h x;
-  move-leg = λ latest earlier plan t leg offset m a m′ r is below rises h room x.
-      moves-go-on latest earlier plan t leg offset m a m′ (carried (latest ∷ earlier) plan r) is below rises h
-      (move-room-is-enough plan (savedIn (bytesLeft latest)) leg offset m a m′ h room x) x;
+  move-leg = λ latest earlier plan t mv m a m′ r is below rises h room x.
+      moves-go-on latest earlier plan t mv m a m′ (carried (latest ∷ earlier) plan r) is below rises h
+      (move-room-is-enough plan (savedIn (bytesLeft latest)) mv m a m′ h room x) x;
   verdict = λ plan cursor b a out y p.
       let s = slice-carried plan cursor b (y .out) a out (y .not-refused) (y .slices) in verdict-of (s .told) a out (y .not-refused) (s .answer) (s .left) p;
 }

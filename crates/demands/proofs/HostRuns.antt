@@ -44,14 +44,14 @@ abbrev pub Mirrors : HostCall → Call → Type 0
 Mirrors (start a out) (runs.start (grant.Granted d)) = ReadsCursor (savedIn out) (read.Saved d)
 Mirrors (start a out) (runs.start (grant.Refused k p d)) = ⊥
 Mirrors (start a out) (runs.slice c b x) = ⊥
-Mirrors (start a out) (runs.move-leg c l o g) = ⊥
+Mirrors (start a out) (runs.move-leg c mv g) = ⊥
 Mirrors (slice s n a out) (runs.start g) = ⊥
 Mirrors (slice s n a out) (runs.slice c b x) = SliceMirrored s n a out c b x
-Mirrors (slice s n a out) (runs.move-leg c l o g) = ⊥
-Mirrors (move-leg s l o a m) (runs.start g) = ⊥
-Mirrors (move-leg s l o a m) (runs.slice c b x) = ⊥
-Mirrors (move-leg s l o a m) (runs.move-leg c k p (grant.Granted d)) = ReadsCursor (savedIn (m .out)) (read.Saved d)
-Mirrors (move-leg s l o a m) (runs.move-leg c k p (grant.Refused i j d)) = ⊥
+Mirrors (slice s n a out) (runs.move-leg c mv g) = ⊥
+Mirrors (move-leg s mv a m) (runs.start g) = ⊥
+Mirrors (move-leg s mv a m) (runs.slice c b x) = ⊥
+Mirrors (move-leg s mv a m) (runs.move-leg c nv (grant.Granted d)) = ReadsCursor (savedIn (m .out)) (read.Saved d)
+Mirrors (move-leg s mv a m) (runs.move-leg c nv (grant.Refused i j d)) = ⊥
 
 abbrev pub AllMirror : List HostCall → List Call → Type 0
 AllMirror [] [] = Unit {0}
@@ -64,14 +64,14 @@ pub left-is : (h : HostCall) (c : Call) → Mirrors h c → ReadsCursor (savedIn
 left-is (start a out) (runs.start (grant.Granted d)) m = m
 left-is (start a out) (runs.start (grant.Refused k p d)) m = absurd m
 left-is (start a out) (runs.slice c b x) m = absurd m
-left-is (start a out) (runs.move-leg c l o g) m = absurd m
+left-is (start a out) (runs.move-leg c mv g) m = absurd m
 left-is (slice s n a out) (runs.start g) m = absurd m
 left-is (slice s n a out) (runs.slice c b x) m = m .left
-left-is (slice s n a out) (runs.move-leg c l o g) m = absurd m
-left-is (move-leg s l o a q) (runs.start g) m = absurd m
-left-is (move-leg s l o a q) (runs.slice c b x) m = absurd m
-left-is (move-leg s l o a q) (runs.move-leg c k p (grant.Granted d)) m = m
-left-is (move-leg s l o a q) (runs.move-leg c k p (grant.Refused i j d)) m = absurd m
+left-is (slice s n a out) (runs.move-leg c mv g) m = absurd m
+left-is (move-leg s mv a q) (runs.start g) m = absurd m
+left-is (move-leg s mv a q) (runs.slice c b x) m = absurd m
+left-is (move-leg s mv a q) (runs.move-leg c nv (grant.Granted d)) m = m
+left-is (move-leg s mv a q) (runs.move-leg c nv (grant.Refused i j d)) m = absurd m
 
 handed : (s : List ℕ) (hs : List HostCall) (cs : List Call) → AllMirror hs cs → LeftBy s hs → (c : Cursor) × ReadsCursor s (read.Saved c) × HandedOut c cs
 handed s [] cs m l = absurd l
@@ -108,7 +108,7 @@ carried (start a out ∷ []) plan x =
     let s = start-carried plan (x .out) a out (x .not-refused) (x .starts) in
     record { latest = runs.start (grant.Granted (s .cursor)); earlier = []; table = s .table; file = s .file; run = s .starts; mirrored = (s .left, tt) }
 carried (slice cursor budget a out ∷ []) plan x = absurd x
-carried (move-leg cursor leg offset a m ∷ []) plan x = absurd x
+carried (move-leg cursor mv a m ∷ []) plan x = absurd x
 carried (start a out ∷ call ∷ calls) plan x =
     let i = carried (call ∷ calls) plan (x .0) in
     let y = x .1 in
@@ -123,18 +123,18 @@ carried (start a out ∷ call ∷ calls) plan x =
       mirrored = (s .left, i .mirrored);
     }
 carried (slice cursor budget a out ∷ call ∷ calls) plan x = carry-slice call calls plan cursor budget a out (carried (call ∷ calls) plan (x .0)) (x .1) (x .2)
-carried (move-leg cursor leg offset a m ∷ call ∷ calls) plan x =
+carried (move-leg cursor mv a m ∷ call ∷ calls) plan x =
     let i = carried (call ∷ calls) (x .0) (x .1) in
     let y = x .3 in
-    let s = move-carried (x .0) plan cursor leg offset (y .m) m a (y .word) (y .not-refused) (y .moves) (y .new) in
+    let s = move-carried (x .0) plan cursor mv (y .m) m a (y .words) (y .not-refused) (y .moves) (y .new) in
     let c = handed cursor (call ∷ calls) (i .latest ∷ i .earlier) (i .mirrored) (x .2) in
     let g = grant.Granted (s .to) in
     record {
-      latest = runs.move-leg (c .0) leg offset g;
+      latest = runs.move-leg (c .0) mv g;
       earlier = i .latest ∷ i .earlier;
       table = s .table;
       file = s .file;
-      run = (i .table, i .run, c .2, moves-of (i .table) (s .before) (c .0) (s .from) leg offset g (s .table) (same-file (s .before-file) (i .file)) (saved-one cursor (s .from) (c .0) (s .given) (c .1)) (s .moves));
+      run = (i .table, i .run, c .2, moves-of (i .table) (s .before) (c .0) (s .from) mv g (s .table) (same-file (s .before-file) (i .file)) (saved-one cursor (s .from) (c .0) (s .given) (c .1)) (s .moves));
       mirrored = (s .left, i .mirrored);
     }
 
@@ -201,12 +201,12 @@ parted (h ∷ hs) ks (c ∷ cs) m =
 renews-too : (h : HostCall) (c : Call) → Mirrors h c → HostRenews h → runs.Renews c
 renews-too (start a out) (runs.start g) m r = tt
 renews-too (start a out) (runs.slice c b x) m r = absurd m
-renews-too (start a out) (runs.move-leg c l o g) m r = absurd m
+renews-too (start a out) (runs.move-leg c mv g) m r = absurd m
 renews-too (slice s n a out) c m r = absurd r
-renews-too (move-leg s l o a q) (runs.start g) m r = absurd m
-renews-too (move-leg s l o a q) (runs.slice c b x) m r = absurd m
-renews-too (move-leg s l o a q) (runs.move-leg c k p (grant.Granted d)) m r = tt
-renews-too (move-leg s l o a q) (runs.move-leg c k p (grant.Refused i j d)) m r = absurd m
+renews-too (move-leg s mv a q) (runs.start g) m r = absurd m
+renews-too (move-leg s mv a q) (runs.slice c b x) m r = absurd m
+renews-too (move-leg s mv a q) (runs.move-leg c nv (grant.Granted d)) m r = tt
+renews-too (move-leg s mv a q) (runs.move-leg c nv (grant.Refused i j d)) m r = absurd m
 
 newest-is : (hs : List HostCall) (h : HostCall) (cs : List Call) (c : Call) → AllMirror hs cs → Mirrors h c → ReadsCursor (newestLeft hs h) (read.Saved (runs.newest cs c))
 newest-is [] h [] c m n = left-is h c n
@@ -219,17 +219,17 @@ mirror-made : (h : HostCall) (c : Call) → Mirrors h c → runs.refused c ≡ f
 mirror-made (start a out) (runs.start (grant.Granted d)) m = refl
 mirror-made (start a out) (runs.start (grant.Refused k p d)) m = absurd m
 mirror-made (start a out) (runs.slice c b x) m = absurd m
-mirror-made (start a out) (runs.move-leg c l o g) m = absurd m
+mirror-made (start a out) (runs.move-leg c mv g) m = absurd m
 mirror-made (slice s n a out) (runs.start g) m = absurd m
 mirror-made (slice s n a out) (runs.slice c b (answer.Violated d k r)) m = refl
 mirror-made (slice s n a out) (runs.slice c b (answer.NothingViolated d k)) m = refl
 mirror-made (slice s n a out) (runs.slice c b (answer.Paused d k)) m = refl
 mirror-made (slice s n a out) (runs.slice c b (answer.Refused k p d)) m = absurd (omega (arith, ap resultAlone (m .answer), m .not-refused))
-mirror-made (slice s n a out) (runs.move-leg c l o g) m = absurd m
-mirror-made (move-leg s l o a q) (runs.start g) m = absurd m
-mirror-made (move-leg s l o a q) (runs.slice c b x) m = absurd m
-mirror-made (move-leg s l o a q) (runs.move-leg c k p (grant.Granted d)) m = refl
-mirror-made (move-leg s l o a q) (runs.move-leg c k p (grant.Refused i j d)) m = absurd m
+mirror-made (slice s n a out) (runs.move-leg c mv g) m = absurd m
+mirror-made (move-leg s mv a q) (runs.start g) m = absurd m
+mirror-made (move-leg s mv a q) (runs.slice c b x) m = absurd m
+mirror-made (move-leg s mv a q) (runs.move-leg c nv (grant.Granted d)) m = refl
+mirror-made (move-leg s mv a q) (runs.move-leg c nv (grant.Refused i j d)) m = absurd m
 
 all-made : (hs : List HostCall) (cs : List Call) → AllMirror hs cs → runs.withoutRefused cs ≡ cs
 all-made [] [] m = refl
@@ -254,10 +254,10 @@ part-is : (hs : List HostCall) (h : HostCall) (cs : List Call) (c : Call) → Al
 part-is [] h [] c m n s = record { since = tt; budgets = refl; verdict = λ x. x }
 part-is [] h (d ∷ cs) c m n s = absurd m
 part-is (start a out ∷ hs) h cs c m n s = absurd s
-part-is (move-leg q l o a k ∷ hs) h cs c m n s = absurd s
+part-is (move-leg q mv a k ∷ hs) h cs c m n s = absurd s
 part-is (slice q b a out ∷ hs) h [] c m n s = absurd m
 part-is (slice q b a out ∷ hs) h (runs.start g ∷ cs) c m n s = absurd (m .0)
-part-is (slice q b a out ∷ hs) h (runs.move-leg d l o g ∷ cs) c m n s = absurd (m .0)
+part-is (slice q b a out ∷ hs) h (runs.move-leg d mv g ∷ cs) c m n s = absurd (m .0)
 part-is (slice q b a out ∷ hs) h (runs.slice d k x ∷ cs) c m n s =
     let i = part-is hs h cs c (m .1) n (s .1) in
     let w = m .0 in
@@ -271,9 +271,9 @@ part-is (slice q b a out ∷ hs) h (runs.slice d k x ∷ cs) c m n s =
 has-slice : (hs : List HostCall) (h : HostCall) (first : HostCall) (cs : List Call) → AllMirror (first ∷ hs) cs → HostSince (first ∷ hs) h → runs.HasSlice cs
 has-slice hs h first [] m s = absurd m
 has-slice hs h (start a out) (c ∷ cs) m s = absurd s
-has-slice hs h (move-leg q l o a k) (c ∷ cs) m s = absurd s
+has-slice hs h (move-leg q mv a k) (c ∷ cs) m s = absurd s
 has-slice hs h (slice q b a out) (runs.start g ∷ cs) m s = absurd (m .0)
-has-slice hs h (slice q b a out) (runs.move-leg d l o g ∷ cs) m s = absurd (m .0)
+has-slice hs h (slice q b a out) (runs.move-leg d mv g ∷ cs) m s = absurd (m .0)
 has-slice hs h (slice q b a out) (runs.slice d k x ∷ cs) m s = tt
 
 in-time-of : (first : HostCall) (part : List HostCall) (last : HostCall) (earlier : List HostCall) (t : List ℕ) (fs bs : List Call)

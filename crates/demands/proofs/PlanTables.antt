@@ -7,6 +7,7 @@ use mathlib.Core.Logic.{_⊎_, inl, inr}
 use native.Mathlib.Omega.{arith}
 use Rattle.numbers.specs.Number.{maxWord}
 use Rattle.table.specs.Records.{moved}
+use Rattle.table.specs.declared.Move.{Move}
 use Rattle.table.specs.PlanA.{planWith}
 use Rattle.table.proofs.MovedPlans.{revisedA}
 use Rattle.shape.specs.Shape.{WellFormedTable}
@@ -51,10 +52,10 @@ module _ (revision o0 o1 o2 : ℕ) where
   pub right : (a p : ℕ) → PlaceOrEnd t a p → CursorRight t (at revision a p)
   right a p s = record { shape = shape; revision = refl; stands = s }
 
-  pub granted : (a p leg offset b q : ℕ) → revision < maxWord → PlaceOrEnd t a p → leg < 3
-      → ((b ≡ a) × (q ≡ p)) ⊎ ((b ≡ leg) × (q ≡ 0)) → rank b q ≤ rank a p → rank b q ≤ rank leg 0
-      → Moves t (at revision a p) leg offset (Granted (at (revision + 1) b q)) (moved t leg offset)
-  granted a p leg offset b q rises s l one given to-leg = record {
+  pub granted : (a p : ℕ) (mv : Move) (b q : ℕ) → revision < maxWord → PlaceOrEnd t a p → mv .leg < 3
+      → ((b ≡ a) × (q ≡ p)) ⊎ ((b ≡ mv .leg) × (q ≡ 0)) → rank b q ≤ rank a p → rank b q ≤ rank (mv .leg) 0
+      → Moves t (at revision a p) mv (Granted (at (revision + 1) b q)) (moved t mv)
+  granted a p mv b q rises s l one given to-leg = record {
     cursor = right a p s;
     below = l;
     rises = rises;

@@ -8,6 +8,7 @@ use native.Mathlib.Omega.{arith}
 use Rattle.basics.proofs.Splits.{lt-or-ge}
 use Rattle.table.specs.Layout.{revisionOf, legCount}
 use Rattle.table.specs.Records.{moved}
+use Rattle.table.specs.declared.Move.{Move}
 use Rattle.table.proofs.Moved.{moved-revision, moved-legs, moved-other}
 use Rattle.shape.specs.Shape.{WellFormedTable}
 use Rattle.shape.proofs.OneShape.{well-no-fault}
@@ -58,26 +59,26 @@ kept-slice t c b (answer.Paused d n) k s = kept-went (s .0) k (s .1 .went)
 kept-slice t c b (answer.Refused l p d) k s = subst (Kept t) (sym (s .1)) k
 
 -- A granted move: what was moved lies behind the new cursor, and older cursors are of an older revision.
-module _ (u : List ℕ) (c d : Cursor) (leg offset : ℕ) (m : MoveRight u c leg offset d (moved u leg offset)) where
+module _ (u : List ℕ) (c d : Cursor) (mv : Move) (m : MoveRight u c mv d (moved u mv)) where
   abbrev t : List ℕ
-  t = moved u leg offset
+  t = moved u mv
 
   shape-moved : WellFormedTable t
-  shape-moved = moves-keep-shape u t (moved-same u (m .cursor .shape .sized) leg offset (m .below)) (m .cursor .shape)
+  shape-moved = moves-keep-shape u t (moved-same u (m .cursor .shape .sized) mv (m .below)) (m .cursor .shape)
 
   revision-moved : revisionOf t ≡ revisionOf u + 1
-  revision-moved = moved-revision u (m .cursor .shape .sized) leg offset (m .below)
+  revision-moved = moved-revision u (m .cursor .shape .sized) mv (m .below)
 
   legs-moved : legCount t ≡ legCount u
-  legs-moved = moved-legs u (m .cursor .shape .sized) leg offset (m .below)
+  legs-moved = moved-legs u (m .cursor .shape .sized) mv (m .below)
 
   held-moved : HoldFrom u 0 (cursorRank c) → HoldFrom t 0 (cursorRank d)
   held-moved h a p i from below =
       let l = legs-moved in
-      let low : a < leg = ⊎-elim (λ (g : a < leg). g) (λ (g : leg ≤ a). absurd (omega (arith, below, m .lesser .to-leg, below-mono leg a g))) (lt-or-ge a leg) in
+      let low : a < mv .leg = ⊎-elim (λ (g : a < mv .leg). g) (λ (g : mv .leg ≤ a). absurd (omega (arith, below, m .lesser .to-leg, below-mono (mv .leg) a g))) (lt-or-ge a (mv .leg)) in
       let here : IsPlace u a p = record { leg = omega (arith, i .leg); place = i .place } in
-      earlier-places-stay u t a p (m .cursor .shape) (moved-same u (m .cursor .shape .sized) leg offset (m .below)) (here .leg) (i .place)
-      (λ b le. sym (moved-other u (m .cursor .shape .sized) leg offset (m .below) b (omega (arith, here .leg)) (λ e. omega (arith, e, low))))
+      earlier-places-stay u t a p (m .cursor .shape) (moved-same u (m .cursor .shape .sized) mv (m .below)) (here .leg) (i .place)
+      (λ b le. sym (moved-other u (m .cursor .shape .sized) mv (m .below) b (omega (arith, here .leg)) (λ e. omega (arith, e, low))))
       (h a p here from (omega (arith, below, m .lesser .given)))
 
   stands-moved : PlaceOrEnd t (d .leg) (d .place)
@@ -97,19 +98,19 @@ module _ (u : List ℕ) (c d : Cursor) (leg offset : ℕ) (m : MoveRight u c leg
   older : (e : Cursor) → Kept u e → Kept t e
   older e k = record { old = omega (arith, k .old, revision-moved); held = λ q. absurd (omega (arith, k .old, revision-moved, q)) }
 
-  keeps-moved : (earlier : List Call) → Keeps u earlier → Kept u c → Keeps t (move-leg c leg offset (Granted d) ∷ earlier)
+  keeps-moved : (earlier : List Call) → Keeps u earlier → Kept u c → Keeps t (move-leg c mv (Granted d) ∷ earlier)
   keeps-moved earlier i k =
-      keeps-more t (move-leg c leg offset (Granted d)) earlier (record { shape = shape-moved; cursors = λ e out. older e (i .cursors e out) }) (kept-moved k)
+      keeps-more t (move-leg c mv (Granted d)) earlier (record { shape = shape-moved; cursors = λ e out. older e (i .cursors e out) }) (kept-moved k)
 
-keeps-move : (t u : List ℕ) (c : Cursor) (leg offset : ℕ) (g : Grant) (earlier : List Call) → Keeps u earlier → Kept u c → Moves u c leg offset g t
-    → Keeps t (move-leg c leg offset g ∷ earlier)
-keeps-move t u c leg offset (Granted d) earlier i k m =
+keeps-move : (t u : List ℕ) (c : Cursor) (mv : Move) (g : Grant) (earlier : List Call) → Keeps u earlier → Kept u c → Moves u c mv g t
+    → Keeps t (move-leg c mv g ∷ earlier)
+keeps-move t u c mv (Granted d) earlier i k m =
     let e = m .table in
-    subst (λ (v : List ℕ). Keeps v (move-leg c leg offset (Granted d) ∷ earlier)) (sym e)
-    (keeps-moved u c d leg offset (subst (MoveRight u c leg offset d) e m) earlier i k)
-keeps-move t u c leg offset (Refused l p d) earlier i k m =
-    subst (λ (v : List ℕ). Keeps v (move-leg c leg offset (Refused l p d) ∷ earlier)) (sym (m .2))
-    (keeps-more u (move-leg c leg offset (Refused l p d)) earlier i (subst (Kept u) (sym (m .1)) k))
+    subst (λ (v : List ℕ). Keeps v (move-leg c mv (Granted d) ∷ earlier)) (sym e)
+    (keeps-moved u c d mv (subst (MoveRight u c mv d) e m) earlier i k)
+keeps-move t u c mv (Refused l p d) earlier i k m =
+    subst (λ (v : List ℕ). Keeps v (move-leg c mv (Refused l p d) ∷ earlier)) (sym (m .2))
+    (keeps-more u (move-leg c mv (Refused l p d)) earlier i (subst (Kept u) (sym (m .1)) k))
 
 pub run-keeps : (calls : List Call) (t : List ℕ) → Run calls t → Keeps t calls
 run-keeps [] t r = absurd r
@@ -119,13 +120,13 @@ run-keeps (start (Granted d) ∷ []) t r = record {
 }
 run-keeps (start (Refused k p d) ∷ []) t r = absurd r
 run-keeps (slice c b a ∷ []) t r = absurd r
-run-keeps (move-leg c leg offset g ∷ []) t r = absurd r
+run-keeps (move-leg c mv g ∷ []) t r = absurd r
 run-keeps (start g ∷ call ∷ earlier) t (r, s) =
     let i = run-keeps (call ∷ earlier) t r in
     keeps-more t (start g) (call ∷ earlier) i (kept-start t g (i .shape) s)
 run-keeps (slice c b a ∷ call ∷ earlier) t (r, out, s) =
     let i = run-keeps (call ∷ earlier) t r in
     keeps-more t (slice c b a) (call ∷ earlier) i (kept-slice t c b a (i .cursors c out) s)
-run-keeps (move-leg c leg offset g ∷ call ∷ earlier) t (u, r, out, m) =
+run-keeps (move-leg c mv g ∷ call ∷ earlier) t (u, r, out, m) =
     let i = run-keeps (call ∷ earlier) u r in
-    keeps-move t u c leg offset g (call ∷ earlier) i (i .cursors c out) m
+    keeps-move t u c mv g (call ∷ earlier) i (i .cursors c out) m

@@ -6,6 +6,7 @@ use mathlib.Core.List.{List}
 use Rattle.numbers.specs.Calls.{WritesNumber}
 use Rattle.numbers.specs.Theorems.{ReadNumberOneAnswer, WriteNumberOneAnswer}
 use Rattle.numbers.specs.declared.Written.the-variants as written
+use Rattle.table.specs.declared.Move.{Move}
 use Rattle.files.specs.Plan.{ReadsPlan, WritesPlan}
 use Rattle.files.specs.Cursors.{WritesCursor}
 use Rattle.files.specs.Theorems.{ReadPlanOneAnswer, WritePlanOneAnswer, ReadCursorOneAnswer, WriteCursorOneAnswer}
@@ -44,7 +45,7 @@ pub record RefusalsLoseNothing : Type 0 where
   pub write-cursor : (c d : Cursor) (b b′ : List ℕ) (k p : ℕ) → WritesCursor c b (saved.Refused k p d) b′ → (b′ ≡ b) × (d ≡ c)
   pub start : (t : List ℕ) (d : Cursor) (k p : ℕ) → Starts t (grant.Refused k p d) → d ≡ noCursor
   pub slice : (t : List ℕ) (c d : Cursor) (budget k p : ℕ) → Slices t c budget (answer.Refused k p d) → d ≡ c
-  pub move-leg : (t t′ : List ℕ) (c d : Cursor) (leg offset k p : ℕ) → Moves t c leg offset (grant.Refused k p d) t′ → (t′ ≡ t) × (d ≡ c)
+  pub move-leg : (t t′ : List ℕ) (c d : Cursor) (mv : Move) (k p : ℕ) → Moves t c mv (grant.Refused k p d) t′ → (t′ ≡ t) × (d ≡ c)
   pub host : HostRefusalsWriteNothing
 
 pub record DemandOne : Type 0 where

@@ -7,6 +7,7 @@ use mathlib.Core.Path.{_≡_}
 use mathlib.Core.List.{List, _∷_, _++_}
 use Rattle.numbers.specs.Number.{maxWord}
 use Rattle.table.specs.Layout.{revisionOf, legCount}
+use Rattle.table.specs.declared.Move.{Move}
 use Rattle.shape.specs.Shape.{WellFormedTable}
 use Rattle.files.specs.declared.Cursor.{Cursor}
 use Rattle.places.specs.Order.{placeCount}
@@ -50,9 +51,9 @@ RunsEndInTime =
 pub record RunsGoOn : Type 0 where
   pub slice : (calls : List Call) (t : List ℕ) (latest : Call) (before : List Call) (budget k p : ℕ) (d : Cursor)
       → Run calls t → withoutRefused calls ≡ latest ∷ before → Slices t (cursorOf latest) budget (answer.Refused k p d) → ⊥
-  pub move-leg : (calls : List Call) (t : List ℕ) (latest : Call) (before : List Call) (leg offset k p : ℕ) (d : Cursor) (u : List ℕ)
-      → Run calls t → withoutRefused calls ≡ latest ∷ before → leg < legCount t → revisionOf t < maxWord
-      → Moves t (cursorOf latest) leg offset (Refused k p d) u → ⊥
+  pub move-leg : (calls : List Call) (t : List ℕ) (latest : Call) (before : List Call) (mv : Move) (k p : ℕ) (d : Cursor) (u : List ℕ)
+      → Run calls t → withoutRefused calls ≡ latest ∷ before → mv .leg < legCount t → revisionOf t < maxWord
+      → Moves t (cursorOf latest) mv (Refused k p d) u → ⊥
 
 -- The table stays well-formed, so that no start of a run is refused.
 abbrev pub RunsKeepShape : Type 0

@@ -6,6 +6,7 @@ use mathlib.Core.Logic.{_⊎_}
 use lib.ListN.{length}
 use Rattle.numbers.specs.Number.{maxWord}
 use Rattle.table.specs.Layout.{revisionOf, legCount, Sized}
+use Rattle.table.specs.declared.Move.{Move}
 use Rattle.files.specs.Reading.{IsFile}
 use Rattle.files.specs.Cursors.{ReadsCursor}
 use Rattle.files.specs.Theorems.{maxCursorBytes}
@@ -53,26 +54,26 @@ abbrev pub HostSince : List HostCall → HostCall → Type 0
 HostSince [] last = Unit {0}
 HostSince (start a out ∷ part) last = ⊥
 HostSince (slice cursor budget a out ∷ part) last = (cursor ≡ newestLeft part last) × HostSince part last
-HostSince (move-leg cursor leg offset a m ∷ part) last = ⊥
+HostSince (move-leg cursor mv a m ∷ part) last = ⊥
 
 -- The call last is a start or a move.
 abbrev pub HostRenews : HostCall → Type 0
 HostRenews (start a out) = Unit {0}
 HostRenews (slice cursor budget a out) = ⊥
-HostRenews (move-leg cursor leg offset a m) = Unit {0}
+HostRenews (move-leg cursor mv a m) = Unit {0}
 
 abbrev pub hostBudgets : List HostCall → ℕ
 hostBudgets [] = 0
 hostBudgets (start a out ∷ part) = hostBudgets part
 hostBudgets (slice cursor budget a out ∷ part) = budget + hostBudgets part
-hostBudgets (move-leg cursor leg offset a m ∷ part) = hostBudgets part
+hostBudgets (move-leg cursor mv a m ∷ part) = hostBudgets part
 
 -- A slice that gave a verdict is in the part.
 abbrev pub HostHasVerdict : List HostCall → Type 0
 HostHasVerdict [] = ⊥
 HostHasVerdict (start a out ∷ part) = HostHasVerdict part
 HostHasVerdict (slice cursor budget a out ∷ part) = ((v : Verdict) × HostGives a out v) ⊎ HostHasVerdict part
-HostHasVerdict (move-leg cursor leg offset a m ∷ part) = HostHasVerdict part
+HostHasVerdict (move-leg cursor mv a m ∷ part) = HostHasVerdict part
 
 -- Some slice of such a part gave a verdict, if a slice ran in it and the budgets add up to at least the number of places.
 abbrev pub HostRunsEndInTime : Type 0
@@ -89,10 +90,10 @@ pub record HostRunsGoOn : Type 0 where
       → HostRun calls plan → maxCursorBytes ≤ length out → HostStarts plan out a out′ → NotRefused a
   pub slice : (latest : HostCall) (earlier : List HostCall) (plan : List ℕ) (budget : ℕ) (out : List ℕ) (a : Answer) (out′ : List ℕ)
       → HostRun (latest ∷ earlier) plan → maxCursorBytes ≤ length out → HostSlices plan (savedIn (bytesLeft latest)) budget out a out′ → NotRefused a
-  pub move-leg : (latest : HostCall) (earlier : List HostCall) (plan t : List ℕ) (leg offset : ℕ) (m : Lent) (a : Answer) (m′ : Lent)
-      → HostRun (latest ∷ earlier) plan → IsFile Sized plan t → leg < legCount t → revisionOf t < maxWord
+  pub move-leg : (latest : HostCall) (earlier : List HostCall) (plan t : List ℕ) (mv : Move) (m : Lent) (a : Answer) (m′ : Lent)
+      → HostRun (latest ∷ earlier) plan → IsFile Sized plan t → mv .leg < legCount t → revisionOf t < maxWord
       → maxCursorBytes ≤ length (m .out) → length plan + moveBytes ≤ length (m .file)
-      → HostMoves plan (savedIn (bytesLeft latest)) leg offset m a m′ → NotRefused a
+      → HostMoves plan (savedIn (bytesLeft latest)) mv m a m′ → NotRefused a
   pub verdict : (plan cursor : List ℕ) (budget : ℕ) (a : Answer) (out : List ℕ)
       → SliceMade plan cursor budget a out → (a .result ≡ 1 → ⊥) → (v : Verdict) × HostGives a out v
 

@@ -2,6 +2,7 @@
 use Prim.Native.Nat.{ℕ, zero, suc}
 use mathlib.Core.Path.{_≡_}
 use mathlib.Core.List.{List, [], _∷_, _++_}
+use Rattle.table.specs.Records.{moveTo}
 use Rattle.files.specs.Theorems.{planAFile}
 use Rattle.rules.specs.declared.Rule.the-variants as rule
 use Rattle.host.specs.Answers.{answered}
@@ -46,7 +47,7 @@ violatedInC = twoSlices ++ begunInC
 -- A move of leg 2 to 576, for which 46 bytes are lent: granted, 42 bytes, cursor (2,0) of revision 1. Then a slice of 5 accepts with 5 steps.
 abbrev pub acceptedInC : List HostCall
 acceptedInC =
-    slice (saved 1 2 0) 5 (answered 0 5) (left 1 3 0) ∷ move-leg (saved 0 2 3) 2 576 (answered 0 42) (lent (movedFile ++ zeros 4) (left 1 2 0)) ∷ violatedInC
+    slice (saved 1 2 0) 5 (answered 0 5) (left 1 3 0) ∷ move-leg (saved 0 2 3) (moveTo 2 576) (answered 0 42) (lent (movedFile ++ zeros 4) (left 1 2 0)) ∷ violatedInC
 
 pub record HostRunsAtNumbers : Type 0 where
   pub violates : HostRun violatedInC planAFile
@@ -54,7 +55,7 @@ pub record HostRunsAtNumbers : Type 0 where
   pub accepts : HostRun acceptedInC movedFile
   pub tells-none : HostGives (answered 0 5) (left 1 3 0) nothing-violated
   -- The two slices have all that demand 3 asks for, and their verdict; the first alone has none.
-  pub renewed : HostRenews (start (answered 0 12) (left 0 0 0)) × HostRenews (move-leg (saved 0 2 3) 2 576 (answered 0 42) (lent (movedFile ++ zeros 4) (left 1 2 0)))
+  pub renewed : HostRenews (start (answered 0 12) (left 0 0 0)) × HostRenews (move-leg (saved 0 2 3) (moveTo 2 576) (answered 0 42) (lent (movedFile ++ zeros 4) (left 1 2 0)))
   pub asked-for : HostSince twoSlices (start (answered 0 12) (left 0 0 0)) × (hostBudgets twoSlices ≡ 15)
   pub has-verdict : HostHasVerdict twoSlices
   pub no-verdict : HostHasVerdict (ten ∷ []) → ⊥

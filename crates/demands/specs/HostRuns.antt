@@ -9,6 +9,8 @@ use lib.Dec.{ltb}
 use lib.ListN.{take}
 use Rattle.basics.specs.Pick.{pick}
 use Rattle.numbers.specs.Number.{maxWord, groupValues}
+use Rattle.table.specs.Records.{EachNumber}
+use Rattle.table.specs.declared.Move.{Move}
 use Rattle.files.specs.Cursors.{cursorNumbers}
 use Rattle.host.specs.Answers.{refusedResult}
 use Rattle.host.specs.Calls.{Lent, HostStarts, HostSlices, HostMoves}
@@ -27,23 +29,27 @@ savedIn out = upToClosing cursorNumbers out
 pub data HostCall : Type 0 where
   start : Answer → List ℕ → HostCall
   slice : List ℕ → ℕ → Answer → List ℕ → HostCall
-  move-leg : List ℕ → ℕ → ℕ → Answer → Lent → HostCall
+  move-leg : List ℕ → Move → Answer → Lent → HostCall
 
 -- The bytes that it left for the cursor.
 abbrev pub bytesLeft : HostCall → List ℕ
 bytesLeft (start a out) = out
 bytesLeft (slice cursor budget a out) = out
-bytesLeft (move-leg cursor leg offset a m) = m .out
+bytesLeft (move-leg cursor mv a m) = m .out
 
 -- The calls of a run stand in a list, the latest first. A saved cursor was left by one of them.
 abbrev pub LeftBy : List ℕ → List HostCall → Type 0
 LeftBy cursor [] = ⊥
 LeftBy cursor (call ∷ earlier) = (cursor ≡ savedIn (bytesLeft call)) ⊎ LeftBy cursor earlier
 
+-- The numbers of a move are words.
+abbrev pub MoveOfWords : Move → Type 0
+MoveOfWords mv = EachNumber (λ (n : ℕ). n ≤ maxWord) mv
+
 abbrev pub NotRefused : Answer → Type 0
 NotRefused a = a .result < refusedResult 0
 
--- A start, a slice and a move that were not refused. A move is given a word for an offset, and the new plan is as many bytes of what it left as it says.
+-- A start, a slice and a move that were not refused. The numbers of a move are words, and the new plan is as many bytes of what it left as it says.
 pub record StartMade (plan : List ℕ) (a : Answer) (out′ : List ℕ) : Type 0 where
   pub out : List ℕ
   pub starts : HostStarts plan out a out′
@@ -54,10 +60,10 @@ pub record SliceMade (plan cursor : List ℕ) (budget : ℕ) (a : Answer) (out�
   pub slices : HostSlices plan cursor budget out a out′
   pub not-refused : NotRefused a
 
-pub record MoveMade (old cursor : List ℕ) (leg offset : ℕ) (a : Answer) (m′ : Lent) (plan : List ℕ) : Type 0 where
+pub record MoveMade (old cursor : List ℕ) (mv : Move) (a : Answer) (m′ : Lent) (plan : List ℕ) : Type 0 where
   pub m : Lent
-  pub word : offset ≤ maxWord
-  pub moves : HostMoves old cursor leg offset m a m′
+  pub words : MoveOfWords mv
+  pub moves : HostMoves old cursor mv m a m′
   pub not-refused : NotRefused a
   pub new : plan ≡ take (a .beside) (m′ .file)
 
@@ -66,9 +72,9 @@ abbrev pub HostRun : List HostCall → List ℕ → Type 0
 HostRun [] plan = ⊥
 HostRun (start a out ∷ []) plan = StartMade plan a out
 HostRun (slice cursor budget a out ∷ []) plan = ⊥
-HostRun (move-leg cursor leg offset a m ∷ []) plan = ⊥
+HostRun (move-leg cursor mv a m ∷ []) plan = ⊥
 HostRun (start a out ∷ call ∷ earlier) plan = HostRun (call ∷ earlier) plan × StartMade plan a out
 HostRun (slice cursor budget a out ∷ call ∷ earlier) plan =
     HostRun (call ∷ earlier) plan × LeftBy cursor (call ∷ earlier) × SliceMade plan cursor budget a out
-HostRun (move-leg cursor leg offset a m ∷ call ∷ earlier) plan =
-    (old : List ℕ) × HostRun (call ∷ earlier) old × LeftBy cursor (call ∷ earlier) × MoveMade old cursor leg offset a m plan
+HostRun (move-leg cursor mv a m ∷ call ∷ earlier) plan =
+    (old : List ℕ) × HostRun (call ∷ earlier) old × LeftBy cursor (call ∷ earlier) × MoveMade old cursor mv a m plan

@@ -7,51 +7,97 @@ use mathlib.Core.List.{List, [], _∷_, _++_}
 use mathlib.Core.Logic.{inr}
 use lib.ListN.{length, getD, length-append}
 use native.Mathlib.Omega.{arith}
-use Rattle.numbers.specs.Number.{NoNumber}
 use Rattle.numbers.specs.Series.{AllWords, fileOf, Row, overlaid, Laid}
-use Rattle.numbers.specs.Steps.{Numbers, AllNumbers, Filled}
+use Rattle.numbers.specs.Steps.{Numbers, AllNumbers, Stopped, Filled}
 use Rattle.numbers.proofs.Rows.{row-append, row-whole, row-same, file-row}
 use Rattle.numbers.proofs.Overlay.{overlaid-all}
-use Rattle.table.specs.Layout.{headWords, tableWords, InLimits, Sized}
+use Rattle.table.specs.Layout.{headWords, wordsIn, LimitsIn, SizedIn}
+use Rattle.table.specs.Size.{LimitsTold}
+use Rattle.table.specs.declared.Edition.{Edition}
+use Rattle.table.specs.declared.Limits.{Limits}
+use Rattle.table.specs.declared.Limits.the-variants.{Within, Above}
 use Rattle.table.proofs.Headers.{SameHeader, header-in-front, limits-same, words-same}
 use Rattle.files.specs.Reading.{IsFile, Cut, Over}
-use Rattle.files.specs.Plan.{PlanDue}
+use Rattle.files.specs.Plan.{PlanDueIn, HeaderAboveIn}
+use Rattle.files.specs.Steps.{PlanTold}
 use Rattle.files.specs.Cursors.{cursorNumbers, CursorComplete}
+use Rattle.files.specs.declared.PlanRead.the-variants.{Words}
 
-module _ {s : List ℕ} {next : ℕ} (h : List ℕ) (head : Row s 0 h next) (five : length h ≡ headWords) (limits : InLimits h) where
+-- A buffer filled whole holds the numbers that stand in front.
+filled-row : {s b b′ : List ℕ} {n next : ℕ} → Numbers s 0 n next → length b ≡ n → Filled s 0 n b b′ → (length b′ ≡ n) × Row s 0 b′ next
+filled-row {s} {b} {b′} r h l =
+    let e : b′ ≡ l .ws = l .after ∙ overlaid-all b (l .ws) (l .count ∙ sym h) in
+    let q = row-same (l .ws) (r .ws) (l .row) (r .row) (l .count ∙ sym (r .count)) in
+    (ap length e ∙ l .count, rw e (rw (q .1) at (l .row)))
+
+-- The numbers of a header, and what was told of them as the words of an edition's header.
+pub record Header (e : Edition) (s h : List ℕ) (next : ℕ) (told : Limits) : Type 0 where
+  pub five : length h ≡ headWords
+  pub row : Row s 0 h next
+  pub limits : LimitsTold e h told
+
+pub header-stands : {e : Edition} {s b b′ : List ℕ} {next : ℕ} {told : Limits}
+    → Numbers s 0 headWords next → length b ≡ headWords → Filled s 0 headWords b b′ → LimitsTold e b′ told → Header e s b′ next told
+header-stands r z l t = let f = filled-row r z l in record { five = f .0; row = f .1; limits = t }
+
+-- The same with its values inside.
+pub record Headed : Type 0 where
+  pub e : Edition
+  pub s : List ℕ
+  pub h : List ℕ
+  pub next : ℕ
+  pub told : Limits
+  pub header : Header e s h next told
+
+abbrev pub headed : (e : Edition) (told : Limits) {s b b′ : List ℕ} {next : ℕ}
+    → Numbers s 0 headWords next → length b ≡ headWords → Filled s 0 headWords b b′ → LimitsTold e b′ told → Headed
+headed e told {s} {b} {b′} {next} r z l t = record { e = e; s = s; h = b′; next = next; told = told; header = header-stands r z l t }
+
+pub header-above : {e : Edition} {s h : List ℕ} {next : ℕ} {told : Limits} → Header e s h next told → told ≡ Above → HeaderAboveIn e s
+header-above {e} {s} {h} {next} d a = record { head = h; next = next; row = d .row; five = d .five; above = subst (LimitsTold e h) a (d .limits) }
+
+-- Behind a header that is within its limits: the words that are told, and the records up to p.
+module _ {e : Edition} {s h : List ℕ} {next : ℕ} {told : Limits} (d : Header e s h next told) {size : ℕ} (w : told ≡ Within size) where
+  within : LimitsIn e h × (size ≡ wordsIn e h)
+  within = subst (LimitsTold e h) w (d .limits)
+
+  pub header-first : headWords ≤ size
+  header-first = omega (arith, within .1)
+
   front : (r : List ℕ) → SameHeader h (h ++ r)
-  front r = header-in-front h r (omega arith)
+  front r = header-in-front h r (omega (arith, d .five))
 
   module _ {p : ℕ} (r : List ℕ) (row : Row s next r p) where
     -- All records stand: the table is whole.
-    pub table-whole : length r ≡ tableWords h - headWords → Sized (h ++ r)
-    table-whole e =
+    table-whole : length r ≡ size - headWords → SizedIn e (h ++ r)
+    table-whole n =
         let l = length-append h r in
-        let w = words-same (front r) in
-        record { head = omega arith; limits = limits-same (front r) limits; exact = omega arith }
+        let w = words-same e (front r) in
+        record { head = omega (arith, d .five); limits = limits-same e (front r) (within .0); exact = omega (arith, d .five, within .1) }
 
-    pub table-long : length r ≡ tableWords h - headWords → length (h ++ r) ≡ tableWords h
-    table-long e = omega (arith, length-append h r)
+  module _ {p : ℕ} (n : Numbers s next (size - headWords) p) where
+    pub table-over : p < length s → Over (SizedIn e) s p
+    table-over z = record { ws = h ++ n .ws; row = row-append h (n .ws) (d .row) (n .row); complete = table-whole (n .ws) (n .row) (n .count); left-over = z }
 
-    pub table-file : length r ≡ tableWords h - headWords → length s ≤ p → IsFile Sized s (h ++ r)
-    table-file e z =
-        let t = row-append h r head row in
-        record { complete = table-whole e; words = t .words; bytes = row-whole (h ++ r) t z }
+    pub table-file : length s ≤ p → PlanTold e s (Words size)
+    table-file z =
+        let t = row-append h (n .ws) (d .row) (n .row) in (
+          h ++ n .ws,
+          record { complete = table-whole (n .ws) (n .row) (n .count); words = t .words; bytes = row-whole (h ++ n .ws) t z },
+          omega (arith, length-append h (n .ws), d .five, n .count, within .1),
+        )
 
-    pub table-over : length r ≡ tableWords h - headWords → p < length s → Over Sized s p
-    table-over e z = record { ws = h ++ r; row = row-append h r head row; complete = table-whole e; left-over = z }
-
-    -- A record is cut short: another number is due.
-    pub table-cut : (k : ℕ) → length r < tableWords h - headWords → NoNumber s p k → Cut PlanDue s k p
-    table-cut k e n =
-        let l = length-append h r in
-        let w = words-same (front r) in
-        record {
-          ws = h ++ r;
-          row = row-append h r head row;
-          due = inr (limits-same (front r) limits, omega arith);
-          no-number = n;
-        }
+  -- A record is cut short: another number is due.
+  pub table-cut : {k p : ℕ} → Stopped s next (size - headWords) k p → Cut (PlanDueIn e) s k p
+  table-cut x =
+      let l = length-append h (x .ws) in
+      let w = words-same e (front (x .ws)) in
+      record {
+        ws = h ++ x .ws;
+        row = row-append h (x .ws) (d .row) (x .row);
+        due = inr (limits-same e (front (x .ws)) (within .0), omega (arith, d .five, within .1, x .short));
+        no-number = x .no-number;
+      }
 
 -- The words of a file stand in it.
 pub all-numbers : {Complete : List ℕ → Type 0} {s : List ℕ} {n : ℕ} (t : List ℕ) → IsFile Complete s t → n ≡ length t → AllNumbers s 0 n
@@ -66,10 +112,7 @@ filled-table {s = s} {b = b} t f e h l =
 -- A buffer filled whole with numbers up to the end of the bytes: they are its file.
 pub filled-whole : {s b b′ : List ℕ} {n next : ℕ} → Numbers s 0 n next → length s ≤ next → length b ≡ n → Filled s 0 n b b′
     → (length b′ ≡ n) × AllWords b′ × (s ≡ fileOf b′)
-filled-whole {s} {b} {b′} r z h l =
-    let e : b′ ≡ l .ws = l .after ∙ overlaid-all b (l .ws) (l .count ∙ sym h) in
-    let q = row-same (l .ws) (r .ws) (l .row) (r .row) (l .count ∙ sym (r .count)) in
-    (ap length e ∙ l .count, rw e (l .row .words), row-whole (l .ws) (l .row) (rw (q .1) z) ∙ ap fileOf (sym e))
+filled-whole {b′ = b′} r z h l = let f = filled-row r h l in (f .0, f .1 .words, row-whole b′ (f .1) z)
 
 -- Three words, one by one.
 three-words : (ws : List ℕ) → length ws ≡ cursorNumbers → getD ws 0 0 ∷ getD ws 1 0 ∷ getD ws 2 0 ∷ [] ≡ ws

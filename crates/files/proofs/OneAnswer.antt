@@ -7,18 +7,22 @@ use mathlib.Core.List.{List, _++_}
 use mathlib.Core.Logic.{inl, inr, ⊎-elim}
 use lib.ListN.{length, length-append}
 use native.Mathlib.Omega.{arith}
+use Rattle.basics.specs.Refusals.{OneFault}
+use Rattle.basics.proofs.Refusals.{unless-one, then-one}
+use Rattle.numbers.specs.Number.{noRoom}
 use Rattle.numbers.specs.Series.{fileOf, Row, Laid}
 use Rattle.basics.proofs.Splits.{lt-or-ge}
 use Rattle.numbers.proofs.OneNumber.{refused-once}
 use Rattle.numbers.proofs.Overlay.{laid-once, laid-fits, too-small-once}
 use Rattle.numbers.proofs.Rows.{row-compare, row-same, row-stops, file-row}
-use Rattle.table.specs.Layout.{headWords, tableWords, InLimits, Sized}
+use Rattle.table.specs.Layout.{current, headWords, wordsIn, LimitsIn, SizedIn, Sized}
+use Rattle.table.specs.declared.Edition.{Edition}
 use Rattle.table.proofs.Headers.{header-in-front, limits-same, words-same, same-header-back}
-use Rattle.table.proofs.Sizes.{sized-no-fault, fault-once}
+use Rattle.table.proofs.Sizes.{size-one}
 use Rattle.files.specs.Reading.{IsFile, Cut, Over}
-use Rattle.files.specs.Plan.{PlanDue, HeaderAbove, PlanFault, PlanUnread, PlanUnwritten}
+use Rattle.files.specs.Plan.{PlanDueIn, HeaderAboveIn, PlanFaultIn, PlanUnreadIn, asItStands, writeRefusals}
 use Rattle.files.specs.Cursors.{cursorWords, CursorDue, CursorComplete, ReadsCursor}
-use Rattle.files.specs.Theorems.{ReadPlanOneAnswer, WritePlanOneAnswer, ReadCursorOneAnswer, WriteCursorOneAnswer}
+use Rattle.files.specs.Theorems.{ReadPlanInOneAnswer, ReadPlanOneAnswer, WritePlanOneAnswer, ReadCursorOneAnswer, WriteCursorOneAnswer}
 use Rattle.numbers.specs.declared.Written.the-variants as written
 use Rattle.files.specs.declared.PlanRead.the-variants as plan
 use Rattle.files.specs.declared.Cursor.{Cursor}
@@ -44,36 +48,36 @@ cut-behind {k = k} c ws r =
     (i .0, i .1)
 
 -- No number of a whole table is due.
-sized-not-due : (t us : List ℕ) → Sized t → PlanDue (t ++ us) → ⊥
-sized-not-due t us z (inl h) = omega (arith, length-append t us, z .head)
-sized-not-due t us z (inr (l, d)) = omega (arith, length-append t us, words-same (header-in-front t us (z .head)), z .exact)
+sized-not-due : {v : Edition} (t us : List ℕ) → SizedIn v t → PlanDueIn v (t ++ us) → ⊥
+sized-not-due {v} t us z (inl h) = omega (arith, length-append t us, z .head)
+sized-not-due {v} t us z (inr (l, d)) = omega (arith, length-append t us, words-same v (header-in-front t us (z .head)), z .exact)
 
 -- A header that passes a limit is the end of the file.
-above-not-due : (h us : List ℕ) → length h ≡ headWords → (InLimits h → ⊥) → PlanDue (h ++ us) → ⊥
-above-not-due h us f a (inl e) = omega (arith, length-append h us)
-above-not-due h us f a (inr (l, d)) = a (limits-same (same-header-back (header-in-front h us (omega arith))) l)
+above-not-due : {v : Edition} (h us : List ℕ) → length h ≡ headWords → (LimitsIn v h → ⊥) → PlanDueIn v (h ++ us) → ⊥
+above-not-due {v} h us f a (inl e) = omega (arith, length-append h us)
+above-not-due {v} h us f a (inr (l, d)) = a (limits-same v (same-header-back (header-in-front h us (omega arith))) l)
 
-cut-table : {s : List ℕ} {k p next : ℕ} (t : List ℕ) → Sized t → Row s 0 t next → Cut PlanDue s k p → ⊥
+cut-table : {v : Edition} {s : List ℕ} {k p next : ℕ} (t : List ℕ) → SizedIn v t → Row s 0 t next → Cut (PlanDueIn v) s k p → ⊥
 cut-table t z r c = let i = cut-behind c t r in sized-not-due t (i .0) z (rw (i .1) at (c .due))
 
-cut-above : {s : List ℕ} {k p : ℕ} → HeaderAbove s → Cut PlanDue s k p → ⊥
+cut-above : {v : Edition} {s : List ℕ} {k p : ℕ} → HeaderAboveIn v s → Cut (PlanDueIn v) s k p → ⊥
 cut-above a c = let i = cut-behind c (a .head) (a .row) in above-not-due (a .head) (i .0) (a .five) (a .above) (rw (i .1) at (c .due))
 
-above-table : {s : List ℕ} {next : ℕ} (t : List ℕ) → Sized t → Row s 0 t next → HeaderAbove s → ⊥
-above-table t z r a =
+above-table : {v : Edition} {s : List ℕ} {next : ℕ} (t : List ℕ) → SizedIn v t → Row s 0 t next → HeaderAboveIn v s → ⊥
+above-table {v} t z r a =
     let i = row-compare (a .head) t (a .row) r (omega (arith, a .five, z .head)) in
     let l = rw (i .1) at (z .limits) in
-    a .above (limits-same (same-header-back (header-in-front (a .head) (i .0) (omega (arith, a .five)))) l)
+    a .above (limits-same v (same-header-back (header-in-front (a .head) (i .0) (omega (arith, a .five)))) l)
 
 -- Of two whole tables in one file neither is longer.
-not-longer : {s : List ℕ} {a b : ℕ} (t u : List ℕ) → Sized t → Sized u → Row s 0 t a → Row s 0 u b → length t ≤ length u → length t ≡ length u
-not-longer t u z y r q h =
+not-longer : {v : Edition} {s : List ℕ} {a b : ℕ} (t u : List ℕ) → SizedIn v t → SizedIn v u → Row s 0 t a → Row s 0 u b → length t ≤ length u → length t ≡ length u
+not-longer {v} t u z y r q h =
     let i = row-compare t u r q h in
     let e : u ≡ t ++ i .0 = i .1 in
-    let w : tableWords t ≡ tableWords u = words-same (header-in-front t (i .0) (z .head)) ∙ ap tableWords (sym e) in
+    let w : wordsIn v t ≡ wordsIn v u = words-same v (header-in-front t (i .0) (z .head)) ∙ ap (wordsIn v) (sym e) in
     omega (arith, z .exact, y .exact)
 
-same-table : {s : List ℕ} {a b : ℕ} (t u : List ℕ) → Sized t → Sized u → Row s 0 t a → Row s 0 u b → (t ≡ u) × (a ≡ b)
+same-table : {v : Edition} {s : List ℕ} {a b : ℕ} (t u : List ℕ) → SizedIn v t → SizedIn v u → Row s 0 t a → Row s 0 u b → (t ≡ u) × (a ≡ b)
 same-table t u z y r q =
     ⊎-elim
     (λ (h : length t < length u). row-same t u r q (not-longer t u z y r q (omega arith)))
@@ -81,13 +85,13 @@ same-table t u z y r q =
     (lt-or-ge (length t) (length u))
 
 -- Behind the file of a table nothing is left over.
-over-file : {s : List ℕ} {p : ℕ} {t : List ℕ} → Over Sized s p → IsFile Sized s t → ⊥
+over-file : {v : Edition} {s : List ℕ} {p : ℕ} {t : List ℕ} → Over (SizedIn v) s p → IsFile (SizedIn v) s t → ⊥
 over-file {t = t} o f =
     let e = same-table (o .ws) t (o .complete) (f .complete) (o .row) (file-is-row f) .1 in
     omega (arith, o .left-over)
 
 -- What is wrong with a plan file is one thing, and nothing where it is the file of a table.
-pub plan-fault-one : (s : List ℕ) (k p l q : ℕ) → PlanFault s k p → PlanFault s l q → (k ≡ l) × (p ≡ q)
+pub plan-fault-one : {v : Edition} (s : List ℕ) (k p l q : ℕ) → PlanFaultIn v s k p → PlanFaultIn v s l q → (k ≡ l) × (p ≡ q)
 plan-fault-one s k p l q (inl c) (inl d) = cut-once c d
 plan-fault-one s k p l q (inl c) (inr (inl (e, f, h))) = absurd (cut-above h c)
 plan-fault-one s k p l q (inl c) (inr (inr (e, o))) = absurd (cut-table (o .ws) (o .complete) (o .row) c)
@@ -98,54 +102,55 @@ plan-fault-one s k p l q (inr (inr (e, o))) (inl c) = absurd (cut-table (o .ws) 
 plan-fault-one s k p l q (inr (inr (e, o))) (inr (inl (e′, f′, h))) = absurd (above-table (o .ws) (o .complete) (o .row) h)
 plan-fault-one s k p l q (inr (inr (e, o))) (inr (inr (e′, o′))) = (e ∙ sym e′, same-table (o .ws) (o′ .ws) (o .complete) (o′ .complete) (o .row) (o′ .row) .1)
 
-pub file-no-fault : {s t : List ℕ} {k p : ℕ} → IsFile Sized s t → PlanFault s k p → ⊥
+pub file-no-fault : {v : Edition} {s t : List ℕ} {k p : ℕ} → IsFile (SizedIn v) s t → PlanFaultIn v s k p → ⊥
 file-no-fault {t = t} f (inl c) = cut-table t (f .complete) (file-is-row f) c
 file-no-fault {t = t} f (inr (inl (e, g, h))) = above-table t (f .complete) (file-is-row f) h
 file-no-fault f (inr (inr (e, o))) = over-file o f
 
-pub same-file : {s t u : List ℕ} → IsFile Sized s t → IsFile Sized s u → t ≡ u
+pub same-file : {v : Edition} {s t u : List ℕ} → IsFile (SizedIn v) s t → IsFile (SizedIn v) s u → t ≡ u
 same-file {t = t} {u = u} f g = same-table t u (f .complete) (g .complete) (file-is-row f) (file-is-row g) .0
 
-unread-one : (s : List ℕ) (room k p l q : ℕ) → PlanUnread s room k p → PlanUnread s room l q → (k ≡ l) × (p ≡ q)
+unread-one : {v : Edition} {given : List ℕ → List ℕ} (s : List ℕ) (room k p l q : ℕ) → PlanUnreadIn v given s room k p → PlanUnreadIn v given s room l q → (k ≡ l) × (p ≡ q)
 unread-one s room k p l q (inl f) (inl g) = plan-fault-one s k p l q f g
 unread-one s room k p l q (inl f) (inr (e, g, t)) = absurd (file-no-fault (t .file) f)
 unread-one s room k p l q (inr (e, g, t)) (inl f) = absurd (file-no-fault (t .file) f)
 unread-one s room k p l q (inr (e, g, t)) (inr (e′, g′, t′)) = (e ∙ sym e′, g ∙ sym g′)
 
 -- A file of a table that has room is not refused.
-file-read : {s t b b′ : List ℕ} {n k p : ℕ} → IsFile Sized s t → Laid b 0 t n b′ → PlanUnread s (length b) k p → ⊥
+file-read : {v : Edition} {given : List ℕ → List ℕ} {s t b b′ : List ℕ} {n k p : ℕ} → IsFile (SizedIn v) s t → Laid b 0 (given t) n b′ → PlanUnreadIn v given s (length b) k p → ⊥
 file-read f l (inl g) = file-no-fault f g
-file-read f l (inr (e, g, u)) = omega (arith, ap length (same-file f (u .file)), u .long, l .count, l .room)
+file-read {given = given} f l (inr (e, g, u)) = omega (arith, ap (λ (w : List ℕ). length (given w)) (same-file f (u .file)), u .long, l .count, l .room)
 
-pub read-plan-one-answer : ReadPlanOneAnswer
-read-plan-one-answer s b b′ b″ (plan.Words n) (plan.Words m) (t, f, l) (u, g, k) =
+pub read-plan-in-one-answer : ReadPlanInOneAnswer
+read-plan-in-one-answer v given s b b′ b″ (plan.Words n) (plan.Words m) (t, f, l) (u, g, k) =
     let e = laid-once l (rw (same-file g f) at k) in
     let e0 = e .0 in
     (cc, e .1)
-read-plan-one-answer s b b′ b″ (plan.Words n) (plan.Refused k p) (t, f, l) (u, g) = absurd (file-read f l u)
-read-plan-one-answer s b b′ b″ (plan.Refused k p) (plan.Words n) (u, g) (t, f, l) = absurd (file-read f l u)
-read-plan-one-answer s b b′ b″ (plan.Refused k p) (plan.Refused l q) (u, g) (v, h) =
-    let e = unread-one s _ k p l q u v in
+read-plan-in-one-answer v given s b b′ b″ (plan.Words n) (plan.Refused k p) (t, f, l) (u, g) = absurd (file-read f l u)
+read-plan-in-one-answer v given s b b′ b″ (plan.Refused k p) (plan.Words n) (u, g) (t, f, l) = absurd (file-read f l u)
+read-plan-in-one-answer v given s b b′ b″ (plan.Refused k p) (plan.Refused l q) (u, g) (w, h) =
+    let e = unread-one s _ k p l q u w in
     let e0 = e .0 in
     let e1 = e .1 in
     (cc, g ∙ sym h)
 
-unwritten-one : (t : List ℕ) (room k l : ℕ) → PlanUnwritten t room k → PlanUnwritten t room l → k ≡ l
-unwritten-one t room k l (inl f) (inl g) = fault-once t k l f g
-unwritten-one t room k l (inl f) (inr (e, z, h)) = absurd (sized-no-fault t k z f)
-unwritten-one t room k l (inr (e, z, h)) (inl f) = absurd (sized-no-fault t l z f)
-unwritten-one t room k l (inr (e, z, h)) (inr (e′, z′, h′)) = e ∙ sym e′
+pub read-plan-one-answer : ReadPlanOneAnswer
+read-plan-one-answer = read-plan-in-one-answer current asItStands
 
-table-written : (t b b′ : List ℕ) (n k : ℕ) → Sized t → Laid b 0 (fileOf t) n b′ → PlanUnwritten t (length b) k → ⊥
-table-written t b b′ n k z l (inl f) = sized-no-fault t k z f
-table-written t b b′ n k z l (inr (e, y, h)) = omega (arith, l .count, l .room)
+pub write-one : (t : List ℕ) (room : ℕ) → OneFault (writeRefusals t room)
+write-one t room = then-one (size-one t) (unless-one noRoom _)
+
+table-written : (t b b′ : List ℕ) (n k p : ℕ) → Sized t → Laid b 0 (fileOf t) n b′ → writeRefusals t (length b) .Fault k p → ⊥
+table-written t b b′ n k p z l f = write-one t (length b) .none (z, omega (arith, l .count, l .room)) f
 
 pub write-plan-one-answer : WritePlanOneAnswer
 write-plan-one-answer t b b′ b″ (written.Bytes n) (written.Bytes m) (z, l) (y, k) = let e = laid-once l k in let e0 = e .0 in (cc, e .1)
-write-plan-one-answer t b b′ b″ (written.Bytes n) (written.Refused k p) (z, l) (u, e, g) = absurd (table-written t b b′ n k z l u)
-write-plan-one-answer t b b′ b″ (written.Refused k p) (written.Bytes n) (u, e, g) (z, l) = absurd (table-written t b b″ n k z l u)
-write-plan-one-answer t b b′ b″ (written.Refused k p) (written.Refused l q) (u, e, g) (v, f, h) =
-    let i = unwritten-one t _ k l u v in
+write-plan-one-answer t b b′ b″ (written.Bytes n) (written.Refused k p) (z, l) (u, g) = absurd (table-written t b b′ n k p z l u)
+write-plan-one-answer t b b′ b″ (written.Refused k p) (written.Bytes n) (u, g) (z, l) = absurd (table-written t b b″ n k p z l u)
+write-plan-one-answer t b b′ b″ (written.Refused k p) (written.Refused l q) (u, g) (v, h) =
+    let e = write-one t _ .one u v in
+    let e0 = e .0 in
+    let e1 = e .1 in
     (cc, g ∙ sym h)
 
 -- No number of a whole cursor is due, and behind its file nothing is left over.

@@ -85,10 +85,10 @@ plan-read-refusals-at-numbers = record {
 
 pub plan-written-refusals-at-numbers : PlanWrittenRefusalsAtNumbers
 plan-written-refusals-at-numbers = record {
-  four-words = (inl (inl (refl, omega arith)), refl, refl);
-  above = (inl (inr (inl (refl, omega arith, λ h. omega (arith, h .links)))), refl, refl);
-  word-more = (inl (inr (inr (refl, omega arith, limits 0 0 _ (omega arith), λ e. omega (arith, e)))), refl, refl);
-  no-room = (inr (refl, empty 300, omega (arith, ap length (file-is (300 ∷ 0 ∷ 0 ∷ 0 ∷ 0 ∷ [])))), refl, refl);
+  four-words = (inl (inl (refl, refl, λ h. omega arith)), refl);
+  above = (inl (inr (omega arith, inl (refl, refl, λ h. omega (arith, h .links)))), refl);
+  word-more = (inl (inr (omega arith, inr (limits 0 0 _ (omega arith), (refl, refl, λ e. omega (arith, e))))), refl);
+  no-room = (inr (empty 300, (refl, refl, λ h. omega (arith, ap length (file-is (300 ∷ 0 ∷ 0 ∷ 0 ∷ 0 ∷ []))))), refl);
 }
 
 pub saved-cursor-refusals-at-numbers : SavedCursorRefusalsAtNumbers

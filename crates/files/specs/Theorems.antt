@@ -9,7 +9,8 @@ use Rattle.numbers.specs.declared.Written.{Written}
 use Rattle.numbers.specs.declared.Written.the-variants as written
 use Rattle.table.specs.Layout.{maxTableWords, Sized}
 use Rattle.table.specs.PlanA.{planA}
-use Rattle.files.specs.Plan.{ReadsPlan, WritesPlan}
+use Rattle.table.specs.declared.Edition.{Edition}
+use Rattle.files.specs.Plan.{ReadsPlanIn, ReadsPlan, WritesPlan}
 use Rattle.files.specs.Cursors.{cursorNumbers, cursorWords, cursorFile, ReadsCursor, WritesCursor}
 use Rattle.files.specs.declared.PlanRead.{PlanRead}
 use Rattle.files.specs.declared.PlanRead.the-variants as plan
@@ -19,7 +20,12 @@ use Rattle.files.specs.declared.CursorRead.the-variants as cursor
 use Rattle.files.specs.declared.CursorWritten.{CursorWritten}
 use Rattle.files.specs.declared.CursorWritten.the-variants as saved
 
--- Each call has one answer, and those that are lent memory to write leave one memory.
+-- Each call has one answer, and those that are lent memory to write leave one memory. A plan file of any edition has one.
+abbrev pub ReadPlanInOneAnswer : Type 0
+ReadPlanInOneAnswer =
+    (e : Edition) (given : List ℕ → List ℕ) (s b b′ b″ : List ℕ) (r r′ : PlanRead)
+    → ReadsPlanIn e given s b r b′ → ReadsPlanIn e given s b r′ b″ → (r ≡ r′) × (b′ ≡ b″)
+
 abbrev pub ReadPlanOneAnswer : Type 0
 ReadPlanOneAnswer =
     (s b b′ b″ : List ℕ) (r r′ : PlanRead) → ReadsPlan s b r b′ → ReadsPlan s b r′ b″ → (r ≡ r′) × (b′ ≡ b″)

@@ -1,6 +1,7 @@
 // Plan files and saved cursors, as bytes: the calls that read and write them. The layers above see what these promise and nothing else.
 ghost use Rattle.files.specs.Plan.{ReadsPlan, WritesPlan};
 ghost use Rattle.files.specs.Cursors.{ReadsCursor, WritesCursor};
+use basics::Checked;
 use numbers::Written;
 
 mod look;
@@ -44,7 +45,7 @@ pub enum CursorWritten {
 pub fn read_plan(bytes: &[u8], words: &mut [u32]) -> PlanRead
     ensures { λ r. ⌜ ReadsPlan (now (bytes .entry)) (now (words .entry)) r (now (words .exit)) ⌝ }
 {
-    let told = look::plan_size(bytes);
+    let told = look::plan_size(table::CURRENT, bytes);
     match told {
         PlanRead::Refused(number, at) => PlanRead::Refused(number, at),
         PlanRead::Words(size) => {
@@ -63,8 +64,8 @@ pub fn write_plan(table: &[u32], bytes: &mut [u8]) -> Written
 {
     let judged = table::judged_size(table);
     match judged {
-        table::Size::Wrong(number) => Written::Refused(number, 0),
-        table::Size::Right => {
+        Checked::Refused(number, at) => Written::Refused(number, at),
+        Checked::Clear => {
             let size = numbers::series::file_size(table);
             if bytes.len() < size {
                 return Written::Refused(numbers::NO_ROOM, 0);

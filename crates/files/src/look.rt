@@ -1,30 +1,31 @@
-// A plan file looked through before anything is written: the header, its limits, the records, and that nothing is left over.
+// A plan file of any edition looked through before anything is written: the header, its limits, the records, and that nothing is left over.
 ghost use Rattle.numbers.specs.Steps.{Numbers};
 ghost use Rattle.table.specs.Layout.{headWords};
 ghost use Rattle.files.specs.Steps.{PlanTold};
 use crate::PlanRead;
 use numbers::series::Scan;
+use table::Edition;
 use table::Limits;
 
 // Internal: how many words the table of a plan file has, or the refusal of the file: 12, 13, 2 or 14.
-pub fn plan_size(bytes: &[u8]) -> PlanRead
-    ensures { λ r. ⌜ PlanTold (now (bytes .entry)) r ⌝ }
+pub fn plan_size(e: Edition, bytes: &[u8]) -> PlanRead
+    ensures { λ r. ⌜ PlanTold e (now (bytes .entry)) r ⌝ }
 {
     let seen = numbers::series::look_through(bytes, 0, table::HEAD_WORDS);
     match seen {
         Scan::Stop(number, at) => PlanRead::Refused(number, at),
-        Scan::End(next) => behind_header(bytes, next),
+        Scan::End(next) => behind_header(e, bytes, next),
     }
 }
 
 // The same after a header that stands from the start up to next.
-fn behind_header(bytes: &[u8], next: usize) -> PlanRead
+fn behind_header(e: Edition, bytes: &[u8], next: usize) -> PlanRead
     requires { ⌜ Numbers (now bytes) 0 headWords next ⌝ }
-    ensures { λ r. ⌜ PlanTold (now (bytes .entry)) r ⌝ }
+    ensures { λ r. ⌜ PlanTold e (now (bytes .entry)) r ⌝ }
 {
     let mut head = [0u32; table::HEAD_WORDS];
     numbers::series::fill(bytes, 0, table::HEAD_WORDS, &mut head);
-    let told = table::header_words(&head);
+    let told = table::header_words(e, &head);
     match told {
         Limits::Above => PlanRead::Refused(table::ABOVE_LIMIT, 0),
         Limits::Within(size) => {

@@ -9,6 +9,7 @@ use Rattle.numbers.specs.Series.{Row}
 use Rattle.numbers.proofs.Rows.{file-length}
 use Rattle.table.specs.Layout.{maxTableWords, Sized}
 use Rattle.table.specs.Size.{SizeFault}
+use Rattle.table.specs.declared.Move.{Move}
 use Rattle.table.proofs.Sizes.{table-words-at-most}
 use Rattle.shape.specs.Shape.{badLink, ShapeFault}
 use Rattle.shape.proofs.Refused.{sized-refused}
@@ -67,9 +68,9 @@ cursor-fault-small t c k p (inl f) = shape-small t k p f
 cursor-fault-small t c k p (inr w) =
     record { number = ⊎-elim (λ s. omega (arith, s .number)) (λ s. omega (arith, s .number)) (w .cause); position = omega (arith, w .at) }
 
-pub move-fault-small : (t : List ℕ) (c : Cursor) (leg k p : ℕ) → MoveFault t c leg k p → Small k p
-move-fault-small t c leg k p (inl f) = cursor-fault-small t c k p f
-move-fault-small t c leg k p (inr w) =
+pub move-fault-small : (t : List ℕ) (c : Cursor) (mv : Move) (k p : ℕ) → MoveFault t c mv k p → Small k p
+move-fault-small t c mv k p (inl f) = cursor-fault-small t c k p f
+move-fault-small t c mv k p (inr w) =
     record { number = ⊎-elim (λ s. omega (arith, s .number)) (λ s. omega (arith, s .number)) (w .cause); position = omega (arith, w .at) }
 
 -- With which numbers a table that was read is refused: a slice with 4 to 9, a move with 4 to 11.
@@ -78,7 +79,7 @@ slice-refused t c k p z (inl f) = let r = sized-refused t k p z f in (r .0, omeg
 slice-refused t c k p z (inr w) =
     ⊎-elim (λ s. (omega (arith, s .number), omega (arith, s .number))) (λ s. (omega (arith, s .number), omega (arith, s .number))) (w .cause)
 
-pub move-refused : (t : List ℕ) (c : Cursor) (leg k p : ℕ) → Sized t → MoveFault t c leg k p → (badLink ≤ k) × (k ≤ cannotRise)
-move-refused t c leg k p z (inl f) = let r = slice-refused t c k p z f in (r .0, omega (arith, r .1))
-move-refused t c leg k p z (inr w) =
+pub move-refused : (t : List ℕ) (c : Cursor) (mv : Move) (k p : ℕ) → Sized t → MoveFault t c mv k p → (badLink ≤ k) × (k ≤ cannotRise)
+move-refused t c mv k p z (inl f) = let r = slice-refused t c k p z f in (r .0, omega (arith, r .1))
+move-refused t c mv k p z (inr w) =
     ⊎-elim (λ s. (omega (arith, s .number), omega (arith, s .number))) (λ s. (omega (arith, s .number), omega (arith, s .number))) (w .cause)

@@ -5,7 +5,7 @@ use mathlib.Core.Path.{_≡_, refl, ap}
 use mathlib.Core.List.{List}
 use mathlib.Core.Logic.{_⊎_, inl, inr}
 use native.Mathlib.Omega.{arith}
-use lib.ListN.{length, getD, set, length-set}
+use lib.ListN.{length, getD, set}
 use lib.Seq.{getD-set-other}
 use Rattle.numbers.specs.Number.{noRoom, bytesEnd, bytesOf}
 use Rattle.numbers.specs.Series.{fileOf}
@@ -14,7 +14,8 @@ use Rattle.numbers.proofs.Rows.{file-set}
 use Rattle.table.specs.Layout.{revisionOf, legCount, Sized}
 use Rattle.table.specs.Size.{aboveLimit}
 use Rattle.table.specs.Records.{revisionAt, offsetAt, moved}
-use Rattle.table.proofs.Moved.{moved-is, offset-inside}
+use Rattle.table.specs.declared.Move.{Move}
+use Rattle.table.proofs.Moved.{revision-inside, moved-is, offset-inside}
 use Rattle.files.specs.Reading.{leftOver, IsFile}
 use Rattle.files.specs.Theorems.{maxCursorBytes}
 use Rattle.files.specs.declared.Cursor.{Cursor}
@@ -31,57 +32,56 @@ use Rattle.host.specs.Calls.{Lent, AfterMove, HostMoves}
 use Rattle.host.specs.Theorems.{moveBytes, MoveRoomIsEnough, FullRoomIsEnough}
 use Rattle.host.proofs.Laws.{move-refused}
 
-moved-file : (t : List ℕ) (leg offset : ℕ) → Sized t → leg < legCount t → length (fileOf (moved t leg offset)) ≤ length (fileOf t) + moveBytes
-moved-file t leg offset z h =
-    let at = offsetAt t leg in
-    let once = set t at offset in
-    let long = length-set t at offset in
-    let first = file-set t at offset (offset-inside t z leg h) in
-    let second = file-set once revisionAt (revisionOf t + 1) (omega (arith, z .head, long)) in
-    let same : getD once revisionAt 0 ≡ revisionOf t = getD-set-other t at revisionAt offset 0 (λ e. omega (arith, e)) in
+moved-file : (t : List ℕ) (mv : Move) → Sized t → mv .leg < legCount t → length (fileOf (moved t mv)) ≤ length (fileOf t) + moveBytes
+moved-file t mv z h =
+    let at = offsetAt t (mv .leg) in
+    let once = set t at (mv .offset) in
+    let first = file-set t at (mv .offset) (offset-inside t z (mv .leg) h) in
+    let second = file-set once revisionAt (revisionOf t + 1) (revision-inside t at (mv .offset) z) in
+    let same : getD once revisionAt 0 ≡ revisionOf t = getD-set-other t at revisionAt (mv .offset) 0 (λ e. omega (arith, e)) in
     let old : length (bytesOf (getD once revisionAt 0)) ≡ length (bytesOf (revisionOf t)) = ap (λ (x : ℕ). length (bytesOf x)) same in
-    let is = ap (λ (l : List ℕ). length (fileOf l)) (moved-is t leg offset at (revisionOf t + 1) refl refl) in
+    let is = ap (λ (l : List ℕ). length (fileOf l)) (moved-is t mv (mv .leg) at (revisionOf t + 1) refl refl refl) in
     let next = next-number-bytes (revisionOf t) in
-    let most = number-bytes-at-most offset .1 in
+    let most = number-bytes-at-most (mv .offset) .1 in
     let least = number-bytes-at-most (getD t at 0) .0 in
     omega (arith, first, second, old, is, next, most, least)
 
 -- A granted move has room; a refused one is refused with another number.
-made-room : (t : List ℕ) (c : Cursor) (leg offset : ℕ) (m : Lent) (g : Grant) (u : List ℕ) (a : Answer) (m′ : Lent)
-    → Sized t → (WellFormedTable t → leg < legCount t → length (fileOf (moved t leg offset)) ≤ length (m .file))
-    → Moves t c leg offset g u → AfterMove g u m a m′ → a .result ≡ refusedResult noRoom → ⊥
-made-room t c leg offset m (grant.Granted d) u a m′ z fits r (inl x) e =
+made-room : (t : List ℕ) (c : Cursor) (mv : Move) (m : Lent) (g : Grant) (u : List ℕ) (a : Answer) (m′ : Lent)
+    → Sized t → (WellFormedTable t → mv .leg < legCount t → length (fileOf (moved t mv)) ≤ length (m .file))
+    → Moves t c mv g u → AfterMove g u m a m′ → a .result ≡ refusedResult noRoom → ⊥
+made-room t c mv m (grant.Granted d) u a m′ z fits r (inl x) e =
     omega (arith, x .fault .fewer, fits (r .cursor .shape) (r .below), ap (λ (l : List ℕ). length (fileOf l)) (r .table))
-made-room t c leg offset m (grant.Granted d) u a m′ z fits r (inr x) e = omega (arith, ap resultAlone (x .1 .answer), e)
-made-room t c leg offset m (grant.Refused k p d) u a m′ z fits r x e = omega (arith, ap resultAlone (x .0), e, move-refused t c leg k p z (r .0) .1)
+made-room t c mv m (grant.Granted d) u a m′ z fits r (inr x) e = omega (arith, ap resultAlone (x .1 .answer), e)
+made-room t c mv m (grant.Refused k p d) u a m′ z fits r x e = omega (arith, ap resultAlone (x .0), e, move-refused t c mv k p z (r .0) .1)
 
 -- No plan file and no saved cursor is refused with 15, so it is enough that every new plan file fits.
-module _ (plan cursor : List ℕ) (leg offset : ℕ) (m : Lent) (a : Answer) (m′ : Lent) (e : a .result ≡ refusedResult noRoom) where
+module _ (plan cursor : List ℕ) (mv : Move) (m : Lent) (a : Answer) (m′ : Lent) (e : a .result ≡ refusedResult noRoom) where
   not-of-the-plan : (k p : ℕ) → a ≡ refusal k p → (k ≡ aboveLimit) ⊎ ((bytesEnd ≤ k) × (k ≤ leftOver)) → ⊥
   not-of-the-plan k p is (inl x) = omega (arith, ap resultAlone is, e, x)
   not-of-the-plan k p is (inr x) = omega (arith, ap resultAlone is, e, x .1)
 
   room-is-enough : maxCursorBytes ≤ length (m .out)
-      → ((t : List ℕ) → IsFile Sized plan t → WellFormedTable t → leg < legCount t → length (fileOf (moved t leg offset)) ≤ length (m .file))
-      → HostMoves plan cursor leg offset m a m′ → ⊥
+      → ((t : List ℕ) → IsFile Sized plan t → WellFormedTable t → mv .leg < legCount t → length (fileOf (moved t mv)) ≤ length (m .file))
+      → HostMoves plan cursor mv m a m′ → ⊥
   room-is-enough o fits (inl r) = not-of-the-plan (r .number) (r .at) (r .answer) (plan-refused plan (r .number) (r .at) (r .fault))
   room-is-enough o fits (inr (t, f, inl r)) = omega (arith, ap resultAlone (r .answer), e, cursor-refused cursor (r .number) (r .at) (r .fault) .1)
   room-is-enough o fits (inr (t, f, inr (c, g, inl r))) = omega (arith, r .fault .fewer, o)
   room-is-enough o fits (inr (t, f, inr (c, g, inr x))) =
-      let s = x .1 in made-room t c leg offset m (s .given) (s .table) a m′ (f .complete) (fits t f) (s .moves) (s .after) e
+      let s = x .1 in made-room t c mv m (s .given) (s .table) a m′ (f .complete) (fits t f) (s .moves) (s .after) e
 
 pub move-room-is-enough : MoveRoomIsEnough
-move-room-is-enough plan cursor leg offset m a m′ o h x e =
-    room-is-enough plan cursor leg offset m a m′ e o
-    (λ t f w below. omega (arith, moved-file t leg offset (w .sized) below, ap length (f .bytes), h))
+move-room-is-enough plan cursor mv m a m′ o h x e =
+    room-is-enough plan cursor mv m a m′ e o
+    (λ t f w below. omega (arith, moved-file t mv (w .sized) below, ap length (f .bytes), h))
     x
 
 -- A move keeps the shape, so the new plan file is one like any other.
 pub full-room-is-enough : FullRoomIsEnough
-full-room-is-enough plan cursor leg offset m a m′ o h x e =
-    room-is-enough plan cursor leg offset m a m′ e o
+full-room-is-enough plan cursor mv m a m′ o h x e =
+    room-is-enough plan cursor mv m a m′ e o
     (λ t f w below.
-    let u = moved t leg offset in
-    let v = moves-keep-shape t u (moved-same t (w .sized) leg offset below) w in
+    let u = moved t mv in
+    let v = moves-keep-shape t u (moved-same t (w .sized) mv below) w in
     omega (arith, file-bytes-at-most .1 u (v .sized), h))
     x

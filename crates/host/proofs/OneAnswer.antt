@@ -6,6 +6,7 @@ use mathlib.Core.Logic.{inl, inr}
 use native.Mathlib.Omega.{arith}
 use lib.ListN.{length}
 use Rattle.numbers.specs.Series.{fileOf}
+use Rattle.table.specs.declared.Move.{Move}
 use Rattle.files.specs.Cursors.{ReadsCursor}
 use Rattle.files.specs.Plan.{PlanFault}
 use Rattle.files.specs.Theorems.{maxCursorBytes}
@@ -101,9 +102,9 @@ after-move-one (grant.Granted d) u m a b x y v w =
     after-room-one Lent m (length (m .file)) (length (fileOf u)) (BothWritten u d m) (written-one u d m) a b x y v w
 after-move-one (grant.Refused k p d) u m a b x y v w = (v .0 ∙ sym (w .0), v .1 ∙ sym (w .1))
 
-move-made-one : (t : List ℕ) (c : Cursor) (leg offset : ℕ) (m : Lent) → OneAnswer Answer Lent (MovedLeg t c leg offset m)
-move-made-one t c leg offset m a b x y u v =
-    let e = move-one-answer t c leg offset (v .given) (u .given) (v .table) (u .table) (v .moves) (u .moves) in
+move-made-one : (t : List ℕ) (c : Cursor) (mv : Move) (m : Lent) → OneAnswer Answer Lent (MovedLeg t c mv m)
+move-made-one t c mv m a b x y u v =
+    let e = move-one-answer t c mv (v .given) (u .given) (v .table) (u .table) (v .moves) (u .moves) in
     let w = subst (λ (g : Grant). AfterMove g (v .table) m b y) (e .0) (v .after) in
     after-move-one (u .given) (u .table) m a b x y (u .after) (subst (λ (z : List ℕ). AfterMove (u .given) z m b y) (e .1) w)
 
@@ -119,10 +120,10 @@ host-slice-full-one-answer plan cursor budget out =
     (λ c. after-room-one (List ℕ) out (length out) maxCursorBytes (Sliced t c budget out) (sliced-one t c budget out)))
 
 pub host-move-one-answer : HostMoveOneAnswer
-host-move-one-answer plan cursor leg offset m =
-    after-plan-one Lent m plan (λ (t : List ℕ). AfterCursor Lent cursor m (λ (c : Cursor). MovesTable t c leg offset m))
-    (λ t. after-cursor-one Lent m cursor (λ (c : Cursor). MovesTable t c leg offset m)
-    (λ c. after-room-one Lent m (length (m .out)) maxCursorBytes (MovedLeg t c leg offset m) (move-made-one t c leg offset m)))
+host-move-one-answer plan cursor mv m =
+    after-plan-one Lent m plan (λ (t : List ℕ). AfterCursor Lent cursor m (λ (c : Cursor). MovesTable t c mv m))
+    (λ t. after-cursor-one Lent m cursor (λ (c : Cursor). MovesTable t c mv m)
+    (λ c. after-room-one Lent m (length (m .out)) maxCursorBytes (MovedLeg t c mv m) (move-made-one t c mv m)))
 
 -- The result alone.
 pub slice-gives-the-result : SliceGivesTheResult

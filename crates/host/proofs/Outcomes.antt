@@ -76,10 +76,10 @@ host-refusals-write-nothing = record {
       (λ a out′ x. start-keeps out out′ (placeCount t) (x .given) a (x .answer) (x .after)));
   slice = slices-keep;
   slice-alone = λ plan cursor budget out r out′ x h. slices-keep plan cursor budget out (x .answer) out′ (x .slices) (omega (arith, x .is, h));
-  move-leg = λ plan cursor leg offset m.
-      after-plan-keeps Lent m plan (λ (t : List ℕ). AfterCursor Lent cursor m (λ (c : Cursor). MovesTable t c leg offset m))
-      (λ t. after-cursor-keeps Lent m cursor (λ (c : Cursor). MovesTable t c leg offset m)
-      (λ c. after-room-keeps Lent m (length (m .out)) maxCursorBytes (MovedLeg t c leg offset m)
+  move-leg = λ plan cursor mv m.
+      after-plan-keeps Lent m plan (λ (t : List ℕ). AfterCursor Lent cursor m (λ (c : Cursor). MovesTable t c mv m))
+      (λ t. after-cursor-keeps Lent m cursor (λ (c : Cursor). MovesTable t c mv m)
+      (λ c. after-room-keeps Lent m (length (m .out)) maxCursorBytes (MovedLeg t c mv m)
       (λ a m′ x. move-keeps m (x .given) (x .table) a m′ (x .after))));
 }
 
@@ -109,8 +109,8 @@ plan-faults-come-first = record {
   start = λ plan out k p a out′ f x. first-fault (List ℕ) out plan (λ (t : List ℕ). StartsTable t out) k p a out′ f x;
   slice = λ plan cursor budget out k p a out′ f x.
       first-fault (List ℕ) out plan (λ (t : List ℕ). AfterCursor (List ℕ) cursor out (λ (c : Cursor). SlicesTable t c budget out)) k p a out′ f x;
-  move-leg = λ plan cursor leg offset m k p a m′ f x.
-      first-fault Lent m plan (λ (t : List ℕ). AfterCursor Lent cursor m (λ (c : Cursor). MovesTable t c leg offset m)) k p a m′ f x;
+  move-leg = λ plan cursor mv m k p a m′ f x.
+      first-fault Lent m plan (λ (t : List ℕ). AfterCursor Lent cursor m (λ (c : Cursor). MovesTable t c mv m)) k p a m′ f x;
   no-other = of-the-plan;
 }
 

@@ -8,6 +8,7 @@ use native.Mathlib.Omega.{arith}
 use Rattle.numbers.specs.Number.{bytesEnd, noRoom}
 use Rattle.table.specs.Layout.{Sized}
 use Rattle.table.specs.Size.{aboveLimit}
+use Rattle.table.specs.declared.Move.{Move}
 use Rattle.files.specs.Reading.{leftOver}
 use Rattle.files.specs.declared.Cursor.{Cursor}
 use Rattle.files.proofs.Refused.{plan-refused, cursor-refused}
@@ -57,12 +58,12 @@ slice-results t c budget (answer.Paused d n) a z s e = inl (omega (arith, ap res
 slice-results t c budget (answer.Refused k p d) a z s e =
     let r = slice-refused t c k p z (s .0) in inr (refused a k p e (r .0) (omega (arith, r .1)))
 
-move-results : (t : List ℕ) (c : Cursor) (leg offset : ℕ) (g : Grant) (u : List ℕ) (m : Lent) (a : Answer) (m′ : Lent)
-    → Sized t → Moves t c leg offset g u → AfterMove g u m a m′ → (a .result ≡ 0) ⊎ IsRefusal (a .result)
-move-results t c leg offset (grant.Granted d) u m a m′ z s (inl r) = inr (for-room a (r .number) (r .at) (r .answer) (r .fault .number))
-move-results t c leg offset (grant.Granted d) u m a m′ z s (inr x) = inl (ap resultAlone (x .1 .answer))
-move-results t c leg offset (grant.Refused k p d) u m a m′ z s x =
-    let r = move-refused t c leg k p z (s .0) in inr (refused a k p (x .0) (r .0) (omega (arith, r .1)))
+move-results : (t : List ℕ) (c : Cursor) (mv : Move) (g : Grant) (u : List ℕ) (m : Lent) (a : Answer) (m′ : Lent)
+    → Sized t → Moves t c mv g u → AfterMove g u m a m′ → (a .result ≡ 0) ⊎ IsRefusal (a .result)
+move-results t c mv (grant.Granted d) u m a m′ z s (inl r) = inr (for-room a (r .number) (r .at) (r .answer) (r .fault .number))
+move-results t c mv (grant.Granted d) u m a m′ z s (inr x) = inl (ap resultAlone (x .1 .answer))
+move-results t c mv (grant.Refused k p d) u m a m′ z s x =
+    let r = move-refused t c mv k p z (s .0) in inr (refused a k p (x .0) (r .0) (omega (arith, r .1)))
 
 -- The calls on bytes.
 start-these : (plan out : List ℕ) (a : Answer) (out′ : List ℕ) → HostStarts plan out a out′ → (a .result ≡ 0) ⊎ IsRefusal (a .result)
@@ -79,14 +80,14 @@ slice-these plan cursor budget out a out′ (inr (t, f, inr (c, g, inl r))) = in
 slice-these plan cursor budget out a out′ (inr (t, f, inr (c, g, inr x))) =
     let s = x .1 in slice-results t c budget (s .given) a (f .complete) (s .slices) (s .answer)
 
-move-these : (plan cursor : List ℕ) (leg offset : ℕ) (m : Lent) (a : Answer) (m′ : Lent)
-    → HostMoves plan cursor leg offset m a m′ → (a .result ≡ 0) ⊎ IsRefusal (a .result)
-move-these plan cursor leg offset m a m′ (inl r) = inr (of-the-plan a (r .number) (r .at) (r .answer) (plan-refused plan (r .number) (r .at) (r .fault)))
-move-these plan cursor leg offset m a m′ (inr (t, f, inl r)) =
+move-these : (plan cursor : List ℕ) (mv : Move) (m : Lent) (a : Answer) (m′ : Lent)
+    → HostMoves plan cursor mv m a m′ → (a .result ≡ 0) ⊎ IsRefusal (a .result)
+move-these plan cursor mv m a m′ (inl r) = inr (of-the-plan a (r .number) (r .at) (r .answer) (plan-refused plan (r .number) (r .at) (r .fault)))
+move-these plan cursor mv m a m′ (inr (t, f, inl r)) =
     inr (of-the-plan a (r .number) (r .at) (r .answer) (inr (cursor-refused cursor (r .number) (r .at) (r .fault))))
-move-these plan cursor leg offset m a m′ (inr (t, f, inr (c, g, inl r))) = inr (for-room a (r .number) (r .at) (r .answer) (r .fault .number))
-move-these plan cursor leg offset m a m′ (inr (t, f, inr (c, g, inr x))) =
-    let s = x .1 in move-results t c leg offset (s .given) (s .table) m a m′ (f .complete) (s .moves) (s .after)
+move-these plan cursor mv m a m′ (inr (t, f, inr (c, g, inl r))) = inr (for-room a (r .number) (r .at) (r .answer) (r .fault .number))
+move-these plan cursor mv m a m′ (inr (t, f, inr (c, g, inr x))) =
+    let s = x .1 in move-results t c mv (s .given) (s .table) m a m′ (f .complete) (s .moves) (s .after)
 
 pub results-are-these : ResultsAreThese
 results-are-these = record {

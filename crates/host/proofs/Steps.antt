@@ -10,6 +10,7 @@ use Rattle.numbers.specs.declared.Written.{Written}
 use Rattle.numbers.specs.declared.Written.the-variants as written
 use Rattle.numbers.proofs.Overlay.{overlaid-taken, overlaid-length}
 use Rattle.table.specs.Layout.{maxTableWords, Sized}
+use Rattle.table.specs.declared.Move.{Move}
 use Rattle.table.proofs.Sizes.{sized-no-fault}
 use Rattle.files.specs.Plan.{PlanFault, PlanUnwritten, ReadsPlan, WritesPlan}
 use Rattle.files.specs.Cursors.{ReadsCursor}
@@ -86,9 +87,9 @@ pub slice-unopened : (s q w : List ℕ) (budget : ℕ) (out : List ℕ) (a : Ans
     → HostSlices s q budget out a out
 slice-unopened s q w budget out a = opened-refused (List ℕ) s q w out (λ (t : List ℕ) (c : Cursor). SlicesTable t c budget out) a
 
-pub move-unopened : (s q w : List ℕ) (leg offset : ℕ) (m : Lent) (a : Answer) (r : Opened) (k p : ℕ) → r ≡ opened.Refused k p → Opens s q r w → a ≡ refusal k p
-    → HostMoves s q leg offset m a m
-move-unopened s q w leg offset m a = opened-refused Lent s q w m (λ (t : List ℕ) (c : Cursor). MovesTable t c leg offset m) a
+pub move-unopened : (s q w : List ℕ) (mv : Move) (m : Lent) (a : Answer) (r : Opened) (k p : ℕ) → r ≡ opened.Refused k p → Opens s q r w → a ≡ refusal k p
+    → HostMoves s q mv m a m
+move-unopened s q w mv m a = opened-refused Lent s q w m (λ (t : List ℕ) (c : Cursor). MovesTable t c mv m) a
 
 -- A start was granted, or is refused.
 pub started-shape : (t : List ℕ) (g : Grant) (d : Cursor) → g ≡ grant.Granted d → Starts t g → WellFormedTable t
@@ -113,24 +114,24 @@ pub with-result : (r s n : ℕ) → r ≡ s → answered r n ≡ answered s n
 with-result r s n e = ap (λ (x : ℕ). answered x n) e
 
 -- A move was granted, or is refused.
-module _ (t : List ℕ) (c : Cursor) (leg offset : ℕ) (g : Grant) (u : List ℕ) where
-  pub move-small : (k p : ℕ) (d : Cursor) → g ≡ grant.Refused k p d → Moves t c leg offset g u → Small k p
-  move-small k p d e h = move-fault-small t c leg k p (subst (λ (x : Grant). Moves t c leg offset x u) e h .0)
+module _ (t : List ℕ) (c : Cursor) (mv : Move) (g : Grant) (u : List ℕ) where
+  pub move-small : (k p : ℕ) (d : Cursor) → g ≡ grant.Refused k p d → Moves t c mv g u → Small k p
+  move-small k p d e h = move-fault-small t c mv k p (subst (λ (x : Grant). Moves t c mv x u) e h .0)
 
-  pub moved-sized : (d : Cursor) → g ≡ grant.Granted d → Moves t c leg offset g u → Sized u
+  pub moved-sized : (d : Cursor) → g ≡ grant.Granted d → Moves t c mv g u → Sized u
   moved-sized d e h =
-      let r : MoveRight t c leg offset d u = subst (λ (x : Grant). Moves t c leg offset x u) e h in
+      let r : MoveRight t c mv d u = subst (λ (x : Grant). Moves t c mv x u) e h in
       let w = r .cursor .shape in
-      subst Sized (sym (r .table)) (moves-keep-shape t _ (moved-same t (w .sized) leg offset (r .below)) w .sized)
+      subst Sized (sym (r .table)) (moves-keep-shape t _ (moved-same t (w .sized) mv (r .below)) w .sized)
 
-  pub move-refused : (m : Lent) (a : Answer) (k p : ℕ) (d : Cursor) → g ≡ grant.Refused k p d → Moves t c leg offset g u → a ≡ refusal k p
-      → MovedLeg t c leg offset m a m
+  pub move-refused : (m : Lent) (a : Answer) (k p : ℕ) (d : Cursor) → g ≡ grant.Refused k p d → Moves t c mv g u → a ≡ refusal k p
+      → MovedLeg t c mv m a m
   move-refused m a k p d e h f =
-      record { given = grant.Refused k p d; table = u; moves = subst (λ (x : Grant). Moves t c leg offset x u) e h; after = (f, refl) }
+      record { given = grant.Refused k p d; table = u; moves = subst (λ (x : Grant). Moves t c mv x u) e h; after = (f, refl) }
 
-  pub move-granted : (m : Lent) (a : Answer) (m′ : Lent) (d : Cursor) → g ≡ grant.Granted d → Moves t c leg offset g u → WritesBoth u d m a m′
-      → MovedLeg t c leg offset m a m′
-  move-granted m a m′ d e h w = record { given = grant.Granted d; table = u; moves = subst (λ (x : Grant). Moves t c leg offset x u) e h; after = w }
+  pub move-granted : (m : Lent) (a : Answer) (m′ : Lent) (d : Cursor) → g ≡ grant.Granted d → Moves t c mv g u → WritesBoth u d m a m′
+      → MovedLeg t c mv m a m′
+  move-granted m a m′ d e h w = record { given = grant.Granted d; table = u; moves = subst (λ (x : Grant). Moves t c mv x u) e h; after = w }
 
 -- A plan file was written, or had no room.
 unwritten-for-room : (t : List ℕ) (room k : ℕ) → Sized t → PlanUnwritten t room k → TooFew room (length (fileOf t)) k 0

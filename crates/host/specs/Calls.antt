@@ -4,6 +4,7 @@ use mathlib.Core.Path.{_≡_}
 use mathlib.Core.List.{List}
 use lib.ListN.{length}
 use Rattle.numbers.specs.Series.{fileOf, overlaid}
+use Rattle.table.specs.declared.Move.{Move}
 use Rattle.files.specs.Theorems.{maxCursorBytes}
 use Rattle.files.specs.declared.Cursor.{Cursor}
 use Rattle.places.specs.Order.{placeCount}
@@ -54,10 +55,10 @@ AfterMove (grant.Granted d) u m a m′ = WritesBoth u d m a m′
 AfterMove (grant.Refused k p d) u m a m′ = (a ≡ refusal k p) × (m′ ≡ m)
 
 -- A move of one leg of the table t: given is what it gives, and table is what t becomes.
-pub record MovedLeg (t : List ℕ) (c : Cursor) (leg offset : ℕ) (m : Lent) (a : Answer) (m′ : Lent) : Type 0 where
+pub record MovedLeg (t : List ℕ) (c : Cursor) (mv : Move) (m : Lent) (a : Answer) (m′ : Lent) : Type 0 where
   pub given : Grant
   pub table : List ℕ
-  pub moves : Moves t c leg offset given table
+  pub moves : Moves t c mv given table
   pub after : AfterMove given table m a m′
 
 -- The plan, and the cursor of a slice and of a move, are read: 15 where fewer than 15 bytes are lent for the cursor that comes back, then as the call. (The
@@ -68,8 +69,8 @@ StartsTable t out = AfterRoom (List ℕ) (length out) maxCursorBytes out (Starte
 abbrev pub SlicesTable : List ℕ → Cursor → ℕ → List ℕ → Answer → List ℕ → Type 0
 SlicesTable t c budget out = AfterRoom (List ℕ) (length out) maxCursorBytes out (Sliced t c budget out)
 
-abbrev pub MovesTable : List ℕ → Cursor → ℕ → ℕ → Lent → Answer → Lent → Type 0
-MovesTable t c leg offset m = AfterRoom Lent (length (m .out)) maxCursorBytes m (MovedLeg t c leg offset m)
+abbrev pub MovesTable : List ℕ → Cursor → Move → Lent → Answer → Lent → Type 0
+MovesTable t c mv m = AfterRoom Lent (length (m .out)) maxCursorBytes m (MovedLeg t c mv m)
 
 -- The calls, on the bytes of a plan file and of a saved cursor. A start is given no cursor.
 abbrev pub HostStarts : List ℕ → List ℕ → Answer → List ℕ → Type 0
@@ -79,8 +80,8 @@ abbrev pub HostSlices : List ℕ → List ℕ → ℕ → List ℕ → Answer �
 HostSlices plan cursor budget out =
     AfterPlan (List ℕ) plan out (λ (t : List ℕ). AfterCursor (List ℕ) cursor out (λ (c : Cursor). SlicesTable t c budget out))
 
-abbrev pub HostMoves : List ℕ → List ℕ → ℕ → ℕ → Lent → Answer → Lent → Type 0
-HostMoves plan cursor leg offset m = AfterPlan Lent plan m (λ (t : List ℕ). AfterCursor Lent cursor m (λ (c : Cursor). MovesTable t c leg offset m))
+abbrev pub HostMoves : List ℕ → List ℕ → Move → Lent → Answer → Lent → Type 0
+HostMoves plan cursor mv m = AfterPlan Lent plan m (λ (t : List ℕ). AfterCursor Lent cursor m (λ (c : Cursor). MovesTable t c mv m))
 
 -- The slice that gives one number, r: the result of the answer that the slice in full gives.
 pub record HostSliceResult (plan cursor : List ℕ) (budget : ℕ) (out : List ℕ) (r : ℕ) (out′ : List ℕ) : Type 0 where

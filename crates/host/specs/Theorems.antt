@@ -5,6 +5,7 @@ use mathlib.Core.List.{List}
 use mathlib.Core.Logic.{_⊎_}
 use lib.ListN.{length}
 use Rattle.numbers.specs.Number.{noRoom}
+use Rattle.table.specs.declared.Move.{Move}
 use Rattle.files.specs.Plan.{PlanFault}
 use Rattle.files.specs.Theorems.{maxFileBytes, maxCursorBytes}
 use Rattle.files.specs.declared.Cursor.{Cursor}
@@ -30,7 +31,7 @@ abbrev pub HostSliceOneAnswer : Type 0
 HostSliceOneAnswer = (plan cursor : List ℕ) (budget : ℕ) (out : List ℕ) → OneAnswer ℕ (List ℕ) (HostSliceResult plan cursor budget out)
 
 abbrev pub HostMoveOneAnswer : Type 0
-HostMoveOneAnswer = (plan cursor : List ℕ) (leg offset : ℕ) (m : Lent) → OneAnswer Answer Lent (HostMoves plan cursor leg offset m)
+HostMoveOneAnswer = (plan cursor : List ℕ) (mv : Move) (m : Lent) → OneAnswer Answer Lent (HostMoves plan cursor mv m)
 
 -- The slice that gives one number gives the result of the slice in full, and writes the same.
 abbrev pub SliceGivesTheResult : Type 0
@@ -46,7 +47,7 @@ pub record HostRefusalsWriteNothing : Type 0 where
   pub start : (plan out : List ℕ) → Keeps (List ℕ) out (HostStarts plan out)
   pub slice : (plan cursor : List ℕ) (budget : ℕ) (out : List ℕ) → Keeps (List ℕ) out (HostSlices plan cursor budget out)
   pub slice-alone : (plan cursor : List ℕ) (budget : ℕ) (out : List ℕ) (r : ℕ) (out′ : List ℕ) → HostSliceResult plan cursor budget out r out′ → refusedResult 0 ≤ r → out′ ≡ out
-  pub move-leg : (plan cursor : List ℕ) (leg offset : ℕ) (m : Lent) → Keeps Lent m (HostMoves plan cursor leg offset m)
+  pub move-leg : (plan cursor : List ℕ) (mv : Move) (m : Lent) → Keeps Lent m (HostMoves plan cursor mv m)
 
 -- Which file a refusal 12, 13 or 14 lies in: in every call a fault of the plan file comes before all else, and a start gives 12, 13 and 14 for such a fault alone.
 -- So it lies in the plan file exactly when a start gives it too.
@@ -54,8 +55,8 @@ pub record PlanFaultsComeFirst : Type 0 where
   pub start : (plan out : List ℕ) (k p : ℕ) (a : Answer) (out′ : List ℕ) → PlanFault plan k p → HostStarts plan out a out′ → a ≡ refusal k p
   pub slice : (plan cursor : List ℕ) (budget : ℕ) (out : List ℕ) (k p : ℕ) (a : Answer) (out′ : List ℕ)
       → PlanFault plan k p → HostSlices plan cursor budget out a out′ → a ≡ refusal k p
-  pub move-leg : (plan cursor : List ℕ) (leg offset : ℕ) (m : Lent) (k p : ℕ) (a : Answer) (m′ : Lent)
-      → PlanFault plan k p → HostMoves plan cursor leg offset m a m′ → a ≡ refusal k p
+  pub move-leg : (plan cursor : List ℕ) (mv : Move) (m : Lent) (k p : ℕ) (a : Answer) (m′ : Lent)
+      → PlanFault plan k p → HostMoves plan cursor mv m a m′ → a ≡ refusal k p
   pub no-other : (plan out : List ℕ) (k p : ℕ) (out′ : List ℕ) → 12 ≤ k → k ≤ 14 → HostStarts plan out (refusal k p) out′ → PlanFault plan k p
 
 -- A move makes a plan file longer by 5 bytes at the most: 4 for the offset and 1 for the revision. So whoever lends that much more than the plan has for the new
@@ -65,16 +66,16 @@ moveBytes = 5
 
 abbrev pub MoveRoomIsEnough : Type 0
 MoveRoomIsEnough =
-    (plan cursor : List ℕ) (leg offset : ℕ) (m : Lent) (a : Answer) (m′ : Lent)
+    (plan cursor : List ℕ) (mv : Move) (m : Lent) (a : Answer) (m′ : Lent)
     → maxCursorBytes ≤ length (m .out) → length plan + moveBytes ≤ length (m .file)
-    → HostMoves plan cursor leg offset m a m′ → a .result ≡ refusedResult noRoom → ⊥
+    → HostMoves plan cursor mv m a m′ → a .result ≡ refusedResult noRoom → ⊥
 
 -- Nor is whoever lends 48,665 bytes for the new file and 15 for the cursor, whatever the plan.
 abbrev pub FullRoomIsEnough : Type 0
 FullRoomIsEnough =
-    (plan cursor : List ℕ) (leg offset : ℕ) (m : Lent) (a : Answer) (m′ : Lent)
+    (plan cursor : List ℕ) (mv : Move) (m : Lent) (a : Answer) (m′ : Lent)
     → maxCursorBytes ≤ length (m .out) → maxFileBytes ≤ length (m .file)
-    → HostMoves plan cursor leg offset m a m′ → a .result ≡ refusedResult noRoom → ⊥
+    → HostMoves plan cursor mv m a m′ → a .result ≡ refusedResult noRoom → ⊥
 
 -- The results of refusals: 102, and 104 to 115. No call gives 101 or 103: they are of tables in memory, and a plan file that is read has the length that its header
 -- says.
@@ -88,8 +89,8 @@ pub record ResultsAreThese : Type 0 where
       → HostSliceResult plan cursor budget out r out′ → (r ≤ 5) ⊎ IsRefusal r
   pub slice-full : (plan cursor : List ℕ) (budget : ℕ) (out : List ℕ) (a : Answer) (out′ : List ℕ)
       → HostSlices plan cursor budget out a out′ → (a .result ≤ 5) ⊎ IsRefusal (a .result)
-  pub move-leg : (plan cursor : List ℕ) (leg offset : ℕ) (m : Lent) (a : Answer) (m′ : Lent)
-      → HostMoves plan cursor leg offset m a m′ → (a .result ≡ 0) ⊎ IsRefusal (a .result)
+  pub move-leg : (plan cursor : List ℕ) (mv : Move) (m : Lent) (a : Answer) (m′ : Lent)
+      → HostMoves plan cursor mv m a m′ → (a .result ≡ 0) ⊎ IsRefusal (a .result)
 
 -- The answers at the paper's numbers: 0 nothing violated, 1 paused, 2 to 5 violated (window, hop, deadline, overlap), each with the steps; a start, 0 with the
 -- places; 100 plus the refusal number, with the position. And 15, the fewest bytes that are taken for the cursor.

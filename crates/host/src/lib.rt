@@ -3,11 +3,13 @@
 ghost use Prim.Native.Nat.{_≤_};
 ghost use lib.ListN.{length};
 ghost use Rattle.table.specs.Layout.{maxTableWords};
+ghost use Rattle.table.specs.Records.{moveTo};
 ghost use Rattle.host.specs.Calls.{lent, HostStarts, HostSlices, HostSliceResult, HostMoves};
 ghost use Rattle.host.specs.Steps.{Opens};
 use files::Cursor;
 use files::CursorRead;
 use files::PlanRead;
+use table::Move;
 
 mod answers;
 mod tables;
@@ -69,19 +71,18 @@ fn slice_plan(plan: &[u8], cursor: &[u8], budget: u32, out: &mut [u8], words: &m
 fn move_plan(
     plan: &[u8],
     cursor: &[u8],
-    leg: u32,
-    offset: u32,
+    mv: Move,
     file: &mut [u8],
     out: &mut [u8],
     words: &mut [u32],
 ) -> Answer
     requires { ⌜ maxTableWords ≤ length (now words) ⌝ }
-    ensures { λ r. ⌜ HostMoves (now (plan .entry)) (now (cursor .entry)) leg offset (lent (now (file .entry)) (now (out .entry))) r (lent (now (file .exit)) (now (out .exit))) ⌝ }
+    ensures { λ r. ⌜ HostMoves (now (plan .entry)) (now (cursor .entry)) mv (lent (now (file .entry)) (now (out .entry))) r (lent (now (file .exit)) (now (out .exit))) ⌝ }
 {
     let read = open_both(plan, cursor, words);
     match read {
         Opened::Refused(number, at) => answers::refused(number, at),
-        Opened::Both(n, c) => tables::move_table(&mut words[..n], c, leg, offset, file, out),
+        Opened::Both(n, c) => tables::move_table(&mut words[..n], c, mv, file, out),
     }
 }
 
@@ -128,8 +129,9 @@ pub extern "C" fn conepalhui_move(
     file: &mut [u8],
     out: &mut [u8],
 ) -> Answer
-    ensures { λ r. ⌜ HostMoves (now (plan .entry)) (now (cursor .entry)) leg offset (lent (now (file .entry)) (now (out .entry))) r (lent (now (file .exit)) (now (out .exit))) ⌝ }
+    ensures { λ r. ⌜ HostMoves (now (plan .entry)) (now (cursor .entry)) (moveTo leg offset) (lent (now (file .entry)) (now (out .entry))) r (lent (now (file .exit)) (now (out .exit))) ⌝ }
 {
     let mut words = [0u32; table::MAX_TABLE_WORDS];
-    move_plan(plan, cursor, leg, offset, file, out, &mut words)
+    let mv = Move { leg, offset };
+    move_plan(plan, cursor, mv, file, out, &mut words)
 }

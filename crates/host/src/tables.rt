@@ -10,6 +10,7 @@ use checker::Grant;
 use checker::SliceAnswer;
 use files::Cursor;
 use numbers::Written;
+use table::Move;
 
 // How many bytes the caller has to lend for the cursor: any cursor fits.
 const CURSOR_ROOM: usize = files::MAX_CURSOR_BYTES;
@@ -89,17 +90,16 @@ fn write_both(t: &[u32], cursor: Cursor, file: &mut [u8], out: &mut [u8]) -> Ans
 pub(crate) fn move_table(
     t: &mut [u32],
     cursor: Cursor,
-    leg: u32,
-    offset: u32,
+    mv: Move,
     file: &mut [u8],
     out: &mut [u8],
 ) -> Answer
-    ensures { λ r. ⌜ MovesTable (now (t .entry)) cursor leg offset (lent (now (file .entry)) (now (out .entry))) r (lent (now (file .exit)) (now (out .exit))) ⌝ }
+    ensures { λ r. ⌜ MovesTable (now (t .entry)) cursor mv (lent (now (file .entry)) (now (out .entry))) r (lent (now (file .exit)) (now (out .exit))) ⌝ }
 {
     if out.len() < CURSOR_ROOM {
         return answers::refused(numbers::NO_ROOM, 0);
     }
-    let told = checker::move_leg(t, cursor, leg, offset);
+    let told = checker::move_leg(t, cursor, mv);
     match told {
         Grant::Refused(number, at, given) => answers::refused(number, at),
         Grant::Granted(next) => write_both(t, next, file, out),

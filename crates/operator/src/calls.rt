@@ -12,6 +12,7 @@ use durable::FileRead;
 use files::Cursor;
 use files::PlanRead;
 use numbers::Written;
+use table::Move;
 
 // One byte more than the largest plan file, so that a byte left over is seen.
 const PLAN_ROOM: usize = files::MAX_FILE_BYTES + 1;
@@ -169,16 +170,8 @@ fn written(plan_path: &[u8], cursor_path: &[u8], old: &[u8], t: &[u32], c: Curso
     }
 }
 
-fn moved(
-    plan_path: &[u8],
-    cursor_path: &[u8],
-    old: &[u8],
-    t: &mut [u32],
-    c: Cursor,
-    leg: u32,
-    offset: u32,
-) {
-    let told = checker::move_leg(t, c, leg, offset);
+fn moved(plan_path: &[u8], cursor_path: &[u8], old: &[u8], t: &mut [u32], c: Cursor, mv: Move) {
+    let told = checker::move_leg(t, c, mv);
     match told {
         Grant::Refused(number, at, _) => {
             refused(cursor_path, t, number, at);
@@ -191,17 +184,10 @@ fn moved(
     }
 }
 
-fn move_leg(
-    plan_path: &[u8],
-    cursor_path: &[u8],
-    plan: &[u8],
-    t: &mut [u32],
-    leg: u32,
-    offset: u32,
-) {
+fn move_leg(plan_path: &[u8], cursor_path: &[u8], plan: &[u8], t: &mut [u32], mv: Move) {
     let at = saved::cursor(cursor_path);
     if let Saved::At(c) = at {
-        moved(plan_path, cursor_path, plan, t, c, leg, offset);
+        moved(plan_path, cursor_path, plan, t, c, mv);
     }
 }
 
@@ -213,8 +199,8 @@ fn on_table(order: Order, plan_path: &[u8], cursor_path: &[u8], plan: &[u8], t: 
         Order::Slice(budget) => {
             slice(cursor_path, plan, t, budget);
         }
-        Order::Move(leg, offset) => {
-            move_leg(plan_path, cursor_path, plan, t, leg, offset);
+        Order::Move(mv) => {
+            move_leg(plan_path, cursor_path, plan, t, mv);
         }
         Order::Wrong => {}
     }

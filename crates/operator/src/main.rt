@@ -1,6 +1,7 @@
 // What an operator and a planner do with files: start PLAN CURSOR [--anew], slice PLAN CURSOR BUDGET, move PLAN CURSOR LEG OFFSET. The first line that it
 // writes is the answer; where a file cannot be read or written or is not ours, or an argument is wrong, it writes none and says so on standard error.
 use decimal::Decimal;
+use table::Move;
 
 mod answers;
 mod calls;
@@ -11,7 +12,7 @@ mod saved;
 pub(crate) enum Order {
     Start(bool),
     Slice(u32),
-    Move(u32, u32),
+    Move(Move),
     Wrong,
 }
 
@@ -81,13 +82,13 @@ fn slice_order() -> Order {
 }
 
 fn move_order() -> Order {
-    let leg = number_at(FIRST_NUMBER_AT, b"the leg");
-    let Word::Given(moved) = leg else {
+    let first = number_at(FIRST_NUMBER_AT, b"the leg");
+    let Word::Given(leg) = first else {
         return Order::Wrong;
     };
-    let offset = number_at(FIRST_NUMBER_AT + 1, b"the offset");
-    match offset {
-        Word::Given(value) => Order::Move(moved, value),
+    let second = number_at(FIRST_NUMBER_AT + 1, b"the offset");
+    match second {
+        Word::Given(offset) => Order::Move(Move { leg, offset }),
         Word::Wrong => Order::Wrong,
     }
 }

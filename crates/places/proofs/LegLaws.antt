@@ -7,7 +7,7 @@ use native.Mathlib.Nat.{eq-or-lt-of-le}
 use native.Mathlib.Omega.{arith}
 use Rattle.basics.proofs.Splits.{lt-or-ge}
 use Rattle.table.specs.Layout.{maxLegs}
-use Rattle.rules.specs.Places.{ownPlaces, placesOf, overlapPlace, PlaceHolds, JudgedTold}
+use Rattle.rules.specs.Places.{ownPlaces, overlapPlace, placesOf, PlaceHolds, JudgedTold}
 use Rattle.rules.specs.Steps.{LegIn}
 use Rattle.rules.specs.declared.Asked.the-variants as asked
 use Rattle.rules.specs.declared.Judged.{Judged}
@@ -15,8 +15,8 @@ use Rattle.rules.specs.declared.Judged.the-variants as judged
 use Rattle.rules.specs.declared.Rule.{Rule}
 use Rattle.rules.specs.declared.Rule.the-variants as rule
 use Rattle.rules.proofs.Placing.{place-holds, asked-holds, place-rule}
-use Rattle.shape.specs.declared.Found.{Found}
-use Rattle.shape.specs.declared.Found.the-variants as found
+use Rattle.basics.specs.declared.Found.{Found}
+use Rattle.basics.specs.declared.Found.the-variants as found
 use Rattle.places.specs.Told.{LegHolds, FirstBroken, ToldOfLeg, Clear, FirstMet, ToldOfMeeting, IsLesser}
 use Rattle.places.specs.declared.LegTold.{LegTold}
 use Rattle.places.specs.declared.LegTold.the-variants.{Broken, Kept}
@@ -82,8 +82,8 @@ module _ {t : List ℕ} {a p n limit : ℕ} {met : Found} (d : n ≡ p - ownPlac
   pub none-met : met ≡ found.Nowhere → ToldOfMeeting t a n (limit - ownPlaces) met → LegHolds t a p limit
   none-met e m s l h = own-and-overlaps d own (subst (ToldOfMeeting t a n (limit - ownPlaces)) e m) s l (omega (arith, own .more))
 
-  pub met-is-broken : {b q : ℕ} → met ≡ found.At b → q ≡ overlapPlace b → ToldOfMeeting t a n (limit - ownPlaces) met → FirstBroken t a p limit q rule.Overlap
-  met-is-broken {b} {q} e at m =
+  pub met-is-broken : {b q : ℕ} → met ≡ found.At b → ToldOfMeeting t a n (limit - ownPlaces) met → q ≡ overlapPlace b → FirstBroken t a p limit q rule.Overlap
+  met-is-broken {b} e m at =
       let x : FirstMet t a n (limit - ownPlaces) b = subst (ToldOfMeeting t a n (limit - ownPlaces)) e m in
       rw at
       (record {

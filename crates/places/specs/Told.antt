@@ -2,8 +2,8 @@
 use Prim.Native.Nat.{ℕ, _≤_, _<_}
 use mathlib.Core.Path.{_≡_}
 use mathlib.Core.List.{List}
-use Rattle.shape.specs.declared.Found.{Found}
-use Rattle.shape.specs.declared.Found.the-variants as found
+use Rattle.basics.specs.declared.Found.{Found}
+use Rattle.basics.specs.declared.Found.the-variants as found
 use Rattle.rules.specs.Places.{ruleAt, PlaceHolds}
 use Rattle.rules.specs.Rules.{Overlap}
 use Rattle.rules.specs.Steps.{LegIn, FrameOf}

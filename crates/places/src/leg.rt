@@ -7,12 +7,12 @@ ghost use Rattle.rules.specs.Steps.{LegIn, FrameOf};
 ghost use Rattle.places.specs.Chains.{NextOn, Begun, Chained};
 ghost use Rattle.places.specs.Told.{ToldOfLeg, ToldOfMeeting, LegLooked};
 use crate::LegTold;
+use basics::Found;
 use basics::Holds;
 use overlap::Known;
 use rules::Frame;
 use rules::Judged;
 use rules::Rule;
-use shape::Found;
 
 // The places of leg a from p on and below the limit, one by one.
 fn each_told(t: &[u32], a: usize, f: Frame, p: usize, limit: usize) -> LegTold

@@ -6,6 +6,8 @@ use mathlib.Core.Logic.{inl, inr}
 use lib.ListN.{length}
 use native.Mathlib.Omega.{arith}
 use borrow.Author.Count.{below-none, below-more}
+use Rattle.basics.specs.Lowest.{All}
+use Rattle.basics.proofs.Lowest.{lowest-of-all}
 use Rattle.table.specs.Layout.{linkWords, streamWords, legWords, maxLinks, maxStreams, maxLegs, maxPrecision, legCount, InLimits, Sized}
 use Rattle.table.specs.Records.{linkPart, streamPart, linkIn, streamIn, streamAt}
 use Rattle.table.specs.declared.Link.{Link}
@@ -14,7 +16,7 @@ use Rattle.table.proofs.PartLaws.{link-of-part, stream-of-part, leg-of-part}
 use Rattle.shape.specs.Links.{maxNode, maxPropagation, IsRate, LinkInRange, LinkNew}
 use Rattle.shape.specs.Streams.{maxRoute, legsBefore, StreamInRange, StreamRight}
 use Rattle.shape.specs.Legs.{LegRight}
-use Rattle.shape.specs.Shape.{All, LinkRight, LinkFault, DoubleFault, StreamFault, LegFault, ShapeFault}
+use Rattle.shape.specs.Shape.{LinkRight, ShapeFault}
 use Rattle.shape.specs.RefusalsAtNumbers.{TableRefused, headerOf, wrongLink, linkAgain, wrongStream, fewerLegs, wrongLeg, ShapeRefusalsAtNumbers}
 use Rattle.shape.proofs.OneShape.{well-no-fault}
 use Rattle.shape.proofs.StreamLaws.{legs-none, legs-more}
@@ -25,14 +27,14 @@ refused : (t : List ℕ) (k p : ℕ) → ShapeFault t k p → TableRefused t k p
 refused t k p f = record { first = f; not-well-formed = λ w. well-no-fault w f }
 
 above : (n s g p : ℕ) → (InLimits (headerOf n s g p) → ⊥) → TableRefused (headerOf n s g p) 2 0
-above n s g p h = refused _ 2 0 (inl (inr (inl (refl, omega arith, h)), refl))
+above n s g p h = refused _ 2 0 (inl (inr (omega arith, inl (refl, refl, h))))
 
 -- The counts n, s and g are within their limits, and so is the precision p.
 limits : (n s g p : ℕ) (ws : List ℕ) → (n ≤ maxLinks) × (s ≤ maxStreams) × (g ≤ maxLegs) × (p ≤ maxPrecision) → InLimits (0 ∷ n ∷ s ∷ g ∷ p ∷ ws)
 limits n s g p ws h = record { links = h .0; streams = h .1; legs = h .2; precision = h .3 }
 
 length-differs : (n s g p : ℕ) (ws : List ℕ) → (n ≤ maxLinks) × (s ≤ maxStreams) × (g ≤ maxLegs) × (p ≤ maxPrecision) → (length ws ≡ linkWords * n + streamWords * s + legWords * g → ⊥) → TableRefused (0 ∷ n ∷ s ∷ g ∷ p ∷ ws) 3 0
-length-differs n s g p ws h d = refused _ 3 0 (inl (inr (inr (refl, omega arith, limits n s g p ws h, λ e. d (omega arith))), refl))
+length-differs n s g p ws h d = refused _ 3 0 (inl (inr (omega arith, inr (limits n s g p ws h, (refl, refl, λ e. d (omega arith))))))
 
 sized : (n s g : ℕ) (ws : List ℕ) → n + s + g ≤ maxLinks → length ws ≡ linkWords * n + streamWords * s + legWords * g → Sized (0 ∷ n ∷ s ∷ g ∷ 0 ∷ ws)
 sized n s g ws h e = record {
@@ -101,29 +103,28 @@ module _ (t : List ℕ) where
           within = omega (arith, legs-none t, ap (λ (s : Stream). s .count) stream-0, h .2);
         })
 
-link : LinkFault wrongLink 2
-link = record {
-  sized = sized 3 0 0 _ (omega arith) refl;
-  lowest = record {
-    inside = omega arith;
-    bad = λ r.
+link : ShapeFault wrongLink 4 2
+link =
+    inr (sized 3 0 0 _ (omega arith) refl, inl (refl, lowest-of-all (omega arith) bad (second-link wrongLink refl 1 2 refl (omega arith) (omega arith))))
+  where
+    bad : LinkRight wrongLink 2 → ⊥
+    bad r =
         let e = link-of-part wrongLink 2 in
-        r .different (sym (ap (λ (z : Link). z .from) e) ∙ ap (λ (z : Link). z .to) e);
-    before = second-link wrongLink refl 1 2 refl (omega arith) (omega arith);
-  };
-}
+        r .different (sym (ap (λ (z : Link). z .from) e) ∙ ap (λ (z : Link). z .to) e)
 
-link-again : DoubleFault linkAgain 2
-link-again = record {
-  sized = sized 3 1 0 _ (omega arith) refl;
-  links = below-more
-      (LinkRight linkAgain)
-      2
-      (second-link linkAgain refl 2 3 refl (omega arith) (omega arith))
-      (link-right linkAgain 2 (upwards 1 2 80 0 (omega arith) (omega arith) (inr (inl refl)) (omega arith)));
-  lowest = record {
-    inside = omega arith;
-    bad = λ new.
+link-again : ShapeFault linkAgain 5 2
+link-again = inr (sized 3 1 0 _ (omega arith) refl, inr (links, inl (refl, lowest-of-all (omega arith) bad (second-new linkAgain (omega arith)))))
+  where
+    links : All (LinkRight linkAgain) 3
+    links =
+        below-more
+        (LinkRight linkAgain)
+        2
+        (second-link linkAgain refl 2 3 refl (omega arith) (omega arith))
+        (link-right linkAgain 2 (upwards 1 2 80 0 (omega arith) (omega arith) (inr (inl refl)) (omega arith)))
+
+    bad : LinkNew linkAgain 2 → ⊥
+    bad new =
         let e = link-of-part linkAgain 0 in
         let f = link-of-part linkAgain 2 in
         new
@@ -132,72 +133,84 @@ link-again = record {
         (record {
           from-node = sym (ap (λ (z : Link). z .from) e) ∙ ap (λ (z : Link). z .from) f;
           to-node = sym (ap (λ (z : Link). z .to) e) ∙ ap (λ (z : Link). z .to) f;
-        });
-    before = second-new linkAgain (omega arith);
-  };
-}
+        })
 
-stream : StreamFault wrongStream 1
-stream = record {
-  sized = sized 1 2 2 _ (omega arith) refl;
-  links = first-link wrongStream refl;
-  new-links = first-new wrongStream;
-  wrong = inl
-      (record {
-        inside = omega arith;
-        bad = λ r. omega (arith, r .first, ap (λ (s : Stream). s .first) (stream-of-part wrongStream 1), legs-before-1 wrongStream 1 refl);
-        before = first-stream wrongStream 1 refl (omega arith, omega arith, omega arith);
-      });
-}
+stream : ShapeFault wrongStream 6 1
+stream =
+    inr (
+      sized 1 2 2 _ (omega arith) refl,
+      inr (
+        first-link wrongStream refl,
+        inr (
+          first-new wrongStream,
+          inl (refl, lowest-of-all (omega arith) bad (first-stream wrongStream 1 refl (omega arith, omega arith, omega arith))),
+        ),
+      ),
+    )
+  where
+    bad : StreamRight wrongStream 1 → ⊥
+    bad r = omega (arith, r .first, ap (λ (s : Stream). s .first) (stream-of-part wrongStream 1), legs-before-1 wrongStream 1 refl)
 
-fewer-legs : StreamFault fewerLegs 1
-fewer-legs = record {
-  sized = sized 1 1 2 _ (omega arith) refl;
-  links = first-link fewerLegs refl;
-  new-links = first-new fewerLegs;
-  wrong = inr (refl, first-stream fewerLegs 1 refl (omega arith, omega arith, omega arith), omega (arith, legs-before-1 fewerLegs 1 refl));
-}
+fewer-legs : ShapeFault fewerLegs 6 1
+fewer-legs =
+    inr (
+      sized 1 1 2 _ (omega arith) refl,
+      inr (
+        first-link fewerLegs refl,
+        inr (
+          first-new fewerLegs,
+          inr (
+            first-stream fewerLegs 1 refl (omega arith, omega arith, omega arith),
+            inl (refl, refl, λ e. omega (arith, e, legs-before-1 fewerLegs 1 refl)),
+          ),
+        ),
+      ),
+    )
 
-leg : LegFault wrongLeg 1
+leg : ShapeFault wrongLeg 7 1
 leg =
     let link-0 = sym (link-of-part wrongLeg 0) in
     let link-1 = sym (link-of-part wrongLeg 1) in
     let leg-0 = sym (leg-of-part wrongLeg 0) in
     let leg-1 = sym (leg-of-part wrongLeg 1) in
     let its-stream = stream-0 wrongLeg 2 refl in
-    record {
-      sized = sized 2 1 2 _ (omega arith) refl;
-      links = second-link wrongLeg refl 3 4 refl (omega arith) (omega arith);
-      new-links = second-new wrongLeg (omega arith);
-      streams = first-stream wrongLeg 2 refl (omega arith, omega arith, omega arith);
-      counts = legs-before-1 wrongLeg 2 refl;
-      lowest = record {
-        inside = omega arith;
-        bad = λ r.
-            let first = ap (λ (s : Stream). s .first) (stream-of wrongLeg 1 0 _ _ leg-1 refl its-stream) in
-            let from = ap (λ (l : Link). l .from) (link-of wrongLeg 1 1 _ _ leg-1 refl link-1) in
-            let to = ap (λ (l : Link). l .to) (link-of wrongLeg 0 0 _ _ leg-0 refl link-0) in
-            omega (arith, r .joined 0 (omega arith) refl);
-        before = below-more
-            (LegRight wrongLeg)
-            0
-            (below-none (LegRight wrongLeg))
-            (first-leg-right wrongLeg 0 0 0 _ _ _ (omega arith) (omega arith) leg-0 refl refl its-stream refl (omega arith) link-0 (λ e. omega (arith, e)));
-      };
-    }
+    let bad : LegRight wrongLeg 1 → ⊥ = λ r.
+    let first = ap (λ (s : Stream). s .first) (stream-of wrongLeg 1 0 _ _ leg-1 refl its-stream) in
+    let from = ap (λ (l : Link). l .from) (link-of wrongLeg 1 1 _ _ leg-1 refl link-1) in
+    let to = ap (λ (l : Link). l .to) (link-of wrongLeg 0 0 _ _ leg-0 refl link-0) in
+    omega (arith, r .joined 0 (omega arith) refl) in
+    let before : All (LegRight wrongLeg) 1 =
+    below-more
+    (LegRight wrongLeg)
+    0
+    (below-none (LegRight wrongLeg))
+    (first-leg-right wrongLeg 0 0 0 _ _ _ (omega arith) (omega arith) leg-0 refl refl its-stream refl (omega arith) link-0 (λ e. omega (arith, e))) in
+    inr (
+      sized 2 1 2 _ (omega arith) refl,
+      inr (
+        second-link wrongLeg refl 3 4 refl (omega arith) (omega arith),
+        inr (
+          second-new wrongLeg (omega arith),
+          inr (
+            first-stream wrongLeg 2 refl (omega arith, omega arith, omega arith),
+            inr (legs-before-1 wrongLeg 2 refl, (refl, lowest-of-all (omega arith) bad before)),
+          ),
+        ),
+      ),
+    )
 
 pub shape-refusals-at-numbers : ShapeRefusalsAtNumbers
 shape-refusals-at-numbers = record {
-  four-words = refused _ 1 0 (inl (inl (refl, omega arith), refl));
+  four-words = refused _ 1 0 (inl (inl (refl, refl, λ h. omega arith)));
   links-above = above 257 512 2048 1000000 (λ h. omega (arith, h .links));
   streams-above = above 256 513 2048 1000000 (λ h. omega (arith, h .streams));
   legs-above = above 256 512 2049 1000000 (λ h. omega (arith, h .legs));
   precision-above = above 256 512 2048 1000001 (λ h. omega (arith, h .precision));
   at-the-limits = length-differs 256 512 2048 1000000 _ (omega arith, omega arith, omega arith, omega arith) (λ e. omega (arith, e));
   word-more = length-differs 1 0 0 0 _ (omega arith, omega arith, omega arith, omega arith) (λ e. omega (arith, e));
-  link = refused _ 4 2 (inr (inl (refl, link)));
-  link-again = refused _ 5 2 (inr (inr (inl (refl, link-again))));
-  stream = refused _ 6 1 (inr (inr (inr (inl (refl, stream)))));
-  fewer-legs = refused _ 6 1 (inr (inr (inr (inl (refl, fewer-legs)))));
-  leg = refused _ 7 1 (inr (inr (inr (inr (refl, leg)))));
+  link = refused _ 4 2 link;
+  link-again = refused _ 5 2 link-again;
+  stream = refused _ 6 1 stream;
+  fewer-legs = refused _ 6 1 fewer-legs;
+  leg = refused _ 7 1 leg;
 }

@@ -1,6 +1,6 @@
 // Judges the shape of a base plan with one word changed, or two, and prints each answer: every cause at the first, a middle and the last
 // record, the lower number first, then the lower record.
-use shape::Shape;
+use basics::Checked;
 
 mod links;
 mod routes;
@@ -65,10 +65,10 @@ pub(crate) const BASE: [u32; 50] = [
 pub(crate) fn told(t: &[u32]) {
     let shape = shape::judged_shape(t);
     match shape {
-        Shape::Right => {
+        Checked::Clear => {
             show::text(b"well-formed\n");
         }
-        Shape::Wrong(number, at) => {
+        Checked::Refused(number, at) => {
             show::refused(number, at);
         }
     }

@@ -1,6 +1,6 @@
 // Reads a plan file from standard input and prints whether its table is well-formed, or the refusal's number and position.
+use basics::Checked;
 use files::PlanRead;
-use shape::Shape;
 
 // The bytes of the largest file and one more, so that a byte left over is seen.
 const MAX_INPUT: usize = files::MAX_FILE_BYTES + 1;
@@ -11,10 +11,10 @@ fn shape_line(words: &[u32], n: usize) {
     }
     let told = shape::judged_shape(&words[0..n]);
     match told {
-        Shape::Right => {
+        Checked::Clear => {
             show::text(b"well-formed\n");
         }
-        Shape::Wrong(number, at) => {
+        Checked::Refused(number, at) => {
             show::refused(number, at);
         }
     }

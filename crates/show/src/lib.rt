@@ -1,8 +1,8 @@
 // What the programs print to standard output. No contract can say what a call of the operating system writes, so these promise only to be
 // safe and to end; the programs' expected output tests the rest.
 ghost use Rattle.table.specs.Layout.{Sized};
+use basics::Checked;
 use libc::STDOUT_FILENO;
-use table::Size;
 
 // Internal: prints text as it is.
 pub fn text(bytes: &[u8]) {
@@ -88,11 +88,11 @@ fn records(t: &[u32])
 pub fn table(t: &[u32]) {
     let size = table::judged_size(t);
     match size {
-        Size::Right => {
+        Checked::Clear => {
             records(t);
         }
-        Size::Wrong(k) => {
-            refused(k, 0);
+        Checked::Refused(number, at) => {
+            refused(number, at);
         }
     }
 }

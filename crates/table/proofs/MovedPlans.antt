@@ -1,7 +1,7 @@
 -- A plan of the cases whose leg was moved is again one, by computing: its revision is one more, and the offset of that leg is new. Assumes nothing.
 use Prim.Native.Nat.{ℕ, _+_}
 use mathlib.Core.Path.{_≡_, refl}
-use Rattle.table.specs.Records.{moved}
+use Rattle.table.specs.Records.{moved, moveTo}
 use Rattle.table.specs.PlanA.{PlanNumbers, planWith, offsetsA}
 
 -- The numbers n with another revision and other offsets, and Plan A's.
@@ -12,14 +12,14 @@ abbrev pub revisedA : ℕ → ℕ → ℕ → ℕ → PlanNumbers
 revisedA revision o0 o1 o2 = revised (offsetsA o0 o1 o2) revision o0 o1 o2
 
 module _ (n : PlanNumbers) (o : ℕ) where
-  pub moved-0 : moved (planWith n) 0 o ≡ planWith (revised n (n .revision + 1) o (n .offset-1) (n .offset-2))
+  pub moved-0 : moved (planWith n) (moveTo 0 o) ≡ planWith (revised n (n .revision + 1) o (n .offset-1) (n .offset-2))
   unfolding moved
   moved-0 = refl
 
-  pub moved-1 : moved (planWith n) 1 o ≡ planWith (revised n (n .revision + 1) (n .offset-0) o (n .offset-2))
+  pub moved-1 : moved (planWith n) (moveTo 1 o) ≡ planWith (revised n (n .revision + 1) (n .offset-0) o (n .offset-2))
   unfolding moved
   moved-1 = refl
 
-  pub moved-2 : moved (planWith n) 2 o ≡ planWith (revised n (n .revision + 1) (n .offset-0) (n .offset-1) o)
+  pub moved-2 : moved (planWith n) (moveTo 2 o) ≡ planWith (revised n (n .revision + 1) (n .offset-0) (n .offset-1) o)
   unfolding moved
   moved-2 = refl

@@ -1,24 +1,47 @@
 -- `checker::move_leg` meets its contract. Assumes nothing.
-use Prim.Native.Nat.{_<_}
-use lib.ListN.{length, length-set}
-use mathlib.Core.Path.{_≡_, refl, _∙_, ap, subst}
+use Prim.Native.Nat.{ℕ, _+_}
+use mathlib.Core.Path.{_≡_, refl, subst}
+use mathlib.Core.List.{List}
 use native.Mathlib.Omega.{arith}
-use Rattle.table.specs.Records.{offsetAt}
-use Rattle.table.proofs.Moved.{offset-inside, moved-is}
-use Rattle.checker.specs.Steps.{MoveAllowed, MoveTold}
+use Rattle.table.specs.Layout.{revisionOf}
+use Rattle.table.specs.Records.{moved}
+use Rattle.table.specs.declared.Move.{Move}
+use Rattle.files.specs.declared.Cursor.{Cursor}
+use Rattle.shape.specs.declared.Shape.{Shape}
+use Rattle.shape.specs.declared.Shape.the-variants.{Right, Wrong}
+use Rattle.checker.specs.Moves.{MoveRight, MoveFault}
+use Rattle.checker.specs.Steps.{PulledBack, MoveAllowed, MoveTold}
 use Rattle.checker.proofs.LookLaws.{pulled-to-lesser}
 use borrow.Author.Needs.{needs}
 use Rattle.checker.proofs.move_leg.Statement.{statement}
 use Rattle.checker.proofs.move_leg.Tie as tie
 
-allowed : (c : tie.After-enum-told) → MoveAllowed (c .before .before .before .before .before .args .t .now) (c .before .before .before .before .before .args .cursor) (c .before .before .before .before .before .args .leg)
-allowed c = subst (MoveTold _ _ _) (c .enum-told .given .1) (c .before .before .judged-move .ensures)
+-- The move, and what was told of it.
+record Told : Type 0 where
+  told : Shape
+  t : List ℕ
+  cursor : Cursor
+  mv : Move
+  is : MoveTold t cursor mv told
 
-at-is : (c : tie.After-offset-at) → c .offset-at .result ≡ offsetAt (c .before .before .before .before .before .before .before .before .args .t .now) (c .before .before .before .before .before .before .before .before .args .leg)
-at-is c = c .offset-at .ensures ∙ ap (offsetAt (c .before .before .before .before .before .before .before .before .args .t .now)) (c .before .wide .ensures)
+abbrev here : tie.After-judged-move → Told
+here c =
+    let entry : tie.Start = search in
+    record { told = c .judged-move .result; t = entry .args .t .now; cursor = entry .args .cursor; mv = entry .args .mv; is = c .judged-move .ensures }
 
-at-inside : (c : tie.After-offset-at) → c .offset-at .result < length (c .before .before .before .before .before .before .before .before .args .t .now)
-at-inside c = omega (arith, at-is c, offset-inside _ (allowed (c .before .before .before) .cursor .shape .sized) _ (allowed (c .before .before .before) .below))
+module _ (s : Told) where
+  open Told s using (t, cursor, mv, told, is)
+
+  allowed : told ≡ Right → MoveAllowed t cursor mv
+  allowed e = subst (MoveTold t cursor mv) e is
+
+  refused : {k p : ℕ} → told ≡ Wrong k p → MoveFault t cursor mv k p
+  refused e = subst (MoveTold t cursor mv) e is
+
+  granted : {d : Cursor} {u : List ℕ} → told ≡ Right → u ≡ moved t mv → PulledBack cursor (revisionOf t + 1) (mv .leg) d → MoveRight t cursor mv d u
+  granted e f b =
+      let m = allowed e in
+      record { cursor = m .cursor; below = m .below; rises = m .rises; table = f; revision = b .revision; lesser = pulled-to-lesser (m .cursor .stands) (m .below) b }
 
 judged-move-requires : tie.Need-judged-move-requires
 judged-move-requires c κs = search needs
@@ -29,28 +52,14 @@ enum-known-told c = search needs
 enum-told : tie.Need-enum-told
 enum-told c = search needs
 
-wide-requires : tie.Need-wide-requires
-wide-requires c κs = search needs
-
-offset-at-requires : tie.Need-offset-at-requires
-offset-at-requires c κs =
-    let m = allowed (c .before .before) in
-    (m .cursor .shape .sized, omega (arith, m .below, c .wide .ensures))
-
 slice-read-revision : tie.Need-slice-read-revision
-slice-read-revision c = omega (arith, allowed (c .before .before .before .before) .cursor .shape .sized .head)
+slice-read-revision c = let s : Told = search here in let m : MoveAllowed (s .t) (s .cursor) (s .mv) = search (allowed s) in omega (arith, m .cursor .shape .sized .head)
 
 add-revision : tie.Need-add-revision
-add-revision c = omega (arith, allowed (c .before .before .before .before) .rises)
+add-revision c = let s : Told = search here in let m : MoveAllowed (s .t) (s .cursor) (s .mv) = search (allowed s) in omega (arith, m .rises)
 
-mul-t : tie.Need-mul-t
-mul-t c = omega (arith, at-inside (c .before), allowed (c .before .before .before .before) .cursor .shape .sized .exact, allowed (c .before .before .before .before) .cursor .shape .sized .limits .links, allowed (c .before .before .before .before) .cursor .shape .sized .limits .streams, allowed (c .before .before .before .before) .cursor .shape .sized .limits .legs)
-
-slice-write-t : tie.Need-slice-write-t
-slice-write-t c = at-inside (c .before)
-
-slice-write-t-2 : tie.Need-slice-write-t-2
-slice-write-t-2 c = omega (arith, allowed (c .before .before .before .before) .cursor .shape .sized .head, length-set (c .before .before .before .before .before .before .before .before .before .args .t .now) (c .before .offset-at .result) (c .before .before .before .before .before .before .before .before .before .args .offset))
+make-move-requires : tie.Need-make-move-requires
+make-move-requires c κs = let s : Told = search here in let m : MoveAllowed (s .t) (s .cursor) (s .mv) = search (allowed s) in (m .cursor .shape .sized, (m .below, refl))
 
 pulled-back-requires : tie.Need-pulled-back-requires
 pulled-back-requires c κs = search needs
@@ -59,22 +68,13 @@ same-length : tie.Need-same-length
 same-length c = search needs
 
 returns : tie.Need-returns
-returns c = (subst (MoveTold _ _ _) (c .before .told .given .1) (c .before .before .before .judged-move .ensures), refl, refl)
+returns c = let s : Told = search here in (search (refused s), refl, refl)
 
 same-length-2 : tie.Need-same-length-2
 same-length-2 c = search needs
 
 returns-2 : tie.Need-returns-2
-returns-2 c =
-    let m = allowed (c .before .before .before .before .before) in
-    record {
-      cursor = m .cursor;
-      below = m .below;
-      rises = m .rises;
-      table = moved-is _ _ _ _ _ (at-is (c .before .before)) refl;
-      revision = c .pulled-back .ensures .revision;
-      lesser = pulled-to-lesser (m .cursor .stands) (m .below) (c .pulled-back .ensures);
-    }
+returns-2 c = let s : Told = search here in search (granted s)
 
 pub move-leg-spec : {M : Type 1} → statement M
 move-leg-spec =
@@ -83,13 +83,9 @@ move-leg-spec =
     judged-move-requires
     enum-known-told
     enum-told
-    wide-requires
-    offset-at-requires
     slice-read-revision
     add-revision
-    mul-t
-    slice-write-t
-    slice-write-t-2
+    make-move-requires
     pulled-back-requires
     same-length
     returns

@@ -32,7 +32,7 @@ same-length : tie.Need-same-length
 same-length c = search needs
 
 returns : tie.Need-returns
-returns c = move-unopened _ _ _ _ _ _ _ _ _ _ (c .before .before .read .given .1) (c .before .before .before .before .before .before .open-both .ensures) (c .refused .ensures)
+returns c = move-unopened _ _ _ _ _ _ _ _ _ (c .before .before .read .given .1) (c .before .before .before .before .before .before .open-both .ensures) (c .refused .ensures)
 
 same-length-2 : tie.Need-same-length-2
 same-length-2 c = search needs

@@ -9,13 +9,13 @@ shared-slice-read-if1 : tie.Need-shared-slice-read-if1
 shared-slice-read-if1 c = search needs
 
 returns : tie.Need-returns
-returns c = inr (record { cursor = c .before .before .pre; at = refl; cause = inl (record { number = refl; not-below = c .if1 .taken }) })
+returns c = inr (record { cursor = search; at = refl; cause = inl (record { number = refl; not-below = search needs }) })
 
 shared-slice-read-if2 : tie.Need-shared-slice-read-if2
 shared-slice-read-if2 c = search needs
 
 returns-2 : tie.Need-returns-2
-returns-2 c = inr (record { cursor = c .before .before .before .before .pre; at = refl; cause = inr (record { number = refl; below = c .before .before .if1 .left; last = c .if2 .taken }) })
+returns-2 c = inr (record { cursor = search; at = refl; cause = inr (record { number = refl; below = search needs; last = search needs }) })
 
 returns-3 : tie.Need-returns-3
 returns-3 c = search needs

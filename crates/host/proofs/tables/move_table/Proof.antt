@@ -19,19 +19,19 @@ enum-known-told : tie.Need-enum-known-told
 enum-known-told c = search needs
 
 refused-requires-2 : tie.Need-refused-requires-2
-refused-requires-2 c κs = move-small _ _ _ _ _ _ _ _ _ (c .before .told .given .1) (c .before .before .before .before .before .move-leg .ensures)
+refused-requires-2 c κs = move-small _ _ _ _ _ _ _ _ (c .before .told .given .1) (c .before .before .before .before .before .move-leg .ensures)
 
 enum-known-told-2 : tie.Need-enum-known-told-2
 enum-known-told-2 c = search needs
 
 write-both-requires : tie.Need-write-both-requires
-write-both-requires c κs = (moved-sized _ _ _ _ _ _ _ (c .before .before .before .before .told2 .given .1) (c .before .before .before .before .before .before .before .before .move-leg .ensures), c .before .before .before .before .before .before .before .before .before .before .if1 .left)
+write-both-requires c κs = (moved-sized _ _ _ _ _ _ (c .before .before .before .before .told2 .given .1) (c .before .before .before .before .before .before .before .before .move-leg .ensures), c .before .before .before .before .before .before .before .before .before .before .if1 .left)
 
 same-length : tie.Need-same-length
 same-length c = search needs
 
 returns-2 : tie.Need-returns-2
-returns-2 c = inr (c .before .before .before .before .before .before .before .before .if1 .left, move-refused _ _ _ _ _ _ _ _ _ _ _ (c .before .before .told .given .1) (c .before .before .before .before .before .before .move-leg .ensures) (c .refused2 .ensures))
+returns-2 c = inr (c .before .before .before .before .before .before .before .before .if1 .left, move-refused _ _ _ _ _ _ _ _ _ _ (c .before .before .told .given .1) (c .before .before .before .before .before .before .move-leg .ensures) (c .refused2 .ensures))
 
 same-length-2 : tie.Need-same-length-2
 same-length-2 c = search needs
@@ -43,7 +43,7 @@ same-length-4 : tie.Need-same-length-4
 same-length-4 c = search needs
 
 returns-3 : tie.Need-returns-3
-returns-3 c = inr (c .before .before .before .before .before .before .before .before .before .before .before .before .before .before .before .if1 .left, move-granted _ _ _ _ _ _ _ _ _ _ (c .before .before .before .before .before .before .before .before .before .told2 .given .1) (c .before .before .before .before .before .before .before .before .before .before .before .before .before .move-leg .ensures) (c .before .before .before .before .write-both .ensures))
+returns-3 c = inr (c .before .before .before .before .before .before .before .before .before .before .before .before .before .before .before .if1 .left, move-granted _ _ _ _ _ _ _ _ _ (c .before .before .before .before .before .before .before .before .before .told2 .given .1) (c .before .before .before .before .before .before .before .before .before .before .before .before .before .move-leg .ensures) (c .before .before .before .before .write-both .ensures))
 
 pub move-table-spec : {M : Type 1} → statement M
 move-table-spec =
