@@ -3,13 +3,14 @@ use Prim.Native.Nat.{ℕ, _≤_, _<_}
 use mathlib.Core.Path.{_≡_, refl}
 use mathlib.Core.Logic.{inl, inr}
 use native.Mathlib.Omega.{arith}
+use Rattle.table.specs.PlanA.{planAOf}
 use Rattle.rules.specs.Places.{placesOf}
 use Rattle.places.specs.Order.{PlaceOrEnd}
 use Rattle.shape.specs.Shape.{WellFormedTable}
 use Rattle.shape.proofs.AtNumbers.{plans-are-well-formed, plan-a-in-range}
 use Rattle.shape.proofs.RefusalsAtNumbers.{shape-refusals-at-numbers}
 use Rattle.checker.specs.Cursors.{CursorRight, CursorFault}
-use Rattle.checker.specs.RefusalsAtNumbers.{planAOf, cursorAt, CursorRefusalsAtNumbers, MoveRefusalsAtNumbers}
+use Rattle.checker.specs.RefusalsAtNumbers.{cursorAt, CursorRefusalsAtNumbers, MoveRefusalsAtNumbers}
 use Rattle.checker.proofs.LookLaws.{not-standing}
 
 well-formed : (revision : ℕ) → WellFormedTable (planAOf revision)
