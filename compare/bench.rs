@@ -6,11 +6,13 @@
 
 mod check;
 mod format;
+mod paper;
 mod rules;
 mod shape;
 
-use check::{host_slice, Checker, Plain, NOTHING_VIOLATED, PAUSED};
-use format::{cursor_bytes, read_plan, Cursor, CURSOR_BYTES};
+use check::{host_slice, Checker, Plain};
+use format::{cursor_bytes, Cursor};
+use paper::{CURSOR_BYTES, NOTHING_VIOLATED, PAUSED};
 use std::time::Duration;
 
 /// A time of the C library: seconds, and the ns behind them.
@@ -43,7 +45,7 @@ fn proved(plan: &[u8], cursor: &[u8], budget: u32, out: &mut [u8]) -> u32 {
 }
 
 fn plain(plan: &[u8], cursor: &[u8], budget: u32, out: &mut [u8]) -> u32 {
-    host_slice::<Plain>(plan, cursor, budget, out) as u32
+    host_slice(&Plain, plan, cursor, budget, out) as u32
 }
 
 /// The time that this thread has had a processor for. Other programs on the machine do not add to it.
@@ -94,9 +96,9 @@ impl Timed {
 
 /// Times a plan, all kinds of calls in each round and the two sides in turn, and prints what was found.
 fn bench(name: &str, bytes: &[u8], rounds: u32) {
-    let plan = read_plan::<Plain>(bytes).expect("the plans of the benchmark are well-formed");
+    let plan = Plain.read_plan(bytes).expect("the plans of the benchmark are well-formed");
     let legs = plan.legs.len() as u32;
-    let places = Plain::places(u64::from(legs)) as f64;
+    let places = Plain.places(u64::from(legs)) as f64;
     let at = |leg| Cursor { revision: plan.revision, leg, place: 0 };
     let mut kinds = [
         Timed::new("whole check", at(0), u32::MAX, NOTHING_VIOLATED, 1),

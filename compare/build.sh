@@ -1,5 +1,6 @@
-# Builds the comparison and the benchmark in .built/compare. The command conepalhui reads this file and gives it its own
-# functions. Both need the archive of the calls for C, which is for x86-64: so is what is linked with it.
+# Builds the driver of the comparison, and the benchmark, in .built/compare. The command conepalhui reads this file and gives it
+# its own functions. Both need the archive of the calls for C, which is for x86-64: so is what is linked with it. The judge, which
+# the comparison asks, is for this processor; compare/judge builds it.
 
 rust_target=x86_64-unknown-linux-gnu
 
@@ -20,6 +21,7 @@ set_emulator() {
 find_c() {
     set_emulator
     need_c
+    stop_if_missing
     if ((${#emulator[@]} == 0)); then c_compiler=cc; else c_compiler=x86_64-linux-gnu-gcc; fi
 }
 
@@ -40,11 +42,10 @@ make_if_old() { # NAME SOURCES... -- COMMAND...
 
 build_comparison() {
     build_library
-    find_c
     need rustc rustc
+    find_c
     make_if_old driver .built/libconepalhui.a include/conepalhui.h compare/driver.c -- \
         "$c_compiler" -O2 -static -Iinclude compare/driver.c .built/libconepalhui.a -o
-    make_if_old compare compare/*.rs -- rustc --edition 2021 -O compare/compare.rs -o
 }
 
 # Prints a compiler of Rust that has the library of x86-64.
@@ -62,17 +63,11 @@ build_benchmark() {
     local rust c_library=/usr/lib/x86_64-linux-gnu/libc.so
     build_library
     find_c
-    if ((${#emulator[@]} == 0)); then
-        need rustc rustc
-    elif ! { rust_for_x86_64 && has qemu-x86_64 && has "$c_library"; } >/dev/null; then
-        # The lists of packages are to have those of the other processor too.
-        ((EUID != 0)) || { dpkg --add-architecture amd64 && has_lists=0; }
-        need /usr/bin/rustc rustc
-        need "/usr/lib/rustlib/$rust_target" libstd-rust-dev:amd64
-        need "$c_library" libc6-dev:amd64
-        need qemu-x86_64 qemu-user
+    if ((${#emulator[@]} > 0)) && ! { rust_for_x86_64 && has qemu-x86_64 && has "$c_library"; } >/dev/null; then
+        stop "packages are missing, and this installs them: dpkg --add-architecture amd64 && apt-get update &&" \
+            "apt-get install rustc libstd-rust-dev:amd64 libc6-dev:amd64 qemu-user"
     fi
-    rust=$(rust_for_x86_64) || stop "there is no compiler of Rust for x86-64"
+    rust=$(rust_for_x86_64) || stop "there is no compiler of Rust for x86-64: apt-get install rustc"
     make_if_old bench .built/libconepalhui.a compare/*.rs -- "$rust" --edition 2021 -C opt-level=3 --target "$rust_target" \
         -C linker="$c_compiler" -L native=.built -l static=conepalhui compare/bench.rs -o
     ((${#emulator[@]} == 0)) || emulator=(qemu-x86_64)

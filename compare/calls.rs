@@ -38,16 +38,14 @@ pub struct Answer {
     pub out: Vec<u8>,
 }
 
-pub type Answering = fn(&Call) -> Answer;
-
 /// What a checker of this program answers.
-pub fn answer<C: Checker>(call: &Call) -> Answer {
+pub fn answer<C: Checker>(c: &C, call: &Call) -> Answer {
     let (mut new_plan, mut out) = (call.new_plan.clone(), call.out.clone());
     let result = match call.kind {
-        Kind::Slice => host_slice::<C>(&call.plan, &call.cursor, call.number, &mut out) & u64::from(u32::MAX),
-        Kind::SliceFull => host_slice::<C>(&call.plan, &call.cursor, call.number, &mut out),
-        Kind::Start => host_start::<C>(&call.plan, &mut out),
-        Kind::Move => host_move::<C>(&call.plan, &call.cursor, call.number, call.offset, &mut new_plan, &mut out),
+        Kind::Slice => host_slice(c, &call.plan, &call.cursor, call.number, &mut out) & u64::from(u32::MAX),
+        Kind::SliceFull => host_slice(c, &call.plan, &call.cursor, call.number, &mut out),
+        Kind::Start => host_start(c, &call.plan, &mut out),
+        Kind::Move => host_move(c, &call.plan, &call.cursor, call.number, call.offset, &mut new_plan, &mut out),
     };
     Answer { result, new_plan, out }
 }

@@ -2,10 +2,11 @@
 
 use crate::calls::{answer, Answer, Call, Kind};
 use crate::chance::Chance;
-use crate::check::{self, next, Checker, Plain, VIOLATED};
-use crate::damage::{any_bytes, bend_route, damage_bytes, damage_table, shift_legs};
+use crate::check::{begin, next, places_before, places_of, Checker, Plain};
+use crate::damage::{any_bytes, bend_route, damage_bytes, damage_table, double_links, shift_legs};
 use crate::drafts::{beyond, large, medium, one_link, plan_a, row, small, to_an_edge};
-use crate::format::{cursor_bytes, encoded, plan_bytes, read_cursor, Cursor, Plan, CURSOR_BYTES};
+use crate::format::{cursor_bytes, encoded, is_whole, plan_bytes, Cursor, Plan};
+use crate::paper::{CURSOR_BYTES, GRANTED, MORE, NOTHING_VIOLATED, REFUSED, VIOLATED};
 use std::sync::Arc;
 
 pub const BATCH: usize = 512;
@@ -48,18 +49,13 @@ fn low(answer: u64) -> u32 {
 
 /// The cursor in the first bytes of a buffer that a call wrote.
 fn given(out: &[u8]) -> Cursor {
-    let ends = |at: &usize| out[*at] < 0x80;
+    let ends = |at: &usize| out[*at] < MORE;
     let behind = (0..out.len()).filter(ends).nth(2).expect("a cursor has three numbers") + 1;
-    read_cursor::<Plain>(&out[..behind]).expect("a call gives a cursor that reads")
+    Plain.read_cursor(&out[..behind]).expect("a call gives a cursor that reads")
 }
 
 fn places(plan: &Plan) -> u32 {
-    Plain::places(plan.legs.len() as u64) as u32
-}
-
-/// How many places lie before one.
-fn index(cursor: Cursor) -> u32 {
-    Plain::places(u64::from(cursor.leg)) as u32 + cursor.place
+    Plain.places(plan.legs.len() as u64) as u32
 }
 
 impl Batch {
@@ -82,7 +78,7 @@ impl Batch {
     }
 
     fn make(&mut self, call: Call) -> &Answer {
-        let expected = answer::<Plain>(&call);
+        let expected = answer(&Plain, &call);
         self.cases.push(Case { call, expected });
         &self.cases[self.cases.len() - 1].expected
     }
@@ -134,7 +130,8 @@ impl Batch {
 
     fn some_place(&mut self, plan: &Plan) -> Cursor {
         let leg = self.chance.below(plan.legs.len() + 1) as u32;
-        let place = if (leg as usize) < plan.legs.len() { self.chance.below(3 + leg as usize) as u32 } else { 0 };
+        let place =
+            if (leg as usize) < plan.legs.len() { self.chance.below(places_of(leg) as usize) as u32 } else { 0 };
         Cursor { revision: plan.revision, leg, place }
     }
 
@@ -142,8 +139,8 @@ impl Batch {
         let legs = plan.legs.len() as u32;
         let leg = self.chance.below(plan.legs.len() + 1) as u32;
         let (leg, place) = match self.chance.below(5) {
-            0 => (legs, 1 + self.chance.any_size() % (3 + legs)),
-            1 => (leg, 3 + leg),
+            0 => (legs, 1 + self.chance.any_size() % places_of(legs)),
+            1 => (leg, places_of(leg)),
             2 => (legs + 1, 0),
             3 => (leg, u32::MAX - leg),
             _ => (self.chance.any_size(), self.chance.any_size()),
@@ -163,7 +160,7 @@ impl Batch {
 
     /// A budget near what is left from a cursor on, or any other.
     fn budget(&mut self, plan: &Plan, cursor: Cursor) -> u32 {
-        let left = places(plan).saturating_sub(index(cursor));
+        let left = places(plan).saturating_sub(places_before(cursor) as u32);
         match self.chance.below(10) {
             0 => 0,
             1 => 1,
@@ -191,7 +188,7 @@ impl Batch {
         for (leg, offset) in [(2, 576), (0, 600)] {
             self.move_leg(&bytes, cursor(0, 2, 3), leg, offset, bytes.len() + 1);
             let mut after = plan.clone();
-            let moved = check::moved(&mut after, Cursor { revision: 0, leg: 2, place: 3 }, leg, offset);
+            let moved = Plain.moved(&mut after, Cursor { revision: 0, leg: 2, place: 3 }, leg, offset);
             let from = moved.expect("Plan A has this leg");
             self.slice(&plan_bytes(&after).into(), cursor_bytes(from), 5);
         }
@@ -213,7 +210,7 @@ impl Batch {
             to_an_edge(&mut self.chance, &mut plan);
         }
         let mut bytes: Arc<[u8]> = plan_bytes(&plan).into();
-        let mut cursor = Cursor { revision: plan.revision, leg: 0, place: 0 };
+        let mut cursor = begin(&plan);
         let (mut old_bytes, mut old_cursor) = (bytes.clone(), cursor);
         self.start(&bytes);
         for _ in 0..4 + self.chance.below(14) {
@@ -234,7 +231,7 @@ impl Batch {
                 _ => {
                     let budget = self.budget(&plan, cursor);
                     let answered = self.slice(&bytes, cursor_bytes(cursor), budget);
-                    if low(answered.result) < check::REFUSED {
+                    if low(answered.result) < REFUSED {
                         cursor = given(&answered.out);
                         if low(answered.result) >= VIOLATED && self.chance.one_in(2) {
                             cursor = next(cursor);
@@ -264,12 +261,12 @@ impl Batch {
             }
         };
         let mut after = plan.clone();
-        let needed = match check::moved(&mut after, cursor, leg, offset) {
+        let needed = match Plain.moved(&mut after, cursor, leg, offset) {
             Ok(_) => plan_bytes(&after).len(),
             Err(_) => bytes.len(),
         };
         let answered = self.move_leg(bytes, cursor_bytes(cursor), leg, offset, needed);
-        let from = if low(answered.result) == check::GRANTED { Some(given(&answered.out)) } else { None };
+        let from = if low(answered.result) == GRANTED { Some(given(&answered.out)) } else { None };
         (after, from)
     }
 
@@ -313,13 +310,13 @@ impl Batch {
             to_an_edge(&mut self.chance, &mut plan);
         }
         let bytes: Arc<[u8]> = plan_bytes(&plan).into();
-        let mut cursor = Cursor { revision: plan.revision, leg: 0, place: 0 };
+        let mut cursor = begin(&plan);
         for _ in 0..30 {
             let budget = if self.chance.one_in(4) { self.budget(&plan, cursor) } else { u32::MAX };
             let answered = self.slice(&bytes, cursor_bytes(cursor), budget);
             match low(answered.result) {
-                check::NOTHING_VIOLATED => break,
-                result if result >= check::REFUSED => continue,
+                NOTHING_VIOLATED => break,
+                result if result >= REFUSED => continue,
                 result => {
                     cursor = given(&answered.out);
                     cursor = if result >= VIOLATED { next(cursor) } else { cursor };
@@ -336,15 +333,16 @@ impl Batch {
         };
         for _ in 0..8 {
             let mut bent = plan.clone();
-            match self.chance.below(4) {
-                0 => bend_route(&mut self.chance, &mut bent),
-                1 => shift_legs(&mut self.chance, &mut bent),
+            match self.chance.below(10) {
+                0 | 1 => bend_route(&mut self.chance, &mut bent),
+                2 | 3 => shift_legs(&mut self.chance, &mut bent),
+                4 => double_links(&mut self.chance, &mut bent),
                 _ => {}
             }
             let mut words = bent.words();
             for _ in 0..self.chance.of(&[0, 1, 1, 1, 2, 3]) {
                 // A header that no longer fits the rest is damaged enough.
-                if words.len() == 5 + 4 * words[1] as usize + 5 * words[2] as usize + 3 * words[3] as usize {
+                if is_whole(&words) {
                     damage_table(&mut self.chance, &mut words);
                 }
             }
@@ -397,7 +395,7 @@ impl Batch {
             to_an_edge(&mut self.chance, &mut plan);
         }
         let bytes: Arc<[u8]> = plan_bytes(&plan).into();
-        let start = Cursor { revision: plan.revision, leg: 0, place: 0 };
+        let start = begin(&plan);
         self.start(&bytes);
         if number % 4 == 0 {
             self.slice(&bytes, cursor_bytes(start), u32::MAX);

@@ -1,19 +1,12 @@
 //! Start, slice and move, and the four calls for C. Plain code: one loop over the places in order.
 
-use crate::format::{
-    self, cursor_bytes, plan_bytes, read_cursor, read_plan, refused, Cursor, Leg, Link, Outcome, Plan, Refusal, Stream,
-    CURSOR_BYTES,
+use crate::format::{self, cursor_bytes, plan_bytes, refused, Cursor, Leg, Link, Outcome, Plan, Refusal, Stream};
+use crate::paper::{
+    Limits, Rule, CURSOR_BYTES, DEADLINE, GRANTED, HOP, LAST_REVISION, LIMITS, NOTHING_VIOLATED, NO_LEG, NO_PLACE,
+    OVERLAP, OVERLAPS, PAUSED, REFUSED, RULES, STALE, WINDOW,
 };
 use crate::rules::{self, sent, Sent};
 use crate::shape;
-
-pub const NOTHING_VIOLATED: u32 = 0;
-pub const GRANTED: u32 = 0;
-pub const PAUSED: u32 = 1;
-/// The results of violated rules are 2 to 5: window, hop, deadline, overlap.
-pub const VIOLATED: u32 = 2;
-pub const OVERLAP: u32 = VIOLATED + 3;
-pub const REFUSED: u32 = 100;
 
 /// What a slice gives.
 #[derive(Clone, Copy, Debug, PartialEq, Eq)]
@@ -23,84 +16,82 @@ pub struct Sliced {
     pub steps: u32,
 }
 
-/// The decisions of a checker. As they stand they are right; a wrong checker replaces some of them.
-pub trait Checker: Sized {
-    fn number(bytes: &[u8], start: usize) -> Outcome<(u32, usize)> {
-        format::number(bytes, start)
-    }
-    fn header(links: u32, streams: u32, legs: u32, precision: u32) -> Outcome<()> {
-        format::header(links, streams, legs, precision)
-    }
-    fn plan_ends(at: usize, length: usize) -> Outcome<()> {
-        format::ends(at, length)
-    }
-    fn cursor_ends(at: usize, length: usize) -> Outcome<()> {
-        format::ends(at, length)
-    }
-    fn link_in_range(link: &Link) -> bool {
-        shape::link_in_range(link)
-    }
-    fn links_differ(links: &[Link]) -> Outcome<()> {
-        shape::links_differ(links)
-    }
-    fn streams_and_legs(plan: &Plan) -> Outcome<()> {
-        shape::streams::<Self>(plan)?;
-        shape::legs::<Self>(plan)
-    }
-    fn stream_in_range(stream: &Stream) -> bool {
-        shape::stream_in_range(stream)
-    }
-    fn legs_used_up(used: u32, legs: u32, streams: usize) -> Outcome<()> {
-        shape::legs_used_up(used, legs, streams)
-    }
-    fn goes_on(links: &[Link], earlier: &[Leg], leg: &Leg) -> bool {
-        shape::goes_on(links, earlier, leg)
-    }
-    fn window_holds(leg: &Sent) -> bool {
-        rules::window_holds(leg)
-    }
-    fn hop_holds(leg: &Sent, previous: &Sent, precision: u64) -> bool {
-        rules::hop_holds(leg, previous, precision)
-    }
-    /// Whether the deadline concerns a leg, given the leg behind its stream's last.
-    fn is_due(leg: usize, behind_last: usize) -> bool {
-        leg + 1 == behind_last
-    }
-    fn deadline_holds(last: &Sent, first_offset: u64, precision: u64) -> bool {
-        rules::deadline_holds(last, first_offset, precision)
-    }
-    fn apart(a: &Sent, b: &Sent) -> bool {
-        rules::apart(a, b)
-    }
-    fn places(legs: u64) -> u64 {
-        legs * legs.saturating_sub(1) / 2 + 3 * legs
-    }
-    fn slice(plan: &Plan, from: Cursor, budget: u32) -> Sliced {
-        slice::<Self>(plan, from, budget)
-    }
-    fn fits(plan: &Plan, cursor: Cursor) -> Outcome<()> {
-        fits(plan, cursor)
-    }
-    fn moved(plan: &mut Plan, cursor: Cursor, leg: u32, offset: u32) -> Outcome<Cursor> {
-        moved(plan, cursor, leg, offset)
-    }
-    fn room(least: usize, lent: usize) -> Outcome<()> {
-        room(least, lent)
-    }
-    fn opened(plan: &[u8], cursor: &[u8], lent: usize) -> Outcome<(Plan, Cursor)> {
-        let (plan, cursor) = (read_plan::<Self>(plan)?, read_cursor::<Self>(cursor)?);
-        Self::room(CURSOR_BYTES, lent)?;
-        shape::judge::<Self>(&plan)?;
-        Self::fits(&plan, cursor)?;
-        Ok((plan, cursor))
-    }
-    /// The number that a refusal gives. The lent memory is at hand so that a wrong checker can spoil it.
-    fn refuse(refusal: Refusal, _lent: &mut [u8]) -> u64 {
-        packed(REFUSED + refusal.number, refusal.at as u64)
-    }
-    fn give(lent: &mut [u8], bytes: &[u8]) {
-        lent[..bytes.len()].copy_from_slice(bytes);
-    }
+/// The decisions of a checker, each with the function that decides right. `Plain` takes these; `Bent` has a table of them,
+/// in which a wrong checker replaces some.
+macro_rules! decisions {
+    ($($name:ident($($word:ident: $kind:ty),*) -> $gives:ty = $right:path;)*) => {
+        pub trait Checker: Sized {
+            fn limits(&self) -> &Limits {
+                &LIMITS
+            }
+            fn rules(&self) -> &[Rule; RULES.len()] {
+                &RULES
+            }
+            $(#[inline]
+            fn $name(&self, $($word: $kind),*) -> $gives {
+                $right(self, $($word),*)
+            })*
+        }
+
+        #[derive(Clone, Copy)]
+        pub struct Bent {
+            pub limits: Limits,
+            pub rules: [Rule; RULES.len()],
+            $(pub $name: fn(&Bent, $($kind),*) -> $gives),*
+        }
+
+        /// The decisions as they are right.
+        pub const RIGHT: Bent = Bent { limits: LIMITS, rules: RULES, $($name: $right),* };
+
+        impl Checker for Bent {
+            fn limits(&self) -> &Limits {
+                &self.limits
+            }
+            fn rules(&self) -> &[Rule; RULES.len()] {
+                &self.rules
+            }
+            $(fn $name(&self, $($word: $kind),*) -> $gives {
+                (self.$name)(self, $($word),*)
+            })*
+        }
+    };
+}
+
+decisions! {
+    // The reader.
+    number(bytes: &[u8], start: usize) -> Outcome<(u32, usize)> = format::number;
+    read_plan(bytes: &[u8]) -> Outcome<Plan> = format::read_plan;
+    read_cursor(bytes: &[u8]) -> Outcome<Cursor> = format::read_cursor;
+    plan_ends(at: usize, length: usize) -> Outcome<()> = format::ends;
+    cursor_ends(at: usize, length: usize) -> Outcome<()> = format::ends;
+    // The shape.
+    judge(plan: &Plan) -> Outcome<()> = shape::judge;
+    links_in_range(links: &[Link]) -> Outcome<()> = shape::links_in_range;
+    link_in_range(link: &Link) -> bool = shape::link_in_range;
+    links_differ(links: &[Link]) -> Outcome<()> = shape::links_differ;
+    streams(plan: &Plan) -> Outcome<()> = shape::streams;
+    stream_in_range(stream: &Stream) -> bool = shape::stream_in_range;
+    legs(plan: &Plan) -> Outcome<()> = shape::legs;
+    names_right(plan: &Plan, leg: &Leg, stream: u32) -> bool = shape::names_right;
+    goes_on(met: &[u32], link: &Link) -> bool = shape::goes_on;
+    // The rules.
+    wire_time(octets: u32, ns_per_octet: u32) -> u64 = rules::wire_time;
+    hold_time(octets: u32, ns_per_octet: u32) -> u64 = rules::hold_time;
+    window_holds(leg: &Sent) -> bool = rules::window_holds;
+    hop_holds(leg: &Sent, previous: &Sent, precision: u64) -> bool = rules::hop_holds;
+    deadline_holds(last: &Sent, first: &Sent, precision: u64) -> bool = rules::deadline_holds;
+    apart(a: &Sent, b: &Sent) -> bool = rules::apart;
+    // Places, slices and moves.
+    places(legs: u64) -> u64 = places;
+    holds(plan: &Plan, leg: usize, place: u32) -> bool = holds;
+    slice(plan: &Plan, from: Cursor, budget: u32) -> Sliced = slice;
+    fits(plan: &Plan, cursor: Cursor) -> Outcome<()> = fits;
+    moved(plan: &mut Plan, cursor: Cursor, leg: u32, offset: u32) -> Outcome<Cursor> = moved;
+    // The calls for C.
+    room(least: usize, lent: usize) -> Outcome<()> = format::room;
+    opened(plan: &[u8], cursor: &[u8], lent: usize) -> Outcome<(Plan, Cursor)> = opened;
+    refuse(refusal: Refusal, lent: &mut [u8]) -> u64 = refuse;
+    give(lent: &mut [u8], bytes: &[u8]) -> () = give;
 }
 
 /// The right checker.
@@ -108,67 +99,107 @@ pub struct Plain;
 
 impl Checker for Plain {}
 
+// ---- Places
+
+/// How many places a leg has.
+pub fn places_of(leg: u32) -> u32 {
+    OVERLAPS + leg
+}
+
+/// How many places a table of so many legs has.
+pub fn places<C: Checker>(_: &C, legs: u64) -> u64 {
+    legs * legs.saturating_sub(1) / 2 + u64::from(OVERLAPS) * legs
+}
+
+/// How many places lie before one.
+pub fn places_before(cursor: Cursor) -> u64 {
+    places(&Plain, u64::from(cursor.leg)) + u64::from(cursor.place)
+}
+
 /// The next place. The end is place 0 of the leg behind the last.
 pub fn next(cursor: Cursor) -> Cursor {
-    if cursor.place < 2 + cursor.leg {
+    if cursor.place + 1 < places_of(cursor.leg) {
         return Cursor { place: cursor.place + 1, ..cursor };
     }
     Cursor { leg: cursor.leg + 1, place: 0, ..cursor }
 }
 
-fn holds<C: Checker>(plan: &Plan, leg: usize, place: usize) -> bool {
-    if place >= 3 {
-        let other = place - 3;
-        return plan.legs[leg].link != plan.legs[other].link || C::apart(&sent(plan, leg), &sent(plan, other));
+/// The rule of a place, and for an overlap the other leg.
+pub fn rule_at(place: u32) -> (usize, usize) {
+    if place >= OVERLAPS {
+        return (OVERLAP, (place - OVERLAPS) as usize);
+    }
+    (place as usize, 0)
+}
+
+/// Whether the rule of a place holds there. A rule that does not concern its place does.
+#[inline]
+pub fn holds<C: Checker>(c: &C, plan: &Plan, leg: usize, place: u32) -> bool {
+    let (rule, other) = rule_at(place);
+    if rule == OVERLAP {
+        return plan.legs[leg].link != plan.legs[other].link || c.apart(&sent(c, plan, leg), &sent(c, plan, other));
     }
     let stream = &plan.streams[plan.legs[leg].stream as usize];
     let first = stream.first_leg as usize;
     let precision = u64::from(plan.precision);
-    match place {
-        0 => C::window_holds(&sent(plan, leg)),
-        1 => leg == first || C::hop_holds(&sent(plan, leg), &sent(plan, leg - 1), precision),
-        _ => {
-            !C::is_due(leg, first + stream.leg_count as usize)
-                || C::deadline_holds(&sent(plan, leg), u64::from(plan.legs[first].offset), precision)
+    match rule {
+        WINDOW => c.window_holds(&sent(c, plan, leg)),
+        HOP => leg == first || c.hop_holds(&sent(c, plan, leg), &sent(c, plan, leg - 1), precision),
+        DEADLINE => {
+            leg + 1 != first + stream.leg_count as usize
+                || c.deadline_holds(&sent(c, plan, leg), &sent(c, plan, first), precision)
         }
+        _ => unreachable!("there is no other rule"),
     }
 }
 
+// ---- Start, slice and move
+
+/// The cursor that a start of a well-formed plan gives.
+pub fn begin(plan: &Plan) -> Cursor {
+    Cursor { revision: plan.revision, leg: 0, place: 0 }
+}
+
 /// Looks at places in order. The cursor is a place of the plan or its end.
-pub fn slice<C: Checker>(plan: &Plan, from: Cursor, budget: u32) -> Sliced {
+pub fn slice<C: Checker>(c: &C, plan: &Plan, from: Cursor, budget: u32) -> Sliced {
     let legs = plan.legs.len() as u32;
     let (mut cursor, mut steps) = (from, 0);
     while cursor.leg < legs && steps < budget {
         steps += 1;
-        if !holds::<C>(plan, cursor.leg as usize, cursor.place as usize) {
-            return Sliced { result: VIOLATED + cursor.place.min(3), cursor, steps };
+        if !c.holds(plan, cursor.leg as usize, cursor.place) {
+            return Sliced { result: c.rules()[rule_at(cursor.place).0].result, cursor, steps };
         }
         cursor = next(cursor);
     }
     Sliced { result: if cursor.leg < legs { PAUSED } else { NOTHING_VIOLATED }, cursor, steps }
 }
 
+/// A start, and a slice with enough budget: what a whole check of a well-formed plan gives.
+pub fn whole<C: Checker>(c: &C, plan: &Plan) -> Sliced {
+    c.slice(plan, begin(plan), u32::MAX)
+}
+
 /// Refusals 8 and 9.
-pub fn fits(plan: &Plan, cursor: Cursor) -> Outcome<()> {
+pub fn fits<C: Checker>(_: &C, plan: &Plan, cursor: Cursor) -> Outcome<()> {
     if cursor.revision != plan.revision {
-        return refused(8, 0);
+        return refused(STALE, 0);
     }
     let legs = plan.legs.len() as u32;
-    let is_place = cursor.leg < legs && cursor.place < 3 + cursor.leg;
+    let is_place = cursor.leg < legs && cursor.place < places_of(cursor.leg);
     let is_end = cursor.leg == legs && cursor.place == 0;
     if !is_place && !is_end {
-        return refused(9, 0);
+        return refused(NO_PLACE, 0);
     }
     Ok(())
 }
 
 /// Sets one leg's offset. The cursor goes back to that leg where it had passed it.
-pub fn moved(plan: &mut Plan, cursor: Cursor, leg: u32, offset: u32) -> Outcome<Cursor> {
+pub fn moved<C: Checker>(_: &C, plan: &mut Plan, cursor: Cursor, leg: u32, offset: u32) -> Outcome<Cursor> {
     if leg as usize >= plan.legs.len() {
-        return refused(10, 0);
+        return refused(NO_LEG, 0);
     }
     if plan.revision == u32::MAX {
-        return refused(11, 0);
+        return refused(LAST_REVISION, 0);
     }
     plan.revision += 1;
     plan.legs[leg as usize].offset = offset;
@@ -176,47 +207,60 @@ pub fn moved(plan: &mut Plan, cursor: Cursor, leg: u32, offset: u32) -> Outcome<
     Ok(Cursor { revision: plan.revision, leg, place })
 }
 
-/// Refusal 15: the lent buffer is too small.
-pub fn room(least: usize, lent: usize) -> Outcome<()> {
-    if lent < least {
-        return refused(15, 0);
-    }
-    Ok(())
-}
+// ---- The calls for C
 
 /// A result in the low 32 bits and a number in the high ones.
-fn packed(result: u32, number: u64) -> u64 {
+pub fn packed(result: u32, number: u64) -> u64 {
     u64::from(result) | number << 32
 }
 
-pub fn host_start<C: Checker>(plan: &[u8], out: &mut [u8]) -> u64 {
+/// What a slice and a move begin with.
+pub fn opened<C: Checker>(c: &C, plan: &[u8], cursor: &[u8], lent: usize) -> Outcome<(Plan, Cursor)> {
+    let (plan, cursor) = (c.read_plan(plan)?, c.read_cursor(cursor)?);
+    c.room(CURSOR_BYTES, lent)?;
+    c.judge(&plan)?;
+    c.fits(&plan, cursor)?;
+    Ok((plan, cursor))
+}
+
+/// The number that a refusal gives. The lent memory is at hand so that a wrong checker can spoil it.
+pub fn refuse<C: Checker>(_: &C, refusal: Refusal, _lent: &mut [u8]) -> u64 {
+    packed(REFUSED + refusal.number, refusal.at as u64)
+}
+
+pub fn give<C: Checker>(_: &C, lent: &mut [u8], bytes: &[u8]) {
+    lent[..bytes.len()].copy_from_slice(bytes);
+}
+
+pub fn host_start<C: Checker>(c: &C, plan: &[u8], out: &mut [u8]) -> u64 {
     let opened = || {
-        let plan = read_plan::<C>(plan)?;
-        C::room(CURSOR_BYTES, out.len())?;
-        shape::judge::<C>(&plan)?;
+        let plan = c.read_plan(plan)?;
+        c.room(CURSOR_BYTES, out.len())?;
+        c.judge(&plan)?;
         Ok(plan)
     };
     match opened() {
-        Err(refusal) => C::refuse(refusal, out),
+        Err(refusal) => c.refuse(refusal, out),
         Ok(plan) => {
-            C::give(out, &cursor_bytes(Cursor { revision: plan.revision, leg: 0, place: 0 }));
-            packed(GRANTED, C::places(plan.legs.len() as u64))
+            c.give(out, &cursor_bytes(begin(&plan)));
+            packed(GRANTED, c.places(plan.legs.len() as u64))
         }
     }
 }
 
-pub fn host_slice<C: Checker>(plan: &[u8], cursor: &[u8], budget: u32, out: &mut [u8]) -> u64 {
-    match C::opened(plan, cursor, out.len()) {
-        Err(refusal) => C::refuse(refusal, out),
+pub fn host_slice<C: Checker>(c: &C, plan: &[u8], cursor: &[u8], budget: u32, out: &mut [u8]) -> u64 {
+    match c.opened(plan, cursor, out.len()) {
+        Err(refusal) => c.refuse(refusal, out),
         Ok((plan, cursor)) => {
-            let sliced = C::slice(&plan, cursor, budget);
-            C::give(out, &cursor_bytes(sliced.cursor));
+            let sliced = c.slice(&plan, cursor, budget);
+            c.give(out, &cursor_bytes(sliced.cursor));
             packed(sliced.result, u64::from(sliced.steps))
         }
     }
 }
 
 pub fn host_move<C: Checker>(
+    c: &C,
     plan: &[u8],
     cursor: &[u8],
     leg: u32,
@@ -225,17 +269,17 @@ pub fn host_move<C: Checker>(
     out: &mut [u8],
 ) -> u64 {
     let moved = || {
-        let (mut plan, cursor) = C::opened(plan, cursor, out.len())?;
-        let cursor = C::moved(&mut plan, cursor, leg, offset)?;
+        let (mut plan, cursor) = c.opened(plan, cursor, out.len())?;
+        let cursor = c.moved(&mut plan, cursor, leg, offset)?;
         let bytes = plan_bytes(&plan);
-        C::room(bytes.len(), new_plan.len())?;
+        c.room(bytes.len(), new_plan.len())?;
         Ok((bytes, cursor))
     };
     match moved() {
-        Err(refusal) => C::refuse(refusal, out),
+        Err(refusal) => c.refuse(refusal, out),
         Ok((bytes, cursor)) => {
-            C::give(new_plan, &bytes);
-            C::give(out, &cursor_bytes(cursor));
+            c.give(new_plan, &bytes);
+            c.give(out, &cursor_bytes(cursor));
             packed(GRANTED, bytes.len() as u64)
         }
     }

@@ -1,28 +1,15 @@
 //! Holds the proved calls against the plain checker, and shows that wrong checkers are caught.
-//! Usage: compare SEED CALLS DRIVER..., the driver being a command that makes the calls of driver.c.
 
-mod calls;
-mod cases;
-mod chance;
-mod check;
-mod damage;
-mod drafts;
-mod format;
-mod layout;
-mod rules;
-mod shape;
-mod wrong;
-
-use calls::{receive, send, send_flush, Answer, Call, Kind};
-use cases::{batch, Case, BATCH};
-use check::{GRANTED, OVERLAP, REFUSED};
+use crate::calls::{answer, receive, send, send_flush, Answer, Call, Kind};
+use crate::cases::{batch, Case, BATCH};
+use crate::paper::{GRANTED, PAUSED, REFUSED, RULES};
+use crate::wrong::{all, given, Wrong};
 use std::collections::BTreeMap;
 use std::io::{BufReader, BufWriter};
-use std::process::{exit, Child, ChildStdin, ChildStdout, Command, Stdio};
+use std::process::{Child, ChildStdin, ChildStdout, Command, Stdio};
 use std::sync::atomic::{AtomicU64, Ordering};
 use std::sync::Mutex;
 use std::thread;
-use wrong::WRONG;
 
 const SHOWN: usize = 5;
 /// Plans up to this length are given to the third opinion too.
@@ -140,38 +127,48 @@ fn judges_overlap(name: &str) -> bool {
     name.starts_with("overlap")
 }
 
-/// Notes each wrong checker that answers something else.
-fn catch(at_large: &mut Vec<usize>, caught: &mut [Option<u64>], number: u64, call: &Call, right: &Answer) {
-    at_large.retain(|&at| {
-        let escapes = (WRONG[at].1)(call) == *right;
-        if !escapes {
-            caught[at] = Some(caught[at].map_or(number, |earlier| earlier.min(number)));
-        }
-        escapes
-    });
+/// The wrong checkers that are at large, and the call that caught each of the others.
+struct Hunt<'a> {
+    wrong: &'a [Wrong],
+    at_large: Vec<usize>,
+    caught: Vec<Option<u64>>,
+}
+
+impl Hunt<'_> {
+    /// Notes each wrong checker that answers something else, or fails.
+    fn go_on(&mut self, number: u64, call: &Call, right: &Answer) {
+        let (wrong, caught) = (self.wrong, &mut self.caught);
+        self.at_large.retain(|&at| {
+            let escapes = given(|| answer(&wrong[at].checker, call)).as_ref() == Some(right);
+            if !escapes {
+                caught[at] = Some(caught[at].map_or(number, |earlier| earlier.min(number)));
+            }
+            escapes
+        });
+    }
 }
 
 /// Compares one batch, whose first call has this number in the run.
-fn compare(first: u64, cases: &[Case], answers: &[(Answer, Vec<String>)], found: &Mutex<Found>) {
+fn compare(first: u64, wrong: &[Wrong], cases: &[Case], answers: &[(Answer, Vec<String>)], found: &Mutex<Found>) {
+    let hunt = |caught| Hunt { wrong, at_large: at_large(caught, first), caught: vec![None; wrong.len()] };
     let (mut by_call, mut by_layout) = {
         let found = found.lock().expect("no thread failed");
-        (at_large(&found.caught, first), at_large(&found.caught_by_layout, first))
+        (hunt(&found.caught), hunt(&found.caught_by_layout))
     };
-    by_layout.retain(|&at| judges_overlap(WRONG[at].0));
-    let (mut caught, mut caught_by_layout) = (vec![None; WRONG.len()], vec![None; WRONG.len()]);
+    by_layout.at_large.retain(|&at| judges_overlap(&wrong[at].name));
     let (mut faults, mut pairs_laid_out) = (Vec::new(), 0);
     for (number, (case, (answered, changed))) in (first..).zip(cases.iter().zip(answers)) {
         faults.extend(difference(number, case, answered, changed));
-        catch(&mut by_call, &mut caught, number, &case.call, answered);
+        by_call.go_on(number, &case.call, answered);
         let slices = matches!(case.call.kind, Kind::Slice | Kind::SliceFull);
         if slices && case.call.plan.len() < LAID_OUT_BYTES {
-            let third = layout::opinion(&case.call);
+            let third = crate::layout::opinion(&case.call);
             pairs_laid_out += third.laid_out;
             if third.answer != case.expected {
                 faults.push(format!("{}\n    laid out: {}", described(number, &case.call), told(&third.answer)));
             }
             if third.laid_out > 0 && third.left == 0 {
-                catch(&mut by_layout, &mut caught_by_layout, number, &case.call, &third.answer);
+                by_layout.go_on(number, &case.call, &third.answer);
             }
         }
     }
@@ -180,8 +177,8 @@ fn compare(first: u64, cases: &[Case], answers: &[(Answer, Vec<String>)], found:
     found.pairs_laid_out += pairs_laid_out;
     let room = SHOWN.saturating_sub(found.shown.len());
     found.shown.extend(faults.into_iter().take(room));
-    merge(&mut found.caught, &caught);
-    merge(&mut found.caught_by_layout, &caught_by_layout);
+    merge(&mut found.caught, &by_call.caught);
+    merge(&mut found.caught_by_layout, &by_layout.caught);
     for case in cases {
         *found.seen.entry((case.call.kind, case.expected.result as u32)).or_default() += 1;
     }
@@ -216,30 +213,25 @@ fn spoilers_at_large(command: &[String]) -> Vec<&'static str> {
 fn unseen(seen: &BTreeMap<(Kind, u32), u64>) -> Vec<(Kind, u32)> {
     let refusals = |numbers: &[u32]| numbers.iter().map(|number| REFUSED + number).collect::<Vec<_>>();
     let start = [vec![GRANTED], refusals(&[2, 4, 5, 6, 7, 12, 13, 14, 15])].concat();
-    let slice = [start.clone(), (1..=OVERLAP).collect(), refusals(&[8, 9])].concat();
+    let violated = RULES.iter().map(|rule| rule.result).collect();
+    let slice = [start.clone(), vec![PAUSED], violated, refusals(&[8, 9])].concat();
     let moves = [start.clone(), refusals(&[8, 9, 10, 11])].concat();
     let all = [(Kind::Slice, &slice), (Kind::SliceFull, &slice), (Kind::Start, &start), (Kind::Move, &moves)];
     let each = all.iter().flat_map(|(kind, results)| results.iter().map(move |&result| (*kind, result)));
     each.filter(|one| !seen.contains_key(one)).collect()
 }
 
-fn main() {
-    let arguments: Vec<String> = std::env::args().skip(1).collect();
-    let number = |at: usize, name: &str| -> u64 {
-        arguments.get(at).and_then(|text| text.parse().ok()).unwrap_or_else(|| {
-            eprintln!("compare: {} is no number; usage: compare SEED CALLS DRIVER...", name);
-            exit(4)
-        })
-    };
-    let (seed, wanted) = (number(0, "SEED"), number(1, "CALLS"));
+/// Makes so many calls, or a few more, with the command that makes the calls of driver.c. Says whether all is well.
+pub fn run(seed: u64, wanted: u64, driver: &[String]) -> bool {
     let batches = (wanted + BATCH as u64 - 1) / BATCH as u64;
     println!("seed {}, {} calls in batches of {}", seed, batches * BATCH as u64, BATCH);
 
+    let wrong = all();
     let found = Mutex::new(Found {
         differences: 0,
         shown: Vec::new(),
-        caught: vec![None; WRONG.len()],
-        caught_by_layout: vec![None; WRONG.len()],
+        caught: vec![None; wrong.len()],
+        caught_by_layout: vec![None; wrong.len()],
         pairs_laid_out: 0,
         seen: BTreeMap::new(),
     });
@@ -248,7 +240,7 @@ fn main() {
     thread::scope(|scope| {
         for _ in 0..workers {
             scope.spawn(|| {
-                let mut driver = Driver::new(&arguments[2..]);
+                let mut driver = Driver::new(driver);
                 loop {
                     let number = next.fetch_add(1, Ordering::Relaxed);
                     if number >= batches {
@@ -256,7 +248,7 @@ fn main() {
                     }
                     let cases = batch(seed, number);
                     let answers = driver.answers(&cases);
-                    compare(number * BATCH as u64, &cases, &answers, &found);
+                    compare(number * BATCH as u64, &wrong, &cases, &answers, &found);
                 }
                 driver.end();
             });
@@ -267,13 +259,13 @@ fn main() {
     for fault in &found.shown {
         println!("{}", fault);
     }
-    exit(if report(&found, batches * BATCH as u64, &spoilers_at_large(&arguments[2..])) { 0 } else { 1 });
+    report(&wrong, &found, batches * BATCH as u64, &spoilers_at_large(driver))
 }
 
 /// Prints what a run found, and says whether all is well.
-fn report(found: &Found, calls: u64, spoilers: &[&str]) -> bool {
+fn report(wrong: &[Wrong], found: &Found, calls: u64, spoilers: &[&str]) -> bool {
     let mut faults = Vec::new();
-    for (at, (name, _)) in WRONG.iter().enumerate() {
+    for (at, Wrong { name, .. }) in wrong.iter().enumerate() {
         match found.caught[at] {
             Some(call) => println!("caught in call {}: {}", call + 1, name),
             None => faults.push(format!("NOT CAUGHT: {}", name)),
@@ -298,7 +290,7 @@ fn report(found: &Found, calls: u64, spoilers: &[&str]) -> bool {
         calls,
         found.differences,
         found.caught.iter().flatten().count(),
-        WRONG.len(),
+        wrong.len(),
         SPOILED.len() - spoilers.len(),
         SPOILED.len(),
         found.pairs_laid_out

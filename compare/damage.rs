@@ -1,15 +1,15 @@
 //! Tables and byte strings that are damaged in some way.
 
 use crate::chance::Chance;
-use crate::format::{encoded, Plan};
+use crate::format::{encoded, Link, Plan};
+use crate::paper::{HEADER_WORDS, LEG_WORDS, LIMITS, LINK_WORDS, MORE, STREAM_WORDS};
 
-/// The words of a record of each part: links, streams, legs.
-const WIDTHS: [usize; 3] = [4, 5, 3];
-const HEADER: usize = 5;
+/// The words of a record of each part.
+const WIDTHS: [usize; 3] = [LINK_WORDS, STREAM_WORDS, LEG_WORDS];
 
 /// Where a part's records begin, and how many it has.
 fn part(words: &[u32], part: usize) -> (usize, usize) {
-    let start = HEADER + (0..part).map(|earlier| WIDTHS[earlier] * words[1 + earlier] as usize).sum::<usize>();
+    let start = HEADER_WORDS + (0..part).map(|earlier| WIDTHS[earlier] * words[1 + earlier] as usize).sum::<usize>();
     (start, words[1 + part] as usize)
 }
 
@@ -22,18 +22,35 @@ fn some_record(chance: &mut Chance, count: usize) -> usize {
     }
 }
 
+/// A table with each word behind its header at each value that lies at an edge of its range.
+pub fn each_edge(words: &[u32]) -> Vec<Vec<u32>> {
+    let mut tables = Vec::new();
+    for (at, width) in WIDTHS.into_iter().enumerate() {
+        let (start, count) = part(words, at);
+        for (record, field) in (0..count).flat_map(|record| (0..width).map(move |field| (record, field))) {
+            let first = start + width * record;
+            for value in edges(words, at, field, &words[first..first + width]) {
+                let mut table = words.to_vec();
+                table[first + field] = value;
+                tables.push(table);
+            }
+        }
+    }
+    tables
+}
+
 /// The values at the edges of a word's range, by its part and its place in the record.
 fn edges(words: &[u32], part: usize, field: usize, record: &[u32]) -> Vec<u32> {
     let own = record[field];
     let mut values = match (part, field) {
-        (0, 0) | (0, 1) => vec![0, 65_535, 65_536, record[1 - field]],
-        (0, 2) => vec![0, 7, 8, 9, 79, 80, 81, 100, 799, 800, 801],
-        (0, _) => vec![0, 100_000, 100_001],
-        (1, 0) => vec![0, 1, 1_000_000_000, 1_000_000_001, record[1], record[1].wrapping_sub(1)],
+        (0, 0) | (0, 1) => vec![0, LIMITS.node, LIMITS.node + 1, record[1 - field]],
+        (0, 2) => LIMITS.rates.iter().flat_map(|&rate| [rate - 1, rate, rate + 1]).chain([0, 100]).collect(),
+        (0, _) => vec![0, LIMITS.propagation, LIMITS.propagation + 1],
+        (1, 0) => vec![0, 1, LIMITS.period.1, LIMITS.period.1 + 1, record[1], record[1].wrapping_sub(1)],
         (1, 1) => vec![0, 1, record[0], record[0].wrapping_add(1)],
-        (1, 2) => vec![0, 63, 64, 1_522, 1_523],
+        (1, 2) => vec![0, LIMITS.octets.0 - 1, LIMITS.octets.0, LIMITS.octets.1, LIMITS.octets.1 + 1],
         (1, 3) => vec![0, words[3]],
-        (1, _) => vec![0, 1, 8, 9, words[3], words[3] + 1],
+        (1, _) => vec![0, 1, LIMITS.route.1, LIMITS.route.1 + 1, words[3], words[3] + 1],
         (_, 0) => vec![0, words[2], words[2].wrapping_sub(1)],
         (_, 1) => vec![0, words[1], words[1].wrapping_sub(1)],
         _ => vec![0],
@@ -83,7 +100,7 @@ pub fn damage_table(chance: &mut Chance, words: &mut Vec<u32>) {
 
 fn damage_header(chance: &mut Chance, words: &mut [u32]) {
     let field = 1 + chance.below(4);
-    let limit = [256, 512, 2_048, 1_000_000][field - 1];
+    let limit = [LIMITS.links, LIMITS.streams, LIMITS.legs, LIMITS.precision][field - 1];
     let own = words[field];
     words[field] = chance.of(&[limit, limit + 1, own.wrapping_add(1), own.wrapping_sub(1), 0, u32::MAX]);
 }
@@ -95,6 +112,16 @@ pub fn shift_legs(chance: &mut Chance, plan: &mut Plan) {
         plan.streams[at - 1].leg_count += 1;
         plan.streams[at].first_leg += 1;
         plan.streams[at].leg_count = plan.streams[at].leg_count.wrapping_sub(1);
+    }
+}
+
+/// Some links get the nodes of others.
+pub fn double_links(chance: &mut Chance, plan: &mut Plan) {
+    for _ in 0..2 {
+        let (at, other) = (chance.below(plan.links.len().max(1)), chance.below(plan.links.len().max(1)));
+        if let Some(&Link { from, to, .. }) = plan.links.get(other) {
+            plan.links[at] = Link { from, to, ..plan.links[at] };
+        }
     }
 }
 
@@ -130,8 +157,8 @@ pub fn damage_bytes(chance: &mut Chance, bytes: &mut Vec<u8>) {
         3 => {
             // A number gets one byte more than it needs.
             if let Some(byte) = bytes.get_mut(at) {
-                let ended = *byte < 0x80;
-                *byte |= 0x80;
+                let ended = *byte < MORE;
+                *byte |= MORE;
                 if ended {
                     bytes.insert(at + 1, 0);
                 }

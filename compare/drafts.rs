@@ -1,8 +1,10 @@
 //! Well-formed plans of many kinds, their legs near the edge of some rule.
 
 use crate::chance::Chance;
-use crate::format::{Leg, Link, Plan, Stream, LEGS_MAX, LINKS_MAX, STREAMS_MAX};
-use crate::rules::{apart, divisor, sent};
+use crate::check::{places_of, Checker, Plain};
+use crate::format::{Leg, Link, Plan, Stream};
+use crate::paper::{DEADLINE, HOP, LIMITS, OVERLAPS, WINDOW};
+use crate::rules::{arrival, divisor, sent, Sent};
 
 /// How large a plan is to be.
 struct Size {
@@ -11,23 +13,9 @@ struct Size {
     streams: usize,
 }
 
-const ROUTE_MAX: usize = 8;
-const PERIOD_MAX: u64 = 1_000_000_000;
-
 /// Plan A of document 01.
 pub fn plan_a() -> Plan {
-    let link = |from, to| Link { from, to, ns_per_octet: 8, propagation: 500 };
-    let leg = |stream, link, offset| Leg { stream, link, offset };
-    Plan {
-        revision: 0,
-        precision: 100,
-        links: vec![link(1, 2), link(2, 3)],
-        streams: vec![
-            Stream { period: 100_000, deadline: 2_352, octets: 64, first_leg: 0, leg_count: 2 },
-            Stream { period: 150_000, deadline: 2_000, octets: 64, first_leg: 2, leg_count: 1 },
-        ],
-        legs: vec![leg(0, 0, 0), leg(0, 1, 1_176), leg(1, 0, 0)],
-    }
+    Plain.read_plan(include_bytes!("../plans/plan-a.plan")).expect("it is a plan file")
 }
 
 /// A plan of a few records.
@@ -46,7 +34,7 @@ pub fn one_link(chance: &mut Chance) -> Plan {
 pub fn row(chance: &mut Chance) -> Plan {
     let mut plan = empty(chance);
     let link = |from, to| Link { from, to, ns_per_octet: 8, propagation: 500 };
-    let most = ROUTE_MAX as u32;
+    let most = LIMITS.route.1;
     plan.links = (0..=most).map(|node| link(node, node + 1)).chain((1..=most).map(|node| link(node, 0))).collect();
     for _ in 0..1 + chance.below(4) {
         let first = chance.of(&[0, 0, 1]);
@@ -64,21 +52,81 @@ pub fn medium(chance: &mut Chance) -> Plan {
 
 /// A plan near or at the limits of links, streams and legs.
 pub fn large(chance: &mut Chance) -> Plan {
-    if chance.one_in(3) {
-        return full_line(chance);
+    match chance.below(6) {
+        0 | 1 => return full_line(chance),
+        2 => return alike(chance),
+        _ => {}
     }
-    let links = LINKS_MAX as usize - chance.below(2);
-    let streams = STREAMS_MAX as usize - chance.below(2);
+    let links = LIMITS.links as usize - chance.below(2);
+    let streams = LIMITS.streams as usize - chance.below(2);
     let nodes = chance.of(&[17, 24, 40]);
     drafted(chance, Size { nodes, links, streams })
 }
 
+/// The most links, alike in something that is not both nodes in order, and the most streams, of one leg each.
+pub fn alike(chance: &mut Chance) -> Plan {
+    let (count, last) = (LIMITS.links, LIMITS.node);
+    let kind = chance.below(12);
+    let ends = |at: u32| match kind {
+        0 => (7, 8 + at),
+        1 => (8 + at, 7),
+        2 => (at, 1_001 - at),
+        3 => (last - at, last - 511 + at),
+        4 => (3 * at, 3 * at + 1),
+        5 => (at, at ^ 0x5A5A),
+        6 => (1 + 256 * (at / 20), 2 + 256 * (at % 20)),
+        7 => (0x1200 + at / 20, 0x1280 + at % 20),
+        8 => (at / 2 + at % 2, at / 2 + 1 - at % 2),
+        9 => (at, 31 * (300 - at % 300)),
+        10 => (at, 509 + at),
+        _ => (at / 20, 20 + at % 20),
+    };
+    let link = |(from, to)| Link { from, to, ns_per_octet: LIMITS.rates[0], propagation: 500 };
+    let mut plan = Plan { links: (0..count).map(|at| link(ends(at))).collect(), ..empty(chance) };
+    if chance.one_in(2) {
+        (1..plan.links.len()).rev().for_each(|at| plan.links.swap(at, chance.below(at + 1)));
+    }
+    for number in 0..LIMITS.streams {
+        let stream = Stream { period: 100_000, deadline: 50_000, octets: 64, first_leg: number, leg_count: 1 };
+        plan.streams.push(stream);
+        plan.legs.push(Leg { stream: number, link: number % count, offset: 0 });
+    }
+    plan
+}
+
+/// A plan in which nothing is violated, of so many streams or fewer, and of one at least.
+pub fn accepted(chance: &mut Chance, streams: usize) -> Plan {
+    let nodes = 2 + chance.below(8);
+    let size = Size { nodes, links: 1 + chance.below(3 * nodes), streams };
+    let mut plan = Plan { revision: 0, ..empty(chance) };
+    plan.precision = chance.of(&[0, 1, 100, 10_000]);
+    add_links(chance, &mut plan, &size);
+    let rhythm = Rhythm::Harmonic(chance.of(&[100_000, 1_000_000, 2_000_000]));
+    for _ in 0..1 + chance.below(streams) {
+        let hops = 1 + chance.below(LIMITS.route.1 as usize);
+        let route = some_route(chance, &plan.links, hops);
+        let period = rhythm.period(chance);
+        let first_leg = plan.legs.len();
+        add_stream(chance, &mut plan, period, &route);
+        let holds = |leg: usize| (0..places_of(leg as u32)).all(|place| Plain.holds(&plan, leg, place));
+        if !(first_leg..plan.legs.len()).all(holds) {
+            plan.streams.pop();
+            plan.legs.truncate(first_leg);
+        }
+    }
+    if plan.legs.is_empty() {
+        accepted(chance, streams)
+    } else {
+        plan
+    }
+}
+
 /// Four links in a row that each of 512 streams takes. Nothing is violated.
-fn full_line(chance: &mut Chance) -> Plan {
+pub fn full_line(chance: &mut Chance) -> Plan {
     let link = |from| Link { from, to: from + 1, ns_per_octet: 8, propagation: 500 };
     let mut plan = Plan { links: (0..4).map(link).collect(), ..empty(chance) };
     plan.precision = 100;
-    for number in 0..STREAMS_MAX {
+    for number in 0..LIMITS.streams {
         let period = chance.of(&[1, 2, 3, 5, 8, 13]) * 1_000_000;
         plan.streams.push(Stream { period, deadline: 10_000, octets: 64, first_leg: 4 * number, leg_count: 4 });
         plan.legs.extend((0..4).map(|hop| Leg { stream: number, link: hop, offset: 576 * number + 1_176 * hop }));
@@ -89,8 +137,8 @@ fn full_line(chance: &mut Chance) -> Plan {
 fn empty(chance: &mut Chance) -> Plan {
     let precision = match chance.below(5) {
         0 => 0,
-        1 => chance.from_to(999_999, 1_000_000),
-        2 => chance.from_to(0, 1_000_000),
+        1 => chance.from_to(LIMITS.precision - 1, LIMITS.precision),
+        2 => chance.from_to(0, LIMITS.precision),
         _ => 100,
     };
     let revision = chance.of(&[0, 1, 127, 128, 16_384, u32::MAX - 1, u32::MAX, u32::MAX]);
@@ -106,11 +154,11 @@ fn drafted(chance: &mut Chance, size: Size) -> Plan {
     }
     let rhythm = Rhythm::some(chance);
     for _ in 0..size.streams {
-        let room = LEGS_MAX as usize - plan.legs.len();
+        let room = LIMITS.legs as usize - plan.legs.len();
         if room == 0 {
             break;
         }
-        let hops = if chance.one_in(4) { ROUTE_MAX } else { 1 + chance.below(4) };
+        let hops = if chance.one_in(4) { LIMITS.route.1 as usize } else { 1 + chance.below(4) };
         let route = some_route(chance, &plan.links, hops.min(room));
         let period = rhythm.period(chance);
         add_stream(chance, &mut plan, period, &route);
@@ -119,7 +167,9 @@ fn drafted(chance: &mut Chance, size: Size) -> Plan {
 }
 
 fn add_links(chance: &mut Chance, plan: &mut Plan, size: &Size) {
-    let lowest = chance.of(&[0, 1, 100, 65_536 - size.nodes as u32]);
+    // In some plans the nodes differ in their high bytes alone.
+    let apart = chance.of(&[1, 1, 1, 256]).min(LIMITS.node / size.nodes as u32);
+    let lowest = chance.of(&[0, 1, 100, LIMITS.node - apart * (size.nodes as u32 - 1)]);
     let one_rate = chance.one_in(2);
     let mut pairs: Vec<(usize, usize)> = (0..size.nodes)
         .flat_map(|from| (0..size.nodes).map(move |to| (from, to)))
@@ -128,10 +178,14 @@ fn add_links(chance: &mut Chance, plan: &mut Plan, size: &Size) {
     for _ in 0..size.links.min(pairs.len()) {
         let (from, to) = pairs.swap_remove(chance.below(pairs.len()));
         plan.links.push(Link {
-            from: lowest + from as u32,
-            to: lowest + to as u32,
-            ns_per_octet: if one_rate { 8 } else { chance.of(&[8, 8, 80, 800]) },
-            propagation: if chance.one_in(4) { chance.of(&[0, 99_999, 100_000]) } else { chance.from_to(0, 3_000) },
+            from: lowest + apart * from as u32,
+            to: lowest + apart * to as u32,
+            ns_per_octet: if one_rate || chance.one_in(4) { LIMITS.rates[0] } else { chance.of(LIMITS.rates) },
+            propagation: if chance.one_in(4) {
+                chance.of(&[0, LIMITS.propagation - 1, LIMITS.propagation])
+            } else {
+                chance.from_to(0, 3_000)
+            },
         });
     }
 }
@@ -183,8 +237,8 @@ impl Rhythm {
             Rhythm::Harmonic(base) => base * chance.of(&[1, 1, 2, 3, 4, 6]),
             Rhythm::Fibonacci(base) => base * chance.of(&[1, 2, 3, 5, 8, 13, 21, 34, 55]),
             Rhythm::Coprime => chance.of(&[100_000, 100_001, 50_000, 150_000]),
-            Rhythm::Any => chance.any_size().clamp(1, PERIOD_MAX as u32),
-            Rhythm::Edges => chance.of(&[1, 2, 575, 576, 577, 1_152, 999_999_999, 1_000_000_000]),
+            Rhythm::Any => chance.any_size().clamp(LIMITS.period.0, LIMITS.period.1),
+            Rhythm::Edges => chance.of(&[1, 2, 575, 576, 577, 1_152, LIMITS.period.1 - 1, LIMITS.period.1]),
         }
     }
 }
@@ -194,9 +248,9 @@ fn add_stream(chance: &mut Chance, plan: &mut Plan, period: u32, route: &[u32]) 
     let number = plan.streams.len() as u32;
     let first_leg = plan.legs.len();
     let octets = match chance.below(4) {
-        0 => chance.of(&[64, 65, 1_521, 1_522]),
-        1 => chance.from_to(64, 1_522),
-        _ => 64,
+        0 => chance.of(&[LIMITS.octets.0, LIMITS.octets.0 + 1, LIMITS.octets.1 - 1, LIMITS.octets.1]),
+        1 => chance.from_to(LIMITS.octets.0, LIMITS.octets.1),
+        _ => LIMITS.octets.0,
     };
     let leg_count = route.len() as u32;
     plan.streams.push(Stream { period, deadline: period, octets, first_leg: first_leg as u32, leg_count });
@@ -207,8 +261,7 @@ fn add_stream(chance: &mut Chance, plan: &mut Plan, period: u32, route: &[u32]) 
         let mut due = u64::from(chance.from_to(0, period - 1)) / chance.of(&[1, 4, 64]);
         for leg in first_leg..plan.legs.len() {
             plan.legs[leg].offset = due.min(u64::from(u32::MAX)) as u32;
-            let now = sent(plan, leg);
-            due = now.offset + now.wire + now.propagation + u64::from(plan.precision);
+            due = arrival(&known(plan, leg), u64::from(plan.precision));
             due += chance.below(3) as u64 * chance.below(1_000) as u64;
         }
         let free = |leg| (0..first_leg).all(|other| fit(plan, leg, other));
@@ -216,16 +269,19 @@ fn add_stream(chance: &mut Chance, plan: &mut Plan, period: u32, route: &[u32]) 
             break;
         }
     }
-    let last = sent(plan, plan.legs.len() - 1);
-    let needed = last.offset + last.wire + last.propagation + u64::from(plan.precision);
-    let exact = needed - u64::from(plan.legs[first_leg].offset);
+    let needed = arrival(&known(plan, plan.legs.len() - 1), u64::from(plan.precision));
+    let exact = needed - known(plan, first_leg).start;
     if chance.one_in(2) {
         plan.streams[number as usize].deadline = exact.clamp(1, u64::from(period)) as u32;
     }
 }
 
+fn known(plan: &Plan, leg: usize) -> Sent {
+    sent(&Plain, plan, leg)
+}
+
 fn fit(plan: &Plan, leg: usize, other: usize) -> bool {
-    plan.legs[leg].link != plan.legs[other].link || apart(&sent(plan, leg), &sent(plan, other))
+    Plain.holds(plan, leg, OVERLAPS + other as u32)
 }
 
 /// Brings one leg to the edge of a rule, on its right side or its wrong one. Gives the place of that rule.
@@ -235,7 +291,7 @@ pub fn to_an_edge(chance: &mut Chance, plan: &mut Plan) -> (u32, u32) {
     }
     let rule = chance.below(6);
     let mut leg = chance.below(plan.legs.len());
-    if rule == 1 {
+    if rule == HOP {
         // The hop concerns a leg that has one before it in its stream.
         let later: Vec<usize> =
             (1..plan.legs.len()).filter(|&at| plan.legs[at].stream == plan.legs[at - 1].stream).collect();
@@ -243,21 +299,22 @@ pub fn to_an_edge(chance: &mut Chance, plan: &mut Plan) -> (u32, u32) {
     }
     let stream = plan.legs[leg].stream as usize;
     let (first, count) = (plan.streams[stream].first_leg as usize, plan.streams[stream].leg_count as usize);
-    let now = sent(plan, leg);
+    let now = known(plan, leg);
+    // What a start has beyond the offset.
+    let late = now.start as i64 - now.offset as i64;
     let beside = chance.of(&[0, 0, 1]);
     let (place, offset) = match rule {
-        0 => (0, i64::from(now.period) - now.wire as i64 + beside),
-        1 if leg > first => {
-            let before = sent(plan, leg - 1);
-            let due = before.offset + before.wire + before.propagation + u64::from(plan.precision);
-            (1, due as i64 - beside)
+        WINDOW => (WINDOW as u32, i64::from(now.period) - now.hold as i64 + beside),
+        HOP if leg > first => {
+            let due = arrival(&known(plan, leg - 1), u64::from(plan.precision));
+            (HOP as u32, due as i64 - late - beside)
         }
-        2 => {
-            let last = sent(plan, first + count - 1);
-            let needed = last.offset + last.wire + last.propagation + u64::from(plan.precision);
-            let exact = needed as i64 - i64::from(plan.legs[first].offset) - beside;
+        DEADLINE => {
+            let last = first + count - 1;
+            let needed = arrival(&known(plan, last), u64::from(plan.precision));
+            let exact = needed as i64 - known(plan, first).start as i64 - beside;
             plan.streams[stream].deadline = exact.clamp(1, i64::from(now.period)) as u32;
-            return ((first + count - 1) as u32, 2);
+            return (last as u32, DEADLINE as u32);
         }
         _ => {
             let others: Vec<usize> = (0..leg).filter(|&other| plan.legs[other].link == plan.legs[leg].link).collect();
@@ -265,7 +322,7 @@ pub fn to_an_edge(chance: &mut Chance, plan: &mut Plan) -> (u32, u32) {
                 return (leg as u32, 0);
             }
             let at = chance.of(&others);
-            let other = sent(plan, at);
+            let other = known(plan, at);
             let common = i64::from(divisor(now.period, other.period));
             // The frames touch, or share one ns, in repeats that may lie far beyond the period.
             let times = match chance.below(3) {
@@ -274,12 +331,12 @@ pub fn to_an_edge(chance: &mut Chance, plan: &mut Plan) -> (u32, u32) {
                 _ => i64::from(u32::MAX - now.period) / common,
             };
             let touching = if chance.one_in(2) {
-                other.offset as i64 + other.wire as i64 - beside
+                other.offset as i64 + other.hold as i64 - beside
             } else {
-                other.offset as i64 - now.wire as i64 + beside
+                other.offset as i64 - now.hold as i64 + beside
             };
             let once = touching.rem_euclid(common) + times * common;
-            (3 + at as u32, if once > i64::from(u32::MAX) { touching.rem_euclid(common) } else { once })
+            (OVERLAPS + at as u32, if once > i64::from(u32::MAX) { touching.rem_euclid(common) } else { once })
         }
     };
     plan.legs[leg].offset = offset.clamp(0, i64::from(u32::MAX)) as u32;

@@ -1,12 +1,12 @@
 //! A third opinion on overlap: the repeats of both legs are laid out one by one. No divisor is taken for the answer.
 
 use crate::calls::{self, Answer, Call};
-use crate::check::Checker;
+use crate::check::{Bent, Plain, RIGHT};
 use crate::rules::{self, Sent};
 use std::cell::Cell;
 
 /// The checker that lays out the repeats wherever there are few.
-struct ByLayout;
+const BY_LAYOUT: Bent = Bent { apart, ..RIGHT };
 
 const REPEATS_MAX: u64 = 3_000;
 
@@ -15,18 +15,16 @@ thread_local! {
     static PAIRS: Cell<(u64, u64)> = Cell::new((0, 0));
 }
 
-impl Checker for ByLayout {
-    fn apart(a: &Sent, b: &Sent) -> bool {
-        let (laid, left) = PAIRS.with(Cell::get);
-        match laid_out(a, b) {
-            Some(apart) => {
-                PAIRS.with(|pairs| pairs.set((laid + 1, left)));
-                apart
-            }
-            None => {
-                PAIRS.with(|pairs| pairs.set((laid, left + 1)));
-                rules::apart(a, b)
-            }
+fn apart(_: &Bent, a: &Sent, b: &Sent) -> bool {
+    let (laid, left) = PAIRS.with(Cell::get);
+    match laid_out(a, b) {
+        Some(apart) => {
+            PAIRS.with(|pairs| pairs.set((laid + 1, left)));
+            apart
+        }
+        None => {
+            PAIRS.with(|pairs| pairs.set((laid, left + 1)));
+            rules::apart(&Plain, a, b)
         }
     }
 }
@@ -40,7 +38,7 @@ pub struct Opinion {
 
 pub fn opinion(call: &Call) -> Opinion {
     PAIRS.with(|pairs| pairs.set((0, 0)));
-    let answer = calls::answer::<ByLayout>(call);
+    let answer = calls::answer(&BY_LAYOUT, call);
     let (laid_out, left) = PAIRS.with(Cell::get);
     Opinion { answer, laid_out, left }
 }
@@ -50,15 +48,15 @@ fn laid_out(a: &Sent, b: &Sent) -> Option<bool> {
     let (a_period, b_period) = (u64::from(a.period), u64::from(b.period));
     let multiple = a_period / u64::from(rules::divisor(a.period, b.period)) * b_period;
     // Two repeats that meet behind this end are repeats of two that meet before it.
-    let end = a.offset.max(b.offset) + multiple + a.wire.max(b.wire);
+    let end = a.offset.max(b.offset) + multiple + a.hold.max(b.hold);
     let (mut a_start, mut b_start) = (a.offset, b.offset);
     if (end - a_start) / a_period + (end - b_start) / b_period > REPEATS_MAX {
         return None;
     }
     while a_start < end && b_start < end {
-        if a_start + a.wire <= b_start {
+        if a_start + a.hold <= b_start {
             a_start += a_period;
-        } else if b_start + b.wire <= a_start {
+        } else if b_start + b.hold <= a_start {
             b_start += b_period;
         } else {
             return Some(false);

@@ -1,51 +1,78 @@
-//! The four rules at one place. Every time is in ns; sums are made in 64 bits.
+//! The rules. Every time is in ns; sums are made in 64 bits.
 
-use crate::format::Plan;
+use crate::check::Checker;
+use crate::format::{Leg, Plan, Stream};
+use crate::paper::PREAMBLE;
 
 /// What the rules have to know of one leg.
 #[derive(Clone, Copy)]
 pub struct Sent {
+    /// When it is sent in each period: for window and overlap.
     pub offset: u64,
+    /// When it is sent on its way through the network: for hop and deadline.
+    pub start: u64,
+    /// How long the frame is on the wire: for hop and deadline.
     pub wire: u64,
+    /// How long it holds the link: for window and overlap.
+    pub hold: u64,
     pub propagation: u64,
     pub period: u32,
     pub deadline: u64,
 }
 
-/// The wire time of a frame: 8 octets of preamble and start delimiter go before it.
-pub fn wire_time(octets: u32, ns_per_octet: u32) -> u64 {
-    (u64::from(octets) + 8) * u64::from(ns_per_octet)
+/// The wire time of a frame: preamble and start delimiter go before it.
+pub fn wire_time<C: Checker>(_: &C, octets: u32, ns_per_octet: u32) -> u64 {
+    (u64::from(octets) + u64::from(PREAMBLE)) * u64::from(ns_per_octet)
 }
 
-pub fn sent(plan: &Plan, leg: usize) -> Sent {
+/// For how long a frame holds its link. That is its wire time.
+pub fn hold_time<C: Checker>(_: &C, octets: u32, ns_per_octet: u32) -> u64 {
+    (u64::from(octets) + u64::from(PREAMBLE)) * u64::from(ns_per_octet)
+}
+
+/// When a leg starts, as hop and deadline count. That is its offset.
+pub fn start(leg: &Leg, _: &Stream) -> u64 {
+    u64::from(leg.offset)
+}
+
+#[inline]
+pub fn sent<C: Checker>(c: &C, plan: &Plan, leg: usize) -> Sent {
     let leg = &plan.legs[leg];
     let (stream, link) = (&plan.streams[leg.stream as usize], &plan.links[leg.link as usize]);
     Sent {
         offset: u64::from(leg.offset),
-        wire: wire_time(stream.octets, link.ns_per_octet),
+        start: start(leg, stream),
+        wire: c.wire_time(stream.octets, link.ns_per_octet),
+        hold: c.hold_time(stream.octets, link.ns_per_octet),
         propagation: u64::from(link.propagation),
         period: stream.period,
         deadline: u64::from(stream.deadline),
     }
 }
 
-pub fn window_holds(leg: &Sent) -> bool {
-    leg.offset + leg.wire <= u64::from(leg.period)
+pub fn window_holds<C: Checker>(_: &C, leg: &Sent) -> bool {
+    leg.offset + leg.hold <= u64::from(leg.period)
 }
 
-pub fn hop_holds(leg: &Sent, previous: &Sent, precision: u64) -> bool {
-    leg.offset >= previous.offset + previous.wire + previous.propagation + precision
+/// When the frame of a leg is there for the next one.
+pub fn arrival(leg: &Sent, precision: u64) -> u64 {
+    leg.start + leg.wire + leg.propagation + precision
 }
 
-pub fn deadline_holds(last: &Sent, first_offset: u64, precision: u64) -> bool {
-    last.offset + last.wire + last.propagation + precision <= last.deadline + first_offset
+pub fn hop_holds<C: Checker>(_: &C, leg: &Sent, previous: &Sent, precision: u64) -> bool {
+    leg.start >= arrival(previous, precision)
+}
+
+pub fn deadline_holds<C: Checker>(_: &C, last: &Sent, first: &Sent, precision: u64) -> bool {
+    arrival(last, precision) <= last.deadline + first.start
 }
 
 /// Whether the repeats of two legs on one link never share an instant.
-pub fn apart(a: &Sent, b: &Sent) -> bool {
+#[inline]
+pub fn apart<C: Checker>(_: &C, a: &Sent, b: &Sent) -> bool {
     let g = i64::from(divisor(a.period, b.period));
     let r = (b.offset as i64 - a.offset as i64).rem_euclid(g);
-    r >= a.wire as i64 && g - r >= b.wire as i64
+    r >= a.hold as i64 && g - r >= b.hold as i64
 }
 
 /// The greatest common divisor, by Euclid.

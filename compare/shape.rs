@@ -2,92 +2,96 @@
 
 use crate::check::Checker;
 use crate::format::{refused, Leg, Link, Outcome, Plan, Stream};
+use crate::paper::{LEG_WRONG, LINK_RANGE, LINK_TWICE, STREAM_WRONG};
 
-const NODE_MAX: u32 = 65_535;
-const PROPAGATION_MAX: u32 = 100_000;
-const PERIOD_MAX: u32 = 1_000_000_000;
-const ROUTE_MAX: u32 = 8;
-
-pub fn judge<C: Checker>(plan: &Plan) -> Outcome<()> {
-    for (at, link) in plan.links.iter().enumerate() {
-        if !C::link_in_range(link) {
-            return refused(4, at);
-        }
-    }
-    C::links_differ(&plan.links)?;
-    C::streams_and_legs(plan)
+pub fn judge<C: Checker>(c: &C, plan: &Plan) -> Outcome<()> {
+    c.links_in_range(&plan.links)?;
+    c.links_differ(&plan.links)?;
+    c.streams(plan)?;
+    c.legs(plan)
 }
 
-pub fn link_in_range(link: &Link) -> bool {
-    link.from <= NODE_MAX
-        && link.to <= NODE_MAX
+/// Refusal 4, at the lowest link out of range.
+pub fn links_in_range<C: Checker>(c: &C, links: &[Link]) -> Outcome<()> {
+    match links.iter().position(|link| !c.link_in_range(link)) {
+        Some(at) => refused(LINK_RANGE, at),
+        None => Ok(()),
+    }
+}
+
+pub fn link_in_range<C: Checker>(c: &C, link: &Link) -> bool {
+    let most = c.limits();
+    link.from <= most.node
+        && link.to <= most.node
         && link.from != link.to
-        && matches!(link.ns_per_octet, 8 | 80 | 800)
-        && link.propagation <= PROPAGATION_MAX
+        && most.rates.contains(&link.ns_per_octet)
+        && link.propagation <= most.propagation
 }
 
 /// Refusal 5 stands at the later of two equal links, the lowest such.
-pub fn links_differ(links: &[Link]) -> Outcome<()> {
+pub fn links_differ<C: Checker>(_: &C, links: &[Link]) -> Outcome<()> {
     for (at, link) in links.iter().enumerate() {
         if links[..at].iter().any(|earlier| earlier.from == link.from && earlier.to == link.to) {
-            return refused(5, at);
+            return refused(LINK_TWICE, at);
         }
     }
     Ok(())
 }
 
 /// Refusal 6: each stream's own words, where its legs begin and end, and at last that no leg is left over.
-pub fn streams<C: Checker>(plan: &Plan) -> Outcome<()> {
+pub fn streams<C: Checker>(c: &C, plan: &Plan) -> Outcome<()> {
     let legs = plan.legs.len() as u32;
     let mut first_leg = 0;
     for (at, stream) in plan.streams.iter().enumerate() {
-        if !C::stream_in_range(stream) || stream.first_leg != first_leg || stream.leg_count > legs - first_leg {
-            return refused(6, at);
+        if !c.stream_in_range(stream) || stream.first_leg != first_leg || stream.leg_count > legs - first_leg {
+            return refused(STREAM_WRONG, at);
         }
         first_leg += stream.leg_count;
     }
-    C::legs_used_up(first_leg, legs, plan.streams.len())
-}
-
-pub fn stream_in_range(stream: &Stream) -> bool {
-    (1..=PERIOD_MAX).contains(&stream.period)
-        && (1..=stream.period).contains(&stream.deadline)
-        && (64..=1_522).contains(&stream.octets)
-        && (1..=ROUTE_MAX).contains(&stream.leg_count)
-}
-
-pub fn legs_used_up(used: u32, legs: u32, streams: usize) -> Outcome<()> {
-    if used < legs {
-        return refused(6, streams);
+    if first_leg < legs {
+        return refused(STREAM_WRONG, plan.streams.len());
     }
     Ok(())
+}
+
+pub fn stream_in_range<C: Checker>(c: &C, stream: &Stream) -> bool {
+    let within = |(least, most): (u32, u32), word: u32| least <= word && word <= most;
+    let limits = c.limits();
+    within(limits.period, stream.period)
+        && within((limits.deadline_least, stream.period), stream.deadline)
+        && within(limits.octets, stream.octets)
+        && within(limits.route, stream.leg_count)
 }
 
 /// Refusal 7. Here every leg belongs to just one stream, since refusal 6 was not due.
-pub fn legs<C: Checker>(plan: &Plan) -> Outcome<()> {
+pub fn legs<C: Checker>(c: &C, plan: &Plan) -> Outcome<()> {
+    let mut met = Vec::new();
     for (number, stream) in plan.streams.iter().enumerate() {
+        met.clear();
         let first = stream.first_leg as usize;
-        let route = &plan.legs[first..first + stream.leg_count as usize];
-        for (hop, leg) in route.iter().enumerate() {
-            let named = leg.stream == number as u32 && (leg.link as usize) < plan.links.len();
-            if !named || !C::goes_on(&plan.links, &route[..hop], leg) {
-                return refused(7, first + hop);
+        for at in first..first + stream.leg_count as usize {
+            let leg = &plan.legs[at];
+            if !c.names_right(plan, leg, number as u32) {
+                return refused(LEG_WRONG, at);
             }
+            let link = &plan.links[leg.link as usize];
+            if met.is_empty() {
+                met.push(link.from);
+            } else if !c.goes_on(&met, link) {
+                return refused(LEG_WRONG, at);
+            }
+            met.push(link.to);
         }
     }
     Ok(())
 }
 
-/// Whether a leg begins where the earlier legs of its route ended, and leads to a node that they have not met.
-pub fn goes_on(links: &[Link], earlier: &[Leg], leg: &Leg) -> bool {
-    let link = |leg: &Leg| links[leg.link as usize];
-    let to = link(leg).to;
-    match (earlier.first(), earlier.last()) {
-        (Some(first), Some(last)) => {
-            link(leg).from == link(last).to
-                && to != link(first).from
-                && earlier.iter().all(|passed| link(passed).to != to)
-        }
-        _ => true,
-    }
+/// Whether a leg of this stream names it, and a link that is there.
+pub fn names_right<C: Checker>(_: &C, plan: &Plan, leg: &Leg, stream: u32) -> bool {
+    leg.stream == stream && (leg.link as usize) < plan.links.len()
+}
+
+/// Whether a route that has met these nodes goes on over a link: from the last of them, to none of them.
+pub fn goes_on<C: Checker>(_: &C, met: &[u32], link: &Link) -> bool {
+    met.last() == Some(&link.from) && !met.contains(&link.to)
 }

@@ -1,423 +1,806 @@
-//! Checkers that are wrong on purpose, each in one thing. The comparison has to catch every one.
+//! Checkers that are wrong on purpose, each in one thing. The comparison has to catch every one; those of the first three
+//! groups have to be caught by what the programs print, too.
 
-use crate::calls::{answer, Answering};
-use crate::check::{self, fits, moved, next, slice, Checker, Sliced, NOTHING_VIOLATED, PAUSED, REFUSED, VIOLATED};
-use crate::format::{self, read_cursor, read_plan, refused, Cursor, Leg, Link, Outcome, Plan, Refusal, Stream};
-use crate::format::{plan_bytes, CURSOR_BYTES, LEGS_MAX, LINKS_MAX, NUMBER_BYTES, PRECISION_MAX, STREAMS_MAX};
-use crate::rules::{self, divisor, Sent};
+use crate::check::{self, begin, next, packed, places_before, places_of, rule_at, Bent, Checker, Plain, Sliced, RIGHT};
+use crate::format::{self, plan_bytes, refused, table_words, Cursor, Link, Numbers, Outcome, Plan, Refusal, Stream};
+use crate::paper::{
+    Limits, ABOVE_LIMIT, BAD_FORM, CURSOR_BYTES, DEADLINE, ENDS_EARLY, HEADER_WORDS, HOP, LAST_REVISION, LEFT_OVER,
+    LEG_WRONG, LIMITS, LINK_RANGE, LINK_TWICE, MORE, NOTHING_VIOLATED, NO_PLACE, NO_ROOM, NUMBER_BYTES, OVERLAP,
+    OVERLAPS, PAUSED, PREAMBLE, REFUSED, RULES, STREAM_WRONG, VIOLATED,
+};
+use crate::rules::{arrival, divisor, sent, Sent};
 use crate::shape;
+use std::cell::Cell;
+use std::panic::{catch_unwind, set_hook, take_hook, AssertUnwindSafe};
 
-/// Each wrong checker is a name for the code, a name for the reader, and the decisions that it replaces.
-macro_rules! wrong {
-    ($($checker:ident $name:literal { $($decisions:tt)* })*) => {
-        $(
-            struct $checker;
-            impl Checker for $checker { $($decisions)* }
-        )*
-        pub const WRONG: &[(&str, Answering)] = &[$(($name, answer::<$checker>)),*];
+pub struct Wrong {
+    pub name: String,
+    pub checker: Bent,
+}
+
+/// The right checker, bent in one thing.
+fn wrong(name: &str, bend: impl Fn(&mut Bent)) -> Wrong {
+    let mut checker = RIGHT;
+    bend(&mut checker);
+    Wrong { name: name.to_string(), checker }
+}
+
+/// All wrong checkers.
+pub fn all() -> Vec<Wrong> {
+    readers().into_iter().chain(judges()).chain(checkers()).chain(callers()).collect()
+}
+
+// ---- Wrong checkers at work
+
+thread_local! {
+    static AT_WORK: Cell<bool> = Cell::new(false);
+}
+
+/// Lets a wrong checker fail without a word. What else fails is told as ever.
+pub fn fail_silently() {
+    let told = take_hook();
+    set_hook(Box::new(move |fault| {
+        if !AT_WORK.with(Cell::get) {
+            told(fault)
+        }
+    }));
+}
+
+/// What a wrong checker gives, or nothing where it fails, as one may that takes a table which is no plan.
+pub fn given<T>(work: impl FnOnce() -> T) -> Option<T> {
+    AT_WORK.with(|at_work| at_work.set(true));
+    let given = catch_unwind(AssertUnwindSafe(work)).ok();
+    AT_WORK.with(|at_work| at_work.set(false));
+    given
+}
+
+// ---- Readers
+
+/// A limit's name, where it stands, and whether it is wrong when it is lower by one, and when it is higher.
+type Limit = (&'static str, fn(&mut Limits) -> &mut u32, [bool; 2]);
+
+const EACH_WAY: [bool; 2] = [true, true];
+
+/// Checkers with one limit moved by one.
+fn moved_limits(limits: &[Limit]) -> Vec<Wrong> {
+    let mut moved = Vec::new();
+    for (name, limit, ways) in limits {
+        for (is_higher, _) in [false, true].into_iter().zip(ways).filter(|(_, is_wrong)| **is_wrong) {
+            let name = format!("{} one too {}", name, if is_higher { "high" } else { "low" });
+            moved.push(wrong(&name, |c| {
+                let number = limit(&mut c.limits);
+                *number = if is_higher { *number + 1 } else { *number - 1 };
+            }));
+        }
+    }
+    moved
+}
+
+/// Reads on after a header above a limit, and lets some refusals come before that.
+fn read_on(c: &Bent, bytes: &[u8], first: &[u32]) -> Outcome<Plan> {
+    let right = format::read_plan(c, bytes);
+    if !matches!(right, Err(Refusal { number: ABOVE_LIMIT, .. })) {
+        return right;
+    }
+    let mut numbers = Numbers { checker: c, bytes, at: 0 };
+    let header: [u32; HEADER_WORDS] = numbers.record()?;
+    for _ in HEADER_WORDS as u64..table_words(&header) {
+        if let Err(refusal) = numbers.next() {
+            return if first.contains(&refusal.number) { Err(refusal) } else { right };
+        }
+    }
+    match c.plan_ends(numbers.at, bytes.len()) {
+        Err(refusal) if first.contains(&refusal.number) => Err(refusal),
+        _ => right,
+    }
+}
+
+/// The groups of a number before its last one, as far as there are bytes.
+fn groups_before_last(bytes: &[u8], start: usize) -> usize {
+    bytes.iter().skip(start).take_while(|&&byte| byte >= MORE).count()
+}
+
+pub fn readers() -> Vec<Wrong> {
+    let at_bad_byte: fn(&Bent, &[u8], usize) -> _ = |c, bytes, start| {
+        format::number(c, bytes, start).map_err(|refusal| match refusal.number {
+            BAD_FORM => Refusal { at: start + groups_before_last(bytes, start).min(NUMBER_BYTES - 1), ..refusal },
+            _ => refusal,
+        })
     };
+    let long_form_taken: fn(&Bent, &[u8], usize) -> _ = |c, bytes, start| {
+        let right = format::number(c, bytes, start);
+        let groups = groups_before_last(bytes, start);
+        if right.is_ok() || groups > NUMBER_BYTES - 1 || bytes.get(start + groups) != Some(&0) {
+            return right;
+        }
+        let low = bytes[start..start + groups].iter().rev();
+        Ok((low.fold(0, |value, byte| value << 7 | u32::from(byte & !MORE)), start + groups + 1))
+    };
+    let twelve_at_end: fn(&Bent, &[u8], usize) -> _ = |c, bytes, start| {
+        format::number(c, bytes, start).map_err(|refusal| match refusal.number {
+            ENDS_EARLY => Refusal { at: bytes.len(), ..refusal },
+            _ => refusal,
+        })
+    };
+    let twelve_for_fifth: fn(&Bent, &[u8], usize) -> _ = |c, bytes, start| {
+        format::number(c, bytes, start).map_err(|refusal| match bytes.last() {
+            Some(&last) if last >= MORE && start + NUMBER_BYTES == bytes.len() => {
+                Refusal { number: ENDS_EARLY, ..refusal }
+            }
+            _ => refusal,
+        })
+    };
+    let mut readers = vec![
+        wrong("13 at the bad byte", |c| c.number = at_bad_byte),
+        wrong("a longer form taken", |c| c.number = long_form_taken),
+        wrong("12 where the bytes end", |c| c.number = twelve_at_end),
+        wrong("12 for a fifth byte above 0F that ends the bytes", |c| c.number = twelve_for_fifth),
+        wrong("a fifth byte up to 1F taken", |c| c.limits.last_byte = 0x1F),
+        wrong("a fifth byte of 0F refused", |c| c.limits.last_byte = 0x0E),
+        wrong("12 and 13 before 2", |c| c.read_plan = |c, bytes| read_on(c, bytes, &[ENDS_EARLY, BAD_FORM])),
+        wrong("14 before 2", |c| c.read_plan = |c, bytes| read_on(c, bytes, &[LEFT_OVER])),
+        wrong("bytes left over behind a plan taken", |c| c.plan_ends = |_, _, _| Ok(())),
+    ];
+    readers.extend(moved_limits(&[
+        ("the most links", |limits| &mut limits.links, EACH_WAY),
+        ("the most streams", |limits| &mut limits.streams, EACH_WAY),
+        ("the most legs", |limits| &mut limits.legs, EACH_WAY),
+        ("the greatest precision", |limits| &mut limits.precision, EACH_WAY),
+    ]));
+    readers
 }
 
-/// The number of a call whose result the wrong checker has in hand.
-fn told(result: u32, number: usize) -> u64 {
-    u64::from(result) | (number as u64) << 32
+// ---- Judges of the shape
+
+/// The right judge, but that one of its refusals gives way to another one.
+fn instead(plan: &Plan, number: u32, other: impl Fn(usize) -> Outcome<()>) -> Outcome<()> {
+    match Plain.judge(plan) {
+        Err(refusal) if refusal.number == number => other(refusal.at).and(Err(refusal)),
+        right => right,
+    }
 }
 
-fn in_32_bits(leg: &Sent, wire: u64) -> u64 {
-    u64::from((leg.offset + wire) as u32)
+fn refused_at(number: u32, at: Option<usize>) -> Outcome<()> {
+    at.map_or(Ok(()), |at| refused(number, at))
 }
 
-wrong! {
-    // The reader.
-    AtTheBadByte "13 at the bad byte" {
-        fn number(bytes: &[u8], start: usize) -> Outcome<(u32, usize)> {
-            format::number(bytes, start).map_err(|refusal| match refusal.number {
-                13 => {
-                    let groups = bytes[start..].iter().take_while(|&&byte| byte > 0x7F).count();
-                    Refusal { at: start + groups.min(NUMBER_BYTES - 1), ..refusal }
+fn ends(link: &Link) -> (u32, u32) {
+    (link.from, link.to)
+}
+
+/// Refusal 5 for links that are alike in something else than both nodes in order.
+fn twin_by<K: PartialEq>(links: &[Link], key: impl Fn(&Link) -> K) -> Outcome<()> {
+    let has_twin = |at: &usize| links[..*at].iter().any(|earlier| key(earlier) == key(&links[*at]));
+    refused_at(LINK_TWICE, (0..links.len()).find(has_twin))
+}
+
+/// The right judge of streams, but that refusal 6 stands elsewhere where the counts do not add up to the legs.
+fn sum_at(c: &Bent, plan: &Plan, elsewhere: usize) -> Outcome<()> {
+    let last = plan.streams.len();
+    shape::streams(c, plan)
+        .map_err(|refusal| Refusal { at: if refusal.at == last { elsewhere } else { refusal.at }, ..refusal })
+}
+
+fn first_legs_mended(plan: &Plan) -> Plan {
+    let (mut mended, mut first_leg) = (plan.clone(), 0u32);
+    for stream in &mut mended.streams {
+        stream.first_leg = first_leg;
+        first_leg = first_leg.wrapping_add(stream.leg_count);
+    }
+    mended
+}
+
+/// Compares the sum of the counts with the legs behind all streams, and never at a stream.
+fn sum_alone(c: &Bent, plan: &Plan) -> Outcome<()> {
+    let mended = first_legs_mended(plan).streams;
+    let is_wrong = |at: &usize| !c.stream_in_range(&plan.streams[*at]) || plan.streams[*at] != mended[*at];
+    refused_at(STREAM_WRONG, (0..plan.streams.len()).find(is_wrong))?;
+    sum_first(plan)
+}
+
+fn sum_first(plan: &Plan) -> Outcome<()> {
+    let sum: u64 = plan.streams.iter().map(|stream| u64::from(stream.leg_count)).sum();
+    refused_at(STREAM_WRONG, (sum != plan.legs.len() as u64).then_some(plan.streams.len()))
+}
+
+/// The first leg of the stream of this leg, where the leg's fault is one of its route.
+fn route_fault(plan: &Plan, at: usize) -> Option<usize> {
+    let leg = &plan.legs[at];
+    let holder = |stream: &Stream| (stream.first_leg..stream.first_leg + stream.leg_count).contains(&(at as u32));
+    let number = plan.streams.iter().position(holder)?;
+    Plain.names_right(plan, leg, number as u32).then_some(plan.streams[number].first_leg as usize)
+}
+
+/// Refusal 7, but that a fault of a route stands elsewhere, which is told from the leg and the first one of its route.
+fn route_at(plan: &Plan, elsewhere: fn(usize, usize) -> usize) -> Outcome<()> {
+    Plain.legs(plan).map_err(|refusal| {
+        let first = route_fault(plan, refusal.at);
+        Refusal { at: first.map_or(refusal.at, |first| elsewhere(refusal.at, first)), ..refusal }
+    })
+}
+
+fn names_first(plan: &Plan) -> Outcome<()> {
+    for (number, stream) in plan.streams.iter().enumerate() {
+        for at in stream.first_leg..stream.first_leg + stream.leg_count {
+            if !Plain.names_right(plan, &plan.legs[at as usize], number as u32) {
+                return refused(LEG_WRONG, at as usize);
+            }
+        }
+    }
+    Plain.legs(plan)
+}
+
+/// A judge with another rule for the end of a link, whose start is right.
+fn leads_on(met: &[u32], link: &Link, passed: &[&[u32]]) -> bool {
+    met.last() == Some(&link.from) && !passed.iter().any(|nodes| nodes.contains(&link.to))
+}
+
+fn last_two(met: &[u32]) -> &[u32] {
+    &met[met.len() - 2..]
+}
+
+fn of_links() -> Vec<Wrong> {
+    let highest_link =
+        |_: &Bent, links: &[Link]| refused_at(LINK_RANGE, links.iter().rposition(|link| !Plain.link_in_range(link)));
+    let to_itself = |_: &Bent, link: &Link| {
+        Plain.link_in_range(&Link { to: if link.to == link.from { link.from ^ 1 } else { link.to }, ..*link })
+    };
+    let any_rate = |_: &Bent, link: &Link| {
+        let is_between = (LIMITS.rates[0]..=LIMITS.rates[LIMITS.rates.len() - 1]).contains(&link.ns_per_octet);
+        Plain.link_in_range(&Link { ns_per_octet: if is_between { LIMITS.rates[0] } else { 0 }, ..*link })
+    };
+    let at_earlier = |_: &Bent, links: &[Link]| {
+        Plain.links_differ(links).map_err(|refusal| {
+            let same = |link: &Link| ends(link) == ends(&links[refusal.at]);
+            Refusal { at: links.iter().position(same).unwrap_or(0), ..refusal }
+        })
+    };
+    let twin_of_lowest = |_: &Bent, links: &[Link]| {
+        let twin =
+            |at: usize| links.iter().skip(at + 1).position(|link| ends(link) == ends(&links[at])).map(|on| at + 1 + on);
+        refused_at(LINK_TWICE, (0..links.len()).find_map(twin))
+    };
+    let highest_twin = |_: &Bent, links: &[Link]| {
+        let has_twin = |at: &usize| links[..*at].iter().any(|earlier| ends(earlier) == ends(&links[*at]));
+        refused_at(LINK_TWICE, (0..links.len()).rev().find(has_twin))
+    };
+    let neighbours = |_: &Bent, links: &[Link]| {
+        refused_at(LINK_TWICE, (1..links.len()).find(|&at| ends(&links[at]) == ends(&links[at - 1])))
+    };
+    let mut of_links = vec![
+        wrong("4 at the highest link", |c| c.links_in_range = highest_link),
+        wrong("a link from a node to itself taken", |c| c.link_in_range = to_itself),
+        wrong("any rate between the least and the greatest taken", |c| c.link_in_range = any_rate),
+        wrong("5 before 4", |c| c.judge = |_, plan| instead(plan, LINK_RANGE, |_| Plain.links_differ(&plan.links))),
+        wrong("5 at the earlier link", |c| c.links_differ = at_earlier),
+        wrong("5 at the twin of the lowest link", |c| c.links_differ = twin_of_lowest),
+        wrong("5 at the highest link", |c| c.links_differ = highest_twin),
+        wrong("5 left out", |c| c.links_differ = |_, _| Ok(())),
+        wrong("5 between neighbours alone", |c| c.links_differ = neighbours),
+        wrong("5 for the same link the other way", |c| {
+            c.links_differ = |_, links| twin_by(links, |link| (link.from.min(link.to), link.from.max(link.to)))
+        }),
+        wrong("5 by the node a link is from", |c| c.links_differ = |_, links| twin_by(links, |link| link.from)),
+        wrong("5 by the node a link leads to", |c| c.links_differ = |_, links| twin_by(links, |link| link.to)),
+        wrong("5 by the sum of the nodes", |c| c.links_differ = |_, links| twin_by(links, |link| link.from + link.to)),
+        wrong("5 by the low bytes of the nodes", |c| {
+            c.links_differ = |_, links| twin_by(links, |link| (link.from as u8, link.to as u8))
+        }),
+        wrong("5 for links alike in all words", |c| c.links_differ = |_, links| twin_by(links, |link| *link)),
+    ];
+    for (at, &rate) in LIMITS.rates.iter().enumerate() {
+        let others = || LIMITS.rates.iter().enumerate().filter(move |(other, _)| *other != at).map(|(_, &rate)| rate);
+        let names = ["refused", "and one ns less taken", "and one ns more taken"];
+        for (name, own) in names.iter().zip([vec![], vec![rate - 1, rate], vec![rate, rate + 1]]) {
+            let rates: &[u32] = others().chain(own).collect::<Vec<_>>().leak();
+            of_links.push(wrong(&format!("{} ns per octet {}", rate, name), |c| c.limits.rates = rates));
+        }
+    }
+    of_links.extend(moved_limits(&[
+        ("the highest node", |limits| &mut limits.node, EACH_WAY),
+        ("the longest propagation", |limits| &mut limits.propagation, EACH_WAY),
+    ]));
+    of_links
+}
+
+fn of_streams() -> Vec<Wrong> {
+    let ranges_first = |c: &Bent, plan: &Plan| {
+        let out_of_range = plan.streams.iter().position(|stream| !c.stream_in_range(stream));
+        shape::streams(c, plan).map_err(|refusal| Refusal { at: out_of_range.unwrap_or(refusal.at), ..refusal })
+    };
+    let deadline_behind = |c: &Bent, stream: &Stream| {
+        shape::stream_in_range(c, &Stream { deadline: stream.deadline.min(stream.period), ..*stream })
+    };
+    let deadline_before =
+        |c: &Bent, stream: &Stream| stream.deadline != stream.period && shape::stream_in_range(c, stream);
+    let legs_unused = |c: &Bent, plan: &Plan| match shape::streams(c, plan) {
+        Err(refusal) if refusal.at == plan.streams.len() => Ok(()),
+        right => right,
+    };
+    let link_missing = |_: &Bent, plan: &Plan| {
+        let missing = plan.legs.iter().position(|leg| leg.link as usize >= plan.links.len());
+        instead(plan, STREAM_WRONG, |_| refused_at(LEG_WRONG, missing))
+    };
+    let seven_before_sum = |_: &Bent, plan: &Plan| {
+        instead(plan, STREAM_WRONG, |at| if at == plan.streams.len() { Plain.legs(plan) } else { Ok(()) })
+    };
+    let mut of_streams = vec![
+        wrong("6 before 4", |c| c.judge = |_, plan| instead(plan, LINK_RANGE, |_| Plain.streams(plan))),
+        wrong("6 before 5", |c| c.judge = |_, plan| instead(plan, LINK_TWICE, |_| Plain.streams(plan))),
+        wrong("7 before 6", |c| c.judge = link_missing),
+        wrong("7 before counts below G", |c| c.judge = seven_before_sum),
+        wrong("6 for all ranges before the first legs", |c| c.streams = ranges_first),
+        wrong("any first leg taken", |c| c.streams = |c, plan| shape::streams(c, &first_legs_mended(plan))),
+        wrong("a deadline behind the period taken", |c| c.stream_in_range = deadline_behind),
+        wrong("a deadline as long as the period refused", |c| c.stream_in_range = deadline_before),
+        wrong("counts below G taken", |c| c.streams = legs_unused),
+        wrong("counts below G at 0", |c| c.streams = |c, plan| sum_at(c, plan, 0)),
+        wrong("counts below G at the last stream", |c| {
+            c.streams = |c, plan| sum_at(c, plan, plan.streams.len().saturating_sub(1))
+        }),
+        wrong("counts above G at S", |c| c.streams = sum_alone),
+        wrong("counts against G before the streams", |c| {
+            c.judge = |_, plan| instead(plan, STREAM_WRONG, |_| sum_first(plan))
+        }),
+    ];
+    of_streams.extend(moved_limits(&[
+        // A period of 0 has no right deadline, so that its own limit may stand lower.
+        ("the least period", |limits| &mut limits.period.0, [false, true]),
+        ("the longest period", |limits| &mut limits.period.1, EACH_WAY),
+        ("the least deadline", |limits| &mut limits.deadline_least, EACH_WAY),
+        ("the fewest octets", |limits| &mut limits.octets.0, EACH_WAY),
+        ("the most octets", |limits| &mut limits.octets.1, EACH_WAY),
+        ("the fewest legs of a stream", |limits| &mut limits.route.0, EACH_WAY),
+        ("the most legs of a stream", |limits| &mut limits.route.1, EACH_WAY),
+    ]));
+    of_streams
+}
+
+fn of_legs() -> Vec<Wrong> {
+    let any_stream = |c: &Bent, plan: &Plan, leg: &format::Leg, stream: u32| {
+        let own = if (leg.stream as usize) < plan.streams.len() { stream } else { u32::MAX };
+        shape::names_right(c, plan, &format::Leg { stream: own, ..*leg }, stream)
+    };
+    vec![
+        wrong("7 for a route at the earlier leg", |c| c.legs = |_, plan| route_at(plan, |at, _| at - 1)),
+        wrong("7 for a route at its first leg", |c| c.legs = |_, plan| route_at(plan, |_, first| first)),
+        wrong("7 for all names before the routes", |c| c.legs = |_, plan| names_first(plan)),
+        wrong("a leg that names any stream taken", |c| c.names_right = any_stream),
+        wrong("a leg with any word for its stream taken", |c| {
+            c.names_right = |_, plan, leg, _| (leg.link as usize) < plan.links.len()
+        }),
+        wrong("a route back to its first node taken", |c| c.goes_on = |_, met, link| leads_on(met, link, &[&met[1..]])),
+        wrong("a route back to a node in its middle taken", |c| {
+            c.goes_on = |_, met, link| leads_on(met, link, &[&met[..1], last_two(met)])
+        }),
+        wrong("a route straight back taken", |c| {
+            c.goes_on = |_, met, link| leads_on(met, link, &[&met[..met.len() - 2]])
+        }),
+        wrong("any route but straight back taken", |c| {
+            c.goes_on = |_, met, link| leads_on(met, link, &[last_two(met)])
+        }),
+        wrong("a route that does not go on taken", |c| c.goes_on = |_, met, link| !met.contains(&link.to)),
+        wrong("a route that goes on from any of its nodes taken", |c| {
+            c.goes_on = |_, met, link| met.contains(&link.from) && !met.contains(&link.to)
+        }),
+    ]
+}
+
+pub fn judges() -> Vec<Wrong> {
+    of_links().into_iter().chain(of_streams()).chain(of_legs()).collect()
+}
+
+// ---- Checkers of the rules
+
+fn in_32_bits(sum: u64) -> u64 {
+    u64::from(sum as u32)
+}
+
+/// Of all violated places names the least by a key of leg and place, where a slice looks at the whole plan.
+fn named<K: Ord>(plan: &Plan, from: Cursor, budget: u32, key: impl Fn(u32, u32) -> K) -> Sliced {
+    let right = Plain.slice(plan, from, budget);
+    let legs = plan.legs.len() as u32;
+    if right.result < VIOLATED || from != begin(plan) || u64::from(budget) < Plain.places(u64::from(legs)) {
+        return right;
+    }
+    let places = (0..legs).flat_map(|leg| (0..places_of(leg)).map(move |place| (leg, place)));
+    let violated = places.filter(|&(leg, place)| !Plain.holds(plan, leg as usize, place));
+    let (leg, place) = violated.min_by_key(|&(leg, place)| key(leg, place)).expect("a place is violated");
+    let cursor = Cursor { leg, place, ..from };
+    Sliced { result: RULES[rule_at(place).0].result, cursor, steps: places_before(cursor) as u32 + 1 }
+}
+
+/// Other times on the wire, of frames that hold their links no longer.
+fn timed(c: &mut Bent, time: fn(&Bent, u32, u32) -> u64) {
+    c.wire_time = time;
+    c.hold_time = time;
+}
+
+/// The sum of octets and others, by ns per octet.
+fn octets_sent(octets: u32, others: u32, ns_per_octet: u32) -> u64 {
+    u64::from(octets + others) * u64::from(ns_per_octet)
+}
+
+fn hop(leg: &Sent, previous: Sent, precision: u64) -> bool {
+    Plain.hop_holds(leg, &previous, precision)
+}
+
+fn due(last: Sent, first: &Sent, precision: u64) -> bool {
+    Plain.deadline_holds(&last, first, precision)
+}
+
+/// The right rule at a place, but for those of one rule.
+fn but_for(rule: usize, plan: &Plan, leg: usize, place: u32, other: impl Fn(usize) -> bool) -> bool {
+    match rule_at(place) {
+        (at, with) if at == rule => other(with),
+        _ => Plain.holds(plan, leg, place),
+    }
+}
+
+/// The overlap of two legs whose links are alike in something.
+fn overlap_by<K: PartialEq>(plan: &Plan, leg: usize, place: u32, key: impl Fn(&Link) -> K) -> bool {
+    let link = |leg: usize| key(&plan.links[plan.legs[leg].link as usize]);
+    but_for(OVERLAP, plan, leg, place, |other| {
+        link(leg) != link(other) || Plain.apart(&sent(&Plain, plan, leg), &sent(&Plain, plan, other))
+    })
+}
+
+fn of_the_order() -> Vec<Wrong> {
+    let fixed_place = |_: &Bent, _: &Plan, from: Cursor, _: u32| Sliced {
+        result: RULES[OVERLAP].result,
+        cursor: Cursor { leg: 2, place: OVERLAPS, ..from },
+        steps: 1,
+    };
+    vec![
+        wrong("accepted always", |c| c.holds = |_, _, _, _| true),
+        wrong("one fixed place", |c| c.slice = fixed_place),
+        wrong("the last violated place", |c| {
+            c.slice = |_, plan, from, budget| named(plan, from, budget, |leg, place| (!leg, !place))
+        }),
+        wrong("the overlaps of a leg before its window", |c| {
+            c.slice = |_, plan, from, budget| named(plan, from, budget, |leg, place| (leg, place < OVERLAPS, place))
+        }),
+        wrong("all of one rule before the next", |c| {
+            c.slice = |_, plan, from, budget| named(plan, from, budget, |leg, place| (rule_at(place).0, leg, place))
+        }),
+        wrong("the overlap with the highest leg first", |c| {
+            c.slice = |_, plan, from, budget| named(plan, from, budget, |leg, place| (leg, rule_at(place).0, !place))
+        }),
+        wrong("a place too many for each leg", |c| {
+            c.places = |_, legs| legs * (legs + 1) / 2 + u64::from(OVERLAPS) * legs
+        }),
+        wrong("window and hop exchanged in name", |c| c.rules = [RULES[1], RULES[0], RULES[2], RULES[3]]),
+        wrong("hop and deadline exchanged in name", |c| c.rules = [RULES[0], RULES[2], RULES[1], RULES[3]]),
+    ]
+}
+
+fn of_times() -> Vec<Wrong> {
+    vec![
+        wrong("no preamble", |c| timed(c, |_, octets, rate| octets_sent(octets, 0, rate))),
+        wrong("a preamble of 20 octets", |c| timed(c, |_, octets, rate| octets_sent(octets, 20, rate))),
+        wrong("a preamble in ns", |c| timed(c, |_, octets, rate| octets_sent(octets, 0, rate) + u64::from(PREAMBLE))),
+        wrong("the least ns per octet on each link", |c| {
+            timed(c, |_, octets, _| octets_sent(octets, PREAMBLE, LIMITS.rates[0]))
+        }),
+        wrong("window without the hold time", |c| c.window_holds = |_, leg| leg.offset <= u64::from(leg.period)),
+        wrong("window without its last ns", |c| {
+            c.window_holds = |_, leg| leg.offset + leg.hold < u64::from(leg.period)
+        }),
+        wrong("window of offsets modulo the period", |c| {
+            c.window_holds = |_, leg| leg.offset % u64::from(leg.period) + leg.hold <= u64::from(leg.period)
+        }),
+        wrong("window with a sum in 32 bits", |c| {
+            c.window_holds = |_, leg| in_32_bits(leg.offset + leg.hold) <= u64::from(leg.period)
+        }),
+    ]
+}
+
+fn of_hops() -> Vec<Wrong> {
+    let on_each = |_: &Bent, plan: &Plan, leg: usize, place: u32| {
+        but_for(HOP, plan, leg, place, |_| {
+            leg == 0 || hop(&sent(&Plain, plan, leg), sent(&Plain, plan, leg - 1), u64::from(plan.precision))
+        })
+    };
+    vec![
+        wrong("hop without the precision", |c| c.hop_holds = |_, leg, previous, _| hop(leg, *previous, 0)),
+        wrong("hop without the wire time", |c| {
+            c.hop_holds = |_, leg, previous, precision| hop(leg, Sent { wire: 0, ..*previous }, precision)
+        }),
+        wrong("hop without the propagation", |c| {
+            c.hop_holds = |_, leg, previous, precision| hop(leg, Sent { propagation: 0, ..*previous }, precision)
+        }),
+        wrong("hop with the wire time of the later leg", |c| {
+            c.hop_holds = |_, leg, previous, precision| hop(leg, Sent { wire: leg.wire, ..*previous }, precision)
+        }),
+        wrong("hop with the propagation of the later leg", |c| {
+            c.hop_holds =
+                |_, leg, previous, precision| hop(leg, Sent { propagation: leg.propagation, ..*previous }, precision)
+        }),
+        wrong("hop one ns too late", |c| {
+            c.hop_holds = |_, leg, previous, precision| hop(leg, *previous, precision + 1)
+        }),
+        wrong("hop one ns too early", |c| {
+            c.hop_holds =
+                |_, leg, previous, precision| hop(&Sent { start: leg.start + 1, ..*leg }, *previous, precision)
+        }),
+        wrong("hop on the first legs of later streams", |c| c.holds = on_each),
+    ]
+}
+
+fn of_deadlines() -> Vec<Wrong> {
+    let on_each = |_: &Bent, plan: &Plan, leg: usize, place: u32| {
+        let first = plan.streams[plan.legs[leg].stream as usize].first_leg as usize;
+        but_for(DEADLINE, plan, leg, place, |_| {
+            due(sent(&Plain, plan, leg), &sent(&Plain, plan, first), u64::from(plan.precision))
+        })
+    };
+    vec![
+        wrong("deadline on every leg", |c| c.holds = on_each),
+        wrong("deadline without the wire time", |c| {
+            c.deadline_holds = |_, last, first, precision| due(Sent { wire: 0, ..*last }, first, precision)
+        }),
+        wrong("deadline without the propagation", |c| {
+            c.deadline_holds = |_, last, first, precision| due(Sent { propagation: 0, ..*last }, first, precision)
+        }),
+        wrong("deadline without the precision", |c| c.deadline_holds = |_, last, first, _| due(*last, first, 0)),
+        wrong("deadline from 0 on", |c| {
+            c.deadline_holds = |_, last, first, precision| due(*last, &Sent { start: 0, ..*first }, precision)
+        }),
+        wrong("deadline one ns too early", |c| {
+            c.deadline_holds = |_, last, first, precision| due(*last, first, precision + 1)
+        }),
+        wrong("deadline one ns too late", |c| {
+            c.deadline_holds =
+                |_, last, first, precision| due(Sent { deadline: last.deadline + 1, ..*last }, first, precision)
+        }),
+        wrong("deadline at the end of the period", |c| {
+            c.deadline_holds =
+                |_, last, first, precision| due(Sent { deadline: u64::from(last.period), ..*last }, first, precision)
+        }),
+    ]
+}
+
+fn of_overlaps() -> Vec<Wrong> {
+    let absolute = |_: &Bent, a: &Sent, b: &Sent| {
+        let difference = a.offset.max(b.offset) - a.offset.min(b.offset);
+        Plain.apart(&Sent { offset: 0, ..*a }, &Sent { offset: difference, ..*b })
+    };
+    let difference_in_32_bits = |_: &Bent, a: &Sent, b: &Sent| {
+        let difference = (b.offset as u32).wrapping_sub(a.offset as u32);
+        Plain.apart(&Sent { offset: 0, ..*a }, &Sent { offset: u64::from(difference), ..*b })
+    };
+    let lesser_period = |_: &Bent, a: &Sent, b: &Sent| {
+        let period = a.period.min(b.period);
+        Plain.apart(&Sent { period, ..*a }, &Sent { period, ..*b })
+    };
+    let difference_negative = |_: &Bent, a: &Sent, b: &Sent| {
+        let g = u64::from(divisor(a.period, b.period));
+        let (a_at, b_at) = (a.offset % g, b.offset % g);
+        b_at >= a_at + a.hold && g + a_at >= b_at + b.hold
+    };
+    let not_before = |_: &Bent, plan: &Plan, leg: usize, place: u32| {
+        but_for(OVERLAP, plan, leg, place, |other| other + 1 == leg || Plain.holds(plan, leg, place))
+    };
+    let exchanged =
+        |_: &Bent, a: &Sent, b: &Sent| Plain.apart(&Sent { hold: b.hold, ..*a }, &Sent { hold: a.hold, ..*b });
+    vec![
+        wrong("overlap with the hold times exchanged", |c| c.apart = exchanged),
+        wrong("overlap with an absolute difference", |c| c.apart = absolute),
+        wrong("overlap with a difference in 32 bits", |c| c.apart = difference_in_32_bits),
+        wrong("overlap in the first periods only", |c| {
+            c.apart = |_, a, b| a.offset + a.hold <= b.offset || b.offset + b.hold <= a.offset
+        }),
+        wrong("overlap of equal periods only", |c| c.apart = |_, a, b| a.period != b.period || Plain.apart(a, b)),
+        wrong("overlap with one ns too much of the later leg", |c| {
+            c.apart = |_, a, b| Plain.apart(&Sent { hold: a.hold + 1, ..*a }, b)
+        }),
+        wrong("overlap with one ns too much of the earlier leg", |c| {
+            c.apart = |_, a, b| Plain.apart(a, &Sent { hold: b.hold + 1, ..*b })
+        }),
+        wrong("overlap with one ns too little of the later leg", |c| {
+            c.apart = |_, a, b| Plain.apart(&Sent { hold: a.hold - 1, ..*a }, b)
+        }),
+        wrong("overlap with one ns too little of the earlier leg", |c| {
+            c.apart = |_, a, b| Plain.apart(a, &Sent { hold: b.hold - 1, ..*b })
+        }),
+        wrong("overlap by the lesser period", |c| c.apart = lesser_period),
+        wrong("overlap by the period of the later leg", |c| {
+            c.apart = |_, a, b| Plain.apart(a, &Sent { period: a.period, ..*b })
+        }),
+        wrong("overlap with a difference that is not brought into 0 to g - 1", |c| c.apart = difference_negative),
+        wrong("overlap with legs of other links", |c| {
+            c.holds = |_, plan, leg, place| overlap_by(plan, leg, place, |_| 0)
+        }),
+        wrong("overlap with legs the other way", |c| {
+            c.holds = |_, plan, leg, place| {
+                overlap_by(plan, leg, place, |link| (link.from.min(link.to), link.from.max(link.to)))
+            }
+        }),
+        wrong("overlap with leg 0 never looked at", |c| {
+            c.holds = |_, plan, leg, place| place == OVERLAPS || Plain.holds(plan, leg, place)
+        }),
+        wrong("overlap with the leg before never looked at", |c| c.holds = not_before),
+    ]
+}
+
+pub fn checkers() -> Vec<Wrong> {
+    of_the_order().into_iter().chain(of_times()).chain(of_hops()).chain(of_deadlines()).chain(of_overlaps()).collect()
+}
+
+// ---- What the calls alone can tell: cursors, budgets, moves and lent memory
+
+/// In a whole check a window is violated before such sums are met.
+fn of_far_offsets() -> Vec<Wrong> {
+    vec![
+        wrong("hop with a sum in 32 bits", |c| {
+            c.hop_holds = |_, leg, previous, precision| leg.start >= in_32_bits(arrival(previous, precision))
+        }),
+        wrong("deadline with sums in 32 bits", |c| {
+            c.deadline_holds = |_, last, first, precision| {
+                in_32_bits(arrival(last, precision)) <= in_32_bits(last.deadline + first.start)
+            }
+        }),
+    ]
+}
+
+fn of_slices() -> Vec<Wrong> {
+    let paused_at_the_end = |c: &Bent, plan: &Plan, from: Cursor, budget: u32| {
+        let right = check::slice(c, plan, from, budget);
+        let used_up = right.result == NOTHING_VIOLATED && right.steps == budget;
+        Sliced { result: if used_up { PAUSED } else { right.result }, ..right }
+    };
+    let steps_one_less = |c: &Bent, plan: &Plan, from: Cursor, budget: u32| {
+        let right = check::slice(c, plan, from, budget);
+        Sliced { steps: right.steps - u32::from(right.result >= VIOLATED), ..right }
+    };
+    let behind_the_violated = |c: &Bent, plan: &Plan, from: Cursor, budget: u32| {
+        let right = check::slice(c, plan, from, budget);
+        Sliced { cursor: if right.result >= VIOLATED { next(right.cursor) } else { right.cursor }, ..right }
+    };
+    let last_place_unseen = |c: &Bent, plan: &Plan, from: Cursor, budget: u32| {
+        let right = check::slice(c, plan, from, budget);
+        let behind = next(right.cursor);
+        let is_last = right.result >= VIOLATED && behind.leg as usize == plan.legs.len();
+        if is_last {
+            Sliced { result: NOTHING_VIOLATED, cursor: behind, ..right }
+        } else {
+            right
+        }
+    };
+    let nine_before_eight = |c: &Bent, plan: &Plan, cursor: Cursor| {
+        check::fits(c, plan, Cursor { revision: plan.revision, ..cursor })?;
+        check::fits(c, plan, cursor)
+    };
+    let end_refused = |c: &Bent, plan: &Plan, cursor: Cursor| {
+        check::fits(c, plan, cursor)?;
+        if cursor.leg as usize == plan.legs.len() {
+            refused(NO_PLACE, 0)
+        } else {
+            Ok(())
+        }
+    };
+    let place_with_itself = |c: &Bent, plan: &Plan, cursor: Cursor| {
+        let itself = (cursor.leg as usize) < plan.legs.len() && cursor.place == places_of(cursor.leg);
+        check::fits(c, plan, Cursor { place: cursor.place - u32::from(itself), ..cursor })
+    };
+    vec![
+        wrong("paused at the end when the budget is just used up", |c| c.slice = paused_at_the_end),
+        wrong("steps one less at a violated place", |c| c.slice = steps_one_less),
+        wrong("the cursor behind the violated place", |c| c.slice = behind_the_violated),
+        wrong("a budget of 0 looks at one place", |c| {
+            c.slice = |c, plan, from, budget| check::slice(c, plan, from, budget.max(1))
+        }),
+        wrong("a budget from 2,147,483,648 on taken for none", |c| {
+            c.slice = |c, plan, from, budget| check::slice(c, plan, from, (budget as i32).max(0) as u32)
+        }),
+        wrong("the last place never looked at", |c| c.slice = last_place_unseen),
+        wrong("a stale cursor taken", |c| {
+            c.fits = |c, plan, cursor| check::fits(c, plan, Cursor { revision: plan.revision, ..cursor })
+        }),
+        wrong("9 before 8", |c| c.fits = nine_before_eight),
+        wrong("the end refused as a cursor", |c| c.fits = end_refused),
+        wrong("a place of a leg with itself taken", |c| {
+            c.fits = place_with_itself;
+            c.slice = |c, plan, from, budget| {
+                check::slice(c, plan, Cursor { place: from.place.min(places_of(from.leg) - 1), ..from }, budget)
+            };
+        }),
+    ]
+}
+
+fn of_moves() -> Vec<Wrong> {
+    let revision_kept = |c: &Bent, plan: &mut Plan, cursor: Cursor, leg: u32, offset: u32| {
+        let revision = plan.revision;
+        let after = check::moved(c, plan, cursor, leg, offset)?;
+        plan.revision = revision;
+        Ok(Cursor { revision, ..after })
+    };
+    let same_value_no_move = |c: &Bent, plan: &mut Plan, cursor: Cursor, leg: u32, offset: u32| {
+        let before = plan.clone();
+        let after = check::moved(c, plan, cursor, leg, offset)?;
+        if before.legs[leg as usize].offset != offset {
+            return Ok(after);
+        }
+        *plan = before;
+        Ok(Cursor { revision: plan.revision, ..after })
+    };
+    let revision_wraps = |c: &Bent, plan: &mut Plan, cursor: Cursor, leg: u32, offset: u32| {
+        let last = plan.revision == u32::MAX;
+        plan.revision -= u32::from(last);
+        let after = check::moved(c, plan, cursor, leg, offset)?;
+        plan.revision = if last { 0 } else { plan.revision };
+        Ok(Cursor { revision: plan.revision, ..after })
+    };
+    vec![
+        wrong("the cursor kept after a move", |c| {
+            c.moved = |c, plan, cursor, leg, offset| {
+                check::moved(c, plan, cursor, leg, offset).map(|after| Cursor { revision: after.revision, ..cursor })
+            }
+        }),
+        wrong("the cursor always at the moved leg", |c| {
+            c.moved = |c, plan, cursor, leg, offset| {
+                check::moved(c, plan, cursor, leg, offset).map(|after| Cursor { leg, place: 0, ..after })
+            }
+        }),
+        wrong("the revision not raised", |c| c.moved = revision_kept),
+        wrong("the revision not raised where the offset stays", |c| c.moved = same_value_no_move),
+        wrong("11 before 10", |c| {
+            c.moved = |c, plan, cursor, leg, offset| {
+                if plan.revision == u32::MAX {
+                    return refused(LAST_REVISION, 0);
                 }
-                _ => refusal,
-            })
-        }
-    }
-    LongFormTaken "a longer form taken" {
-        fn number(bytes: &[u8], start: usize) -> Outcome<(u32, usize)> {
-            let right = format::number(bytes, start);
-            let groups = bytes.iter().skip(start).take_while(|&&byte| byte > 0x7F).count();
-            if right.is_ok() || groups > NUMBER_BYTES - 1 || bytes.get(start + groups) != Some(&0) {
-                return right;
+                check::moved(c, plan, cursor, leg, offset)
             }
-            let low = bytes[start..start + groups].iter().rev();
-            Ok((low.fold(0, |value, byte| value << 7 | u32::from(byte & 0x7F)), start + groups + 1))
-        }
-    }
-    TwelveAtTheEnd "12 where the bytes end" {
-        fn number(bytes: &[u8], start: usize) -> Outcome<(u32, usize)> {
-            format::number(bytes, start).map_err(|refusal| match refusal.number {
-                12 => Refusal { at: bytes.len(), ..refusal },
-                _ => refusal,
-            })
-        }
-    }
-    TwelveBeforeThirteen "12 for a fifth byte above 0F that ends the bytes" {
-        fn number(bytes: &[u8], start: usize) -> Outcome<(u32, usize)> {
-            format::number(bytes, start).map_err(|refusal| match bytes.last() {
-                Some(&last) if last > 0x7F && start + NUMBER_BYTES == bytes.len() => Refusal { number: 12, ..refusal },
-                _ => refusal,
-            })
-        }
-    }
-    OneLinkMore "257 links taken" {
-        fn header(links: u32, streams: u32, legs: u32, precision: u32) -> Outcome<()> {
-            format::header(if links == LINKS_MAX + 1 { 0 } else { links }, streams, legs, precision)
-        }
-    }
-    OneStreamLess "512 streams refused" {
-        fn header(links: u32, streams: u32, legs: u32, precision: u32) -> Outcome<()> {
-            format::header(links, if streams == STREAMS_MAX { u32::MAX } else { streams }, legs, precision)
-        }
-    }
-    OneLegLess "2,048 legs refused" {
-        fn header(links: u32, streams: u32, legs: u32, precision: u32) -> Outcome<()> {
-            format::header(links, streams, if legs == LEGS_MAX { u32::MAX } else { legs }, precision)
-        }
-    }
-    PrecisionOneMore "a precision of 1,000,001 taken" {
-        fn header(links: u32, streams: u32, legs: u32, precision: u32) -> Outcome<()> {
-            format::header(links, streams, legs, if precision == PRECISION_MAX + 1 { 0 } else { precision })
-        }
-    }
-    PlanLeftOver "bytes left over behind a plan taken" {
-        fn plan_ends(_at: usize, _length: usize) -> Outcome<()> {
-            Ok(())
-        }
-    }
-    CursorLeftOver "bytes left over behind a cursor taken" {
-        fn cursor_ends(_at: usize, _length: usize) -> Outcome<()> {
-            Ok(())
-        }
-    }
-    CursorFirst "the cursor read before the plan" {
-        fn opened(plan: &[u8], cursor: &[u8], lent: usize) -> Outcome<(Plan, Cursor)> {
-            read_cursor::<Self>(cursor)?;
-            check::Plain::opened(plan, cursor, lent)
-        }
-    }
+        }),
+        wrong("the last revision followed by 0", |c| c.moved = revision_wraps),
+    ]
+}
 
-    // The shape.
-    FromEqualsTo "a link from a node to itself taken" {
-        fn link_in_range(link: &Link) -> bool {
-            shape::link_in_range(&Link { to: if link.to == link.from { link.from ^ 1 } else { link.to }, ..*link })
+fn of_lent_memory() -> Vec<Wrong> {
+    let cursor_first = |c: &Bent, plan: &[u8], cursor: &[u8], lent: usize| {
+        c.read_cursor(cursor)?;
+        check::opened(c, plan, cursor, lent)
+    };
+    let room_last = |c: &Bent, plan: &[u8], cursor: &[u8], lent: usize| {
+        let (plan, cursor) = (c.read_plan(plan)?, c.read_cursor(cursor)?);
+        c.judge(&plan)?;
+        c.room(CURSOR_BYTES, lent)?;
+        c.fits(&plan, cursor)?;
+        Ok((plan, cursor))
+    };
+    let room_of_the_old_plan = |c: &Bent, plan: &mut Plan, cursor: Cursor, leg: u32, offset: u32| {
+        let old = plan_bytes(plan).len();
+        let after = check::moved(c, plan, cursor, leg, offset)?;
+        if plan_bytes(plan).len() > old {
+            refused(NO_ROOM, 0)
+        } else {
+            Ok(after)
         }
-    }
-    AnyRate "any rate from 8 to 800 taken" {
-        fn link_in_range(link: &Link) -> bool {
-            let rate = if (8..=800).contains(&link.ns_per_octet) { 80 } else { 0 };
-            shape::link_in_range(&Link { ns_per_octet: rate, ..*link })
-        }
-    }
-    FiveAtTheEarlier "5 at the earlier link" {
-        fn links_differ(links: &[Link]) -> Outcome<()> {
-            shape::links_differ(links).map_err(|refusal| {
-                let same = |link: &Link| (link.from, link.to) == (links[refusal.at].from, links[refusal.at].to);
-                Refusal { at: links.iter().position(same).unwrap_or(0), ..refusal }
-            })
-        }
-    }
-    BothWaysAlike "5 for the same link the other way" {
-        fn links_differ(links: &[Link]) -> Outcome<()> {
-            let sorted = |link: &Link| Link { from: link.from.min(link.to), to: link.from.max(link.to), ..*link };
-            shape::links_differ(&links.iter().map(sorted).collect::<Vec<_>>())
-        }
-    }
-    SevenBeforeSix "7 before 6" {
-        fn streams_and_legs(plan: &Plan) -> Outcome<()> {
-            let right = check::Plain::streams_and_legs(plan);
-            let link_missing = |leg: &Leg| leg.link as usize >= plan.links.len();
-            match (right, plan.legs.iter().position(link_missing)) {
-                (Err(Refusal { number: 6, .. }), Some(at)) => refused(7, at),
-                _ => right,
-            }
-        }
-    }
-    DeadlineBehindPeriod "a deadline behind the period taken" {
-        fn stream_in_range(stream: &Stream) -> bool {
-            shape::stream_in_range(&Stream { deadline: stream.deadline.min(stream.period), ..*stream })
-        }
-    }
-    NineLegs "a route of nine legs taken" {
-        fn stream_in_range(stream: &Stream) -> bool {
-            let leg_count = if stream.leg_count == 9 { 8 } else { stream.leg_count };
-            shape::stream_in_range(&Stream { leg_count, ..*stream })
-        }
-    }
-    LegsUnused "counts below G taken" {
-        fn legs_used_up(_used: u32, _legs: u32, _streams: usize) -> Outcome<()> {
-            Ok(())
-        }
-        fn slice(plan: &Plan, from: Cursor, budget: u32) -> Sliced {
-            // The legs left over may name anything, so this checker has to leave them alone.
-            let mut used = plan.clone();
-            used.legs.truncate(plan.streams.iter().map(|stream| stream.leg_count as usize).sum());
-            slice::<Self>(&used, from, budget)
-        }
-    }
-    BackToTheStart "a route back to its first node taken" {
-        fn goes_on(links: &[Link], earlier: &[Leg], leg: &Leg) -> bool {
-            let first = earlier.first().map(|first| links[first.link as usize].from);
-            let link = links[leg.link as usize];
-            let before = earlier.last().map_or(link.from, |last| links[last.link as usize].to);
-            shape::goes_on(links, earlier, leg) || (first == Some(link.to) && before == link.from)
-        }
-    }
-    RouteBroken "a route that does not go on taken" {
-        fn goes_on(links: &[Link], earlier: &[Leg], leg: &Leg) -> bool {
-            let to = links[leg.link as usize].to;
-            earlier.iter().all(|passed| links[passed.link as usize].to != to)
-                && earlier.first().map_or(true, |first| links[first.link as usize].from != to)
-        }
-    }
+    };
+    let written_on_refusal = |c: &Bent, refusal: Refusal, lent: &mut [u8]| {
+        lent.iter_mut().take(1).for_each(|byte| *byte = 0);
+        check::refuse(c, refusal, lent)
+    };
+    let rest_cleared = |c: &Bent, lent: &mut [u8], bytes: &[u8]| {
+        lent.fill(0);
+        check::give(c, lent, bytes);
+    };
+    vec![
+        wrong("bytes left over behind a cursor taken", |c| c.cursor_ends = |_, _, _| Ok(())),
+        wrong("the cursor read before the plan", |c| c.opened = cursor_first),
+        wrong("15 one byte off", |c| c.room = |c, least, lent| format::room(c, least + 1, lent)),
+        wrong("14 bytes taken as enough for a cursor", |c| {
+            c.room =
+                |c, least, lent| format::room(c, if least == CURSOR_BYTES { CURSOR_BYTES - 1 } else { least }, lent)
+        }),
+        wrong("15 behind 1 to 7", |c| c.opened = room_last),
+        wrong("the room of a new plan judged by the old one", |c| c.moved = room_of_the_old_plan),
+        wrong("a byte written on a refusal", |c| c.refuse = written_on_refusal),
+        wrong("the bytes behind what is written set to 0", |c| c.give = rest_cleared),
+        wrong("every refusal at 0", |c| c.refuse = |_, refusal, _| packed(REFUSED + refusal.number, 0)),
+    ]
+}
 
-    // The rules.
-    WindowIn32Bits "window with a sum in 32 bits" {
-        fn window_holds(leg: &Sent) -> bool {
-            in_32_bits(leg, leg.wire) <= u64::from(leg.period)
-        }
-    }
-    WindowStrict "window without its last ns" {
-        fn window_holds(leg: &Sent) -> bool {
-            leg.offset + leg.wire < u64::from(leg.period)
-        }
-    }
-    HopWithoutPrecision "hop without the precision" {
-        fn hop_holds(leg: &Sent, previous: &Sent, _precision: u64) -> bool {
-            rules::hop_holds(leg, previous, 0)
-        }
-    }
-    HopIn32Bits "hop with a sum in 32 bits" {
-        fn hop_holds(leg: &Sent, previous: &Sent, precision: u64) -> bool {
-            leg.offset >= in_32_bits(previous, previous.wire + previous.propagation + precision)
-        }
-    }
-    HopWithOwnWire "hop with the wire time of the later leg" {
-        fn hop_holds(leg: &Sent, previous: &Sent, precision: u64) -> bool {
-            rules::hop_holds(leg, &Sent { wire: leg.wire, ..*previous }, precision)
-        }
-    }
-    DeadlineOnEachLeg "deadline on every leg" {
-        fn is_due(_leg: usize, _behind_last: usize) -> bool {
-            true
-        }
-    }
-    DeadlineFromZero "deadline from 0 on" {
-        fn deadline_holds(last: &Sent, _first_offset: u64, precision: u64) -> bool {
-            rules::deadline_holds(last, 0, precision)
-        }
-    }
-    DeadlineIn32Bits "deadline with sums in 32 bits" {
-        fn deadline_holds(last: &Sent, first_offset: u64, precision: u64) -> bool {
-            let due = (last.deadline + first_offset) as u32;
-            in_32_bits(last, last.wire + last.propagation + precision) <= u64::from(due)
-        }
-    }
-    WireTimesSwapped "overlap with the wire times swapped" {
-        fn apart(a: &Sent, b: &Sent) -> bool {
-            rules::apart(&Sent { wire: b.wire, ..*a }, &Sent { wire: a.wire, ..*b })
-        }
-    }
-    DifferenceAbsolute "overlap with an absolute difference" {
-        fn apart(a: &Sent, b: &Sent) -> bool {
-            let difference = a.offset.max(b.offset) - a.offset.min(b.offset);
-            rules::apart(&Sent { offset: 0, ..*a }, &Sent { offset: difference, ..*b })
-        }
-    }
-    DifferenceIn32Bits "overlap with a difference in 32 bits" {
-        fn apart(a: &Sent, b: &Sent) -> bool {
-            let difference = (b.offset as u32).wrapping_sub(a.offset as u32);
-            rules::apart(&Sent { offset: 0, ..*a }, &Sent { offset: u64::from(difference), ..*b })
-        }
-    }
-    FirstPeriodsOnly "overlap in the first periods only" {
-        fn apart(a: &Sent, b: &Sent) -> bool {
-            a.offset + a.wire <= b.offset || b.offset + b.wire <= a.offset
-        }
-    }
-    TooShort "overlap with one ns too little" {
-        fn apart(a: &Sent, b: &Sent) -> bool {
-            rules::apart(a, &Sent { wire: b.wire - 1, ..*b })
-        }
-    }
-    PeriodOfOne "overlap by the lesser period" {
-        fn apart(a: &Sent, b: &Sent) -> bool {
-            let period = a.period.min(b.period);
-            rules::apart(&Sent { period, ..*a }, &Sent { period, ..*b })
-        }
-    }
-    DifferenceNegative "overlap with a difference that is not brought into 0 to g - 1" {
-        fn apart(a: &Sent, b: &Sent) -> bool {
-            let g = u64::from(divisor(a.period, b.period));
-            let (a_at, b_at) = (a.offset % g, b.offset % g);
-            b_at >= a_at + a.wire && g + a_at >= b_at + b.wire
-        }
-    }
-
-    // Slices.
-    PausedAtTheEnd "paused at the end when the budget is just used up" {
-        fn slice(plan: &Plan, from: Cursor, budget: u32) -> Sliced {
-            let right = slice::<Self>(plan, from, budget);
-            let used_up = right.result == NOTHING_VIOLATED && right.steps == budget;
-            Sliced { result: if used_up { PAUSED } else { right.result }, ..right }
-        }
-    }
-    StepsOneLess "steps one less at a violated place" {
-        fn slice(plan: &Plan, from: Cursor, budget: u32) -> Sliced {
-            let right = slice::<Self>(plan, from, budget);
-            Sliced { steps: right.steps - u32::from(right.result >= VIOLATED), ..right }
-        }
-    }
-    BehindTheViolated "the cursor behind the violated place" {
-        fn slice(plan: &Plan, from: Cursor, budget: u32) -> Sliced {
-            let right = slice::<Self>(plan, from, budget);
-            Sliced { cursor: if right.result >= VIOLATED { next(right.cursor) } else { right.cursor }, ..right }
-        }
-    }
-    OneAtLeast "a budget of 0 looks at one place" {
-        fn slice(plan: &Plan, from: Cursor, budget: u32) -> Sliced {
-            slice::<Self>(plan, from, budget.max(1))
-        }
-    }
-    BudgetSigned "a budget from 2,147,483,648 on taken for none" {
-        fn slice(plan: &Plan, from: Cursor, budget: u32) -> Sliced {
-            slice::<Self>(plan, from, (budget as i32).max(0) as u32)
-        }
-    }
-    LastPlaceUnseen "the last place never looked at" {
-        fn slice(plan: &Plan, from: Cursor, budget: u32) -> Sliced {
-            let right = slice::<Self>(plan, from, budget);
-            let legs = plan.legs.len() as u32;
-            let last = right.result >= VIOLATED && next(right.cursor).leg == legs;
-            if last { Sliced { result: NOTHING_VIOLATED, cursor: next(right.cursor), ..right } } else { right }
-        }
-    }
-    StaleTaken "a stale cursor taken" {
-        fn fits(plan: &Plan, cursor: Cursor) -> Outcome<()> {
-            fits(plan, Cursor { revision: plan.revision, ..cursor })
-        }
-    }
-    NineBeforeEight "9 before 8" {
-        fn fits(plan: &Plan, cursor: Cursor) -> Outcome<()> {
-            fits(plan, Cursor { revision: plan.revision, ..cursor })?;
-            fits(plan, cursor)
-        }
-    }
-    EndRefused "the end refused as a cursor" {
-        fn fits(plan: &Plan, cursor: Cursor) -> Outcome<()> {
-            fits(plan, cursor)?;
-            if cursor.leg as usize == plan.legs.len() { refused(9, 0) } else { Ok(()) }
-        }
-    }
-    PlaceWithItself "a place of a leg with itself taken" {
-        fn fits(plan: &Plan, cursor: Cursor) -> Outcome<()> {
-            let itself = (cursor.leg as usize) < plan.legs.len() && cursor.place == 3 + cursor.leg;
-            fits(plan, Cursor { place: cursor.place - u32::from(itself), ..cursor })
-        }
-        fn slice(plan: &Plan, from: Cursor, budget: u32) -> Sliced {
-            slice::<Self>(plan, Cursor { place: from.place.min(2 + from.leg), ..from }, budget)
-        }
-    }
-
-    // Moves and starts.
-    CursorKept "the cursor kept after a move" {
-        fn moved(plan: &mut Plan, cursor: Cursor, leg: u32, offset: u32) -> Outcome<Cursor> {
-            moved(plan, cursor, leg, offset).map(|after| Cursor { revision: after.revision, ..cursor })
-        }
-    }
-    CursorToTheLeg "the cursor always at the moved leg" {
-        fn moved(plan: &mut Plan, cursor: Cursor, leg: u32, offset: u32) -> Outcome<Cursor> {
-            moved(plan, cursor, leg, offset).map(|after| Cursor { leg, place: 0, ..after })
-        }
-    }
-    RevisionKept "the revision not raised" {
-        fn moved(plan: &mut Plan, cursor: Cursor, leg: u32, offset: u32) -> Outcome<Cursor> {
-            let revision = plan.revision;
-            let after = moved(plan, cursor, leg, offset)?;
-            plan.revision = revision;
-            Ok(Cursor { revision, ..after })
-        }
-    }
-    SameValueNoMove "the revision not raised where the offset stays" {
-        fn moved(plan: &mut Plan, cursor: Cursor, leg: u32, offset: u32) -> Outcome<Cursor> {
-            let before = plan.clone();
-            let after = moved(plan, cursor, leg, offset)?;
-            if before.legs[leg as usize].offset != offset {
-                return Ok(after);
-            }
-            *plan = before;
-            Ok(Cursor { revision: plan.revision, ..after })
-        }
-    }
-    ElevenBeforeTen "11 before 10" {
-        fn moved(plan: &mut Plan, cursor: Cursor, leg: u32, offset: u32) -> Outcome<Cursor> {
-            if plan.revision == u32::MAX { refused(11, 0) } else { moved(plan, cursor, leg, offset) }
-        }
-    }
-    RevisionWraps "the last revision followed by 0" {
-        fn moved(plan: &mut Plan, cursor: Cursor, leg: u32, offset: u32) -> Outcome<Cursor> {
-            let last = plan.revision == u32::MAX;
-            plan.revision -= u32::from(last);
-            let after = moved(plan, cursor, leg, offset)?;
-            plan.revision = if last { 0 } else { plan.revision };
-            Ok(Cursor { revision: plan.revision, ..after })
-        }
-    }
-    PlacesWithItself "a place too many for each leg" {
-        fn places(legs: u64) -> u64 {
-            legs * (legs + 1) / 2 + 3 * legs
-        }
-    }
-
-    // Lent memory.
-    RoomOneOff "15 one byte off" {
-        fn room(least: usize, lent: usize) -> Outcome<()> {
-            check::room(least + 1, lent)
-        }
-    }
-    RoomOneLess "14 bytes taken as enough for a cursor" {
-        fn room(least: usize, lent: usize) -> Outcome<()> {
-            check::room(if least == CURSOR_BYTES { CURSOR_BYTES - 1 } else { least }, lent)
-        }
-    }
-    RoomLast "15 behind 1 to 7" {
-        fn opened(plan: &[u8], cursor: &[u8], lent: usize) -> Outcome<(Plan, Cursor)> {
-            let (plan, cursor) = (read_plan::<Self>(plan)?, read_cursor::<Self>(cursor)?);
-            shape::judge::<Self>(&plan)?;
-            Self::room(CURSOR_BYTES, lent)?;
-            Self::fits(&plan, cursor)?;
-            Ok((plan, cursor))
-        }
-    }
-    RoomOfTheOldPlan "the room of a new plan judged by the old one" {
-        fn moved(plan: &mut Plan, cursor: Cursor, leg: u32, offset: u32) -> Outcome<Cursor> {
-            let old = plan.clone();
-            let after = moved(plan, cursor, leg, offset)?;
-            if plan_bytes(plan).len() > plan_bytes(&old).len() { refused(15, 0) } else { Ok(after) }
-        }
-    }
-    WrittenOnRefusal "a byte written on a refusal" {
-        fn refuse(refusal: Refusal, lent: &mut [u8]) -> u64 {
-            lent.iter_mut().take(1).for_each(|byte| *byte = 0);
-            told(REFUSED + refusal.number, refusal.at)
-        }
-    }
-    RestCleared "the bytes behind what is written set to 0" {
-        fn give(lent: &mut [u8], bytes: &[u8]) {
-            lent.fill(0);
-            lent[..bytes.len()].copy_from_slice(bytes);
-        }
-    }
-    PositionDropped "every refusal at 0" {
-        fn refuse(refusal: Refusal, _lent: &mut [u8]) -> u64 {
-            told(REFUSED + refusal.number, 0)
-        }
-    }
+pub fn callers() -> Vec<Wrong> {
+    of_far_offsets().into_iter().chain(of_slices()).chain(of_moves()).chain(of_lent_memory()).collect()
 }

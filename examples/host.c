@@ -170,10 +170,21 @@ static void begin(void)
          (unsigned)at.leg, (unsigned)at.place, (unsigned)answer.number);
 }
 
-/* Makes one slice. Gives its result: 0 or 2 to 5 is a verdict, 1 is none. */
+/* The word of a violated rule. A later library may tell a rule that this program does not know. */
+static const char *rule_word(uint32_t result)
+{
+    switch (result) {
+    case CONEPALHUI_WINDOW: return "window";
+    case CONEPALHUI_HOP: return "hop";
+    case CONEPALHUI_DEADLINE: return "deadline";
+    case CONEPALHUI_OVERLAP: return "overlap";
+    default: return "unknown";
+    }
+}
+
+/* Makes one slice. Gives its result: 1 is no verdict, 0 is accepted, and every other result is not. */
 static uint32_t slice(uint32_t budget)
 {
-    static const char *const rules[] = {"window", "hop", "deadline", "overlap"};
     uint8_t out[CONEPALHUI_CURSOR_BYTES];
     conepalhui_answer answer = conepalhui_slice_full(plan, plan_len, cursor, cursor_len, budget, out, sizeof out);
     uint32_t result = answer.result;
@@ -189,8 +200,7 @@ static uint32_t slice(uint32_t budget)
     else if (result == CONEPALHUI_PAUSED)
         tell("paused %u %u steps %u", (unsigned)at.leg, (unsigned)at.place, number);
     else
-        tell("violated %u %u %s steps %u", (unsigned)at.leg, (unsigned)at.place, rules[result - CONEPALHUI_WINDOW],
-             number);
+        tell("violated %u %u %s steps %u", (unsigned)at.leg, (unsigned)at.place, rule_word(result), number);
     return result;
 }
 

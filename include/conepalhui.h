@@ -109,7 +109,11 @@
 #define CONEPALHUI_MOVE_BYTES 5      /* a move makes a plan file longer by this many bytes at most */
 #define CONEPALHUI_STACK_BYTES 98304 /* a thread that calls should have this much stack left */
 
-/* The results. Each call tells one of them: conepalhui_slice returns it, and the others give it in an answer. */
+/*
+ * The results. Each call tells one of them: conepalhui_slice returns it, and the others give it in an answer. The
+ * results 6 to 99 are kept for rules of later editions: a host that is told one which it does not know has a plan that
+ * is not accepted.
+ */
 enum {
     CONEPALHUI_NOTHING_VIOLATED = 0, /* a slice: nothing is violated from its cursor on, and the check is done */
     CONEPALHUI_GRANTED = 0,          /* start and move: done */

@@ -189,9 +189,15 @@ static void move(const char *name, const char *plan, const char *cursor, struct 
 
 /* ---- Plan A, with another revision and with other offsets of the legs 0 and 2 */
 
-#define PLAN_A(revision, leg_0, leg_2)                                                                                \
-    revision " 02 02 03 64 01 02 08 F4 03 02 03 08 F4 03 A0 8D 06 B0 12 40 00 02 F0 93 09 D0 0F 40 02 01 00 00 " leg_0 \
-             " 00 01 98 09 01 00 " leg_2
+#define PLAN_A(revision, leg_0, leg_2) \
+    revision " 02 02 03 64 " \
+    "01 02 08 F4 03 " \
+    "02 03 08 F4 03 " \
+    "A0 8D 06 B0 12 40 00 02 " \
+    "F0 93 09 D0 0F 40 02 01 " \
+    "00 00 " leg_0 " " \
+    "00 01 98 09 " \
+    "01 00 " leg_2
 
 static const char *const plan_a = PLAN_A("00", "00", "00");
 static const char *const plan_last = PLAN_A("FF FF FF FF 0F", "00", "00"); /* at the last revision */

@@ -1,8 +1,9 @@
 """What the tests of the operator's commands share: a folder with a plan and a cursor, calls on it, and how answers are read.
 
-The expected tables and verdicts come from check_model.py, which owes nothing to the verified code.
+The expected tables and verdicts come from the judge, which owes nothing to the verified code.
 """
 
+import functools
 import os
 import platform
 import re
@@ -12,10 +13,9 @@ import tempfile
 from collections import namedtuple
 from pathlib import Path
 
-import check_model as model
-import plan_model
+import judge
+from judge import HOME
 
-HOME = Path(__file__).resolve().parent.parent
 COMMAND = str(HOME / "conepalhui")
 STATUS = {"granted": 0, "nothing violated": 0, "violated": 1, "refused": 2, "paused": 3}
 
@@ -34,13 +34,9 @@ def streams(count, hops=2):
     return words
 
 
-def offset_at(words, leg):
-    return len(words) - plan_model.LEG_WORDS * (words[3] - leg) + 2
-
-
 def verdict(words):
     """Gives the verdict of a whole check: ("nothing violated",) or ("violated", leg, place, rule)."""
-    told = model.check(words)
+    told = judge.check(words)
     return told[:1] if told[0] == "nothing violated" else ("violated", *told[1][1:], told[3])
 
 
@@ -79,11 +75,11 @@ class Desk:
         shutil.rmtree(self.folder)
 
     def put(self, words):
-        self.plan.write_bytes(plan_model.encode_all(words))
+        self.plan.write_bytes(judge.encoded(words))
 
     def words(self):
         """Gives the table as it stands in the plan file."""
-        found = plan_model.read_plan(self.plan.read_bytes())
+        found = judge.read_plan(self.plan.read_bytes())
         if found[0] != "words":
             raise AssertionError(f"the plan file is damaged: {found}")
         return list(found[1])
@@ -117,9 +113,10 @@ def build():
         subprocess.run([COMMAND, *words], capture_output=True)
 
 
-def program():
-    """Gives the words that run the built program directly, as the command runs it on this processor."""
-    built = str(HOME / ".built" / "operator")
+@functools.lru_cache
+def program(name="operator"):
+    """Gives the words that run a built program directly, as the command runs it on this processor."""
+    built = str(HOME / ".built" / name)
     if platform.machine() == "x86_64":
         return [built]
     page = subprocess.run(["rt", "doc"], stdout=subprocess.PIPE, text=True, check=True).stdout.strip()

@@ -25,18 +25,12 @@ pub enum Other {
     Nothing,
 }
 
-fn wide(b: u8) -> u64
-    ensures { λ r. ⌜ r ≡ b ⌝ }
-{
-    b as u64
-}
-
 fn first_other(text: &[u8]) -> Other
     ensures { λ r. ⌜ OtherTold (now (text .entry)) r ⌝ }
 {
     let mut i: usize = 0;
     while i < text.len() {
-        let b = wide(text[i]);
+        let b = numbers::wide(text[i]);
         if b < ZERO {
             return Other::At(i);
         }
@@ -56,7 +50,7 @@ fn worth(text: &[u8]) -> Decimal
     let mut value: u64 = 0;
     let mut i: usize = 0;
     while i < text.len() {
-        let b = wide(text[i]);
+        let b = numbers::wide(text[i]);
         value = value * BASE + (b - ZERO);
         if MAX_WORD < value {
             return Decimal::TooLarge;

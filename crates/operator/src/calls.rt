@@ -1,17 +1,18 @@
 // Start, slice and move on files. Everything is written beside first, so that a full disk is met before any file is replaced.
 use crate::Order;
-use crate::answers;
-use crate::ours;
-use crate::ours::Standing;
-use crate::saved;
-use crate::saved::Saved;
 use basics::Holds;
 use checker::Grant;
 use checker::SliceAnswer;
 use durable::FileRead;
 use files::Cursor;
 use files::PlanRead;
+use kept::ours;
+use kept::ours::Standing;
+use kept::saved;
+use kept::saved::Saved;
 use numbers::Written;
+use show::answers;
+use show::answers::Part;
 use table::Move;
 
 // One byte more than the largest plan file, so that a byte left over is seen.
@@ -37,12 +38,36 @@ fn legs_of(t: &[u32]) -> usize {
     table::wide(header_word(t, table::LEGS_AT))
 }
 
-// A refusal of a table and a cursor. A cursor that is refused is to be replaced by a start; where that will leave it, this is said at once.
-fn refused(cursor_path: &[u8], t: &[u32], number: u32, at: usize) {
-    answers::refused(number, at, header_word(t, table::REVISION_AT));
-    if answers::is_of_cursor(number) {
-        ours::judged(cursor_path);
+fn refused(t: &[u32], number: u32, at: usize, part: Part) {
+    answers::judged(number, at, header_word(t, table::REVISION_AT), part);
+}
+
+// A cursor that is refused is to be replaced by a start; where that will leave it, this is said at once.
+fn cursor_refused(cursor_path: &[u8], t: &[u32], number: u32, at: usize) {
+    refused(t, number, at, Part::Cursor);
+    ours::judged(cursor_path);
+}
+
+// Whether the plan is well-formed. Where it is not, that is the answer, and it is written. What is refused after this does not lie in the plan.
+fn plan_stands(t: &[u32]) -> bool {
+    let told = checker::start(t);
+    match told {
+        Grant::Granted(_) => true,
+        Grant::Refused(number, at, _) => {
+            refused(t, number, at, Part::Plan);
+            false
+        }
     }
+}
+
+// Whether the cursor is one of the plan, which is well-formed. What is refused after this lies in the move.
+fn cursor_stands(cursor_path: &[u8], t: &[u32], c: Cursor) -> bool {
+    let told = checker::slice(t, c, 0);
+    if let SliceAnswer::Refused(number, at, _) = told {
+        cursor_refused(cursor_path, t, number, at);
+        return false;
+    }
+    true
 }
 
 // Replaces cursor and copy. The old cursor goes first: it must never stand beside the copy of another plan.
@@ -81,7 +106,7 @@ fn start(cursor_path: &[u8], plan: &[u8], t: &[u32], anew: bool) {
     let told = checker::start(t);
     match told {
         Grant::Refused(number, at, _) => {
-            answers::refused(number, at, header_word(t, table::REVISION_AT));
+            refused(t, number, at, Part::Plan);
         }
         Grant::Granted(c) => {
             if may_begin(cursor_path, t, anew) {
@@ -107,7 +132,7 @@ fn gone_on(cursor_path: &[u8], plan: &[u8], c: Cursor) -> bool {
 fn sliced(cursor_path: &[u8], plan: &[u8], t: &[u32], told: SliceAnswer) {
     match told {
         SliceAnswer::Refused(number, at, _) => {
-            refused(cursor_path, t, number, at);
+            cursor_refused(cursor_path, t, number, at);
         }
         SliceAnswer::Violated(c, steps, rule) => {
             if gone_on(cursor_path, plan, c) {
@@ -130,7 +155,9 @@ fn sliced(cursor_path: &[u8], plan: &[u8], t: &[u32], told: SliceAnswer) {
 fn slice(cursor_path: &[u8], plan: &[u8], t: &[u32], budget: u32) {
     let at = saved::cursor(cursor_path);
     if let Saved::At(c) = at {
-        sliced(cursor_path, plan, t, checker::slice(t, c, budget));
+        if plan_stands(t) {
+            sliced(cursor_path, plan, t, checker::slice(t, c, budget));
+        }
     }
 }
 
@@ -170,11 +197,18 @@ fn written(plan_path: &[u8], cursor_path: &[u8], old: &[u8], t: &[u32], c: Curso
     }
 }
 
+fn may_move(cursor_path: &[u8], t: &[u32], c: Cursor) -> bool {
+    if !plan_stands(t) {
+        return false;
+    }
+    cursor_stands(cursor_path, t, c)
+}
+
 fn moved(plan_path: &[u8], cursor_path: &[u8], old: &[u8], t: &mut [u32], c: Cursor, mv: Move) {
     let told = checker::move_leg(t, c, mv);
     match told {
         Grant::Refused(number, at, _) => {
-            refused(cursor_path, t, number, at);
+            refused(t, number, at, Part::Move);
         }
         Grant::Granted(d) => {
             if saved::is_known(cursor_path, old, c.revision) {
@@ -187,7 +221,9 @@ fn moved(plan_path: &[u8], cursor_path: &[u8], old: &[u8], t: &mut [u32], c: Cur
 fn move_leg(plan_path: &[u8], cursor_path: &[u8], plan: &[u8], t: &mut [u32], mv: Move) {
     let at = saved::cursor(cursor_path);
     if let Saved::At(c) = at {
-        moved(plan_path, cursor_path, plan, t, c, mv);
+        if may_move(cursor_path, t, c) {
+            moved(plan_path, cursor_path, plan, t, c, mv);
+        }
     }
 }
 
@@ -202,6 +238,8 @@ fn on_table(order: Order, plan_path: &[u8], cursor_path: &[u8], plan: &[u8], t: 
         Order::Move(mv) => {
             move_leg(plan_path, cursor_path, plan, t, mv);
         }
+        Order::Words => {}
+        Order::Shape => {}
         Order::Wrong => {}
     }
 }
@@ -229,7 +267,7 @@ fn on_bytes(order: Order, plan_path: &[u8], cursor_path: &[u8], bytes: &[u8], n:
     let read = files::read_plan(plan, &mut words);
     match read {
         PlanRead::Refused(number, at) => {
-            answers::unread(number, at, b"in the plan\n");
+            answers::unread(number, at, Part::Plan);
         }
         PlanRead::Words(m) => {
             on_words(order, plan_path, cursor_path, plan, &mut words, m);

@@ -1,15 +1,16 @@
-// What an operator and a planner do with files: start PLAN CURSOR [--anew], slice PLAN CURSOR BUDGET, move PLAN CURSOR LEG OFFSET. The first line that it
-// writes is the answer; where a file cannot be read or written or is not ours, or an argument is wrong, it writes none and says so on standard error.
+// What an operator and a planner do with a plan on standard input: words, shape; and with files: start PLAN CURSOR [--anew], slice PLAN CURSOR BUDGET,
+// move PLAN CURSOR LEG OFFSET. It writes one answer; where a file cannot be read or written or is not ours, or an argument is wrong, it writes none and
+// says so on standard error.
 use decimal::Decimal;
 use table::Move;
 
-mod answers;
 mod calls;
-mod ours;
-mod saved;
+mod plans;
 
 // What is asked for. A start says whether a check that has begun may be dropped.
 pub(crate) enum Order {
+    Words,
+    Shape,
     Start(bool),
     Slice(u32),
     Move(Move),
@@ -33,10 +34,10 @@ const FIRST_NUMBER_AT: usize = 4;
 const ANEW_AT: usize = 4;
 
 fn not_a_number(what: &[u8], why: &[u8]) -> Word {
-    answers::say(what);
-    answers::say(b" is no number from 0 to 4294967295: ");
-    answers::say(why);
-    answers::say(b"\n");
+    show::complaint(what);
+    show::complaint(b" is no number from 0 to 4294967295: ");
+    show::complaint(why);
+    show::complaint(b"\n");
     Word::Wrong
 }
 
@@ -69,7 +70,7 @@ fn start_order() -> Order {
     if calls::are_same(&text[..n], b"--anew") {
         return Order::Start(true);
     }
-    answers::say(b"after the files a start takes --anew and nothing else\n");
+    show::complaint(b"after the files a start takes --anew and nothing else\n");
     Order::Wrong
 }
 
@@ -93,6 +94,18 @@ fn move_order() -> Order {
     }
 }
 
+// What is asked of the plan on standard input.
+fn plan_order(verb: &[u8]) -> Order {
+    if calls::are_same(verb, b"words") {
+        return Order::Words;
+    }
+    if calls::are_same(verb, b"shape") {
+        return Order::Shape;
+    }
+    show::complaint(b"the first argument is words, shape, start, slice or move\n");
+    Order::Wrong
+}
+
 fn order_of(verb: &[u8]) -> Order {
     if calls::are_same(verb, b"start") {
         return start_order();
@@ -103,8 +116,7 @@ fn order_of(verb: &[u8]) -> Order {
     if calls::are_same(verb, b"move") {
         return move_order();
     }
-    answers::say(b"the first argument is start, slice or move\n");
-    Order::Wrong
+    plan_order(verb)
 }
 
 fn order_given() -> Order {
@@ -113,11 +125,7 @@ fn order_given() -> Order {
     order_of(&verb[..n])
 }
 
-fn main() {
-    let order = order_given();
-    if let Order::Wrong = order {
-        return;
-    }
+fn on_files(order: Order) {
     let mut plan = io::buffer();
     let n = os::arg(PLAN_AT, &mut plan);
     if os::errno() != 0 {
@@ -131,4 +139,26 @@ fn main() {
         return;
     }
     calls::on_file(order, &plan[..n], &cursor[..m]);
+}
+
+fn main() {
+    let order = order_given();
+    match order {
+        Order::Words => {
+            plans::words();
+        }
+        Order::Shape => {
+            plans::shape();
+        }
+        Order::Start(anew) => {
+            on_files(order);
+        }
+        Order::Slice(budget) => {
+            on_files(order);
+        }
+        Order::Move(leg, offset) => {
+            on_files(order);
+        }
+        Order::Wrong => {}
+    }
 }

@@ -12,25 +12,25 @@ use Rattle.rules.specs.Places.{placesOf, AskedOf, AskedHolds, PlaceHolds
 use Rattle.rules.specs.declared.Asked.{Asked}
 use Rattle.rules.specs.declared.Asked.the-variants as asked
 use Rattle.rules.proofs.Placing.{place-holds, asked-holds, places-hold}
-use Rattle.rules.proofs.CasePlans.{Bounded, plan, w1, w2, r1, r2, slot-0, slot-2, window-0, window-1, window-2, hop-0, hop-1, hop-1-broken, hop-2, deadline-0, deadline-1, deadline-2, overlap-10, overlap-20, overlap-20-broken, overlap-21}
+use Rattle.rules.proofs.CasePlans.{Bounded, plan, h0, h1, h2, r1, r2, slot-0, slot-2, window-0, window-1, window-2, hop-0, hop-1, hop-1-broken, hop-2, deadline-0, deadline-1, deadline-2, overlap-10, overlap-20, overlap-20-broken, overlap-21}
 
 -- What is asked of legs 0 and 1, and of leg 2 alone.
 module _ (n : PlanNumbers) (b : Bounded n) where
-  asked-0 : n .offset-0 + 576 ≤ n .period-0 → (q : Asked) → AskedOf 0 q → AskedHolds (planWith n) 0 q
+  asked-0 : n .offset-0 + h0 n ≤ n .period-0 → (q : Asked) → AskedOf 0 q → AskedHolds (planWith n) 0 q
   unfolding plan
   asked-0 w asked.Window o = window-0 n b w
   asked-0 w asked.Hop o = hop-0 n b
   asked-0 w asked.Deadline o = deadline-0 n b
   asked-0 w (asked.Overlap c) o = absurd (omega arith)
 
-  pub places-0 : n .offset-0 + 576 ≤ n .period-0 → (p : ℕ) → p < placesOf 0 → PlaceHolds (planWith n) 0 p
+  pub places-0 : n .offset-0 + h0 n ≤ n .period-0 → (p : ℕ) → p < placesOf 0 → PlaceHolds (planWith n) 0 p
   places-0 w = places-hold (planWith n) 0 0 (asked-0 w)
 
-  pub place-1-0 : n .offset-1 + w1 n ≤ n .period-0 → PlaceHolds (planWith n) 1 0
+  pub place-1-0 : n .offset-1 + h1 n ≤ n .period-0 → PlaceHolds (planWith n) 1 0
   unfolding plan
   place-1-0 w = place-holds (planWith n) 1 asked.Window (window-1 n b w)
 
-  asked-1 : n .offset-1 + w1 n ≤ n .period-0 → n .offset-0 + 1176 ≤ n .offset-1 → r1 n ≤ n .deadline-0 + n .offset-0 → (q : Asked) → AskedOf 1 q
+  asked-1 : n .offset-1 + h1 n ≤ n .period-0 → n .offset-0 + 1176 ≤ n .offset-1 → r1 n ≤ n .deadline-0 + n .offset-0 → (q : Asked) → AskedOf 1 q
       → AskedHolds (planWith n) 1 q
   unfolding plan
   asked-1 w k d asked.Window o = window-1 n b w
@@ -39,7 +39,7 @@ module _ (n : PlanNumbers) (b : Bounded n) where
   asked-1 w k d (asked.Overlap zero) o = overlap-10 n b
   asked-1 w k d (asked.Overlap (suc c)) o = absurd (omega arith)
 
-  asked-2 : n .offset-2 + w2 n ≤ n .period-1 → r2 n ≤ n .deadline-1 + n .offset-2 → (q : Asked) → AskedOf 0 q → AskedHolds (planWith n) 2 q
+  asked-2 : n .offset-2 + h2 n ≤ n .period-1 → r2 n ≤ n .deadline-1 + n .offset-2 → (q : Asked) → AskedOf 0 q → AskedHolds (planWith n) 2 q
   unfolding plan
   asked-2 w d asked.Window o = window-2 n b w
   asked-2 w d asked.Hop o = hop-2 n b

@@ -21,19 +21,19 @@ use Rattle.shape.proofs.Reading.{stream-of, link-of}
 use Rattle.overlap.specs.Meeting.{NeverMeet}
 use Rattle.overlap.specs.declared.Slot.{Slot}
 use Rattle.overlap.proofs.Law.{meeting-is-symmetric}
-use Rattle.rules.specs.Times.{preambleOctets, wireTime, holdTime, lasting, maxTime, startOf}
+use Rattle.rules.specs.Times.{preambleOctets, holdOctets, wireTime, holdTime, lasting, maxTime, startOf}
 use Rattle.rules.specs.Rules.{Window, Hop, Deadline, Overlap}
 use Rattle.rules.specs.Steps.{FrameOf, ReadyOf, SlotOf}
 use Rattle.rules.specs.declared.Frame.{Frame}
 use Rattle.rules.proofs.Judging.{window-kept, window-broken, first-has-no-hop, hop-kept, hop-broken, not-last-has-no-deadline, deadline-kept, late-last-leg, other-links-never-meet, same-link-told}
 
--- The frame of a leg whose record, stream and link are known, and whose frame lasts w.
-abbrev pub frameWith : Leg → Stream → Link → ℕ → Frame
-frameWith l s k w = record {
+-- The frame of a leg whose record, stream and link are known, whose frame is on the wire for w and holds its link for h.
+abbrev pub frameWith : Leg → Stream → Link → ℕ → ℕ → Frame
+frameWith l s k w h = record {
   offset = l .offset;
   start = l .offset;
   wire = w;
-  hold = w;
+  hold = h;
   propagation = k .propagation;
   link = l .link;
   period = s .period;
@@ -43,17 +43,19 @@ frameWith l s k w = record {
 }
 
 -- Numbers within their bounds.
-pub record Small (l : Leg) (s : Stream) (k : Link) (w : ℕ) : Type 0 where
+pub record Small (l : Leg) (s : Stream) (k : Link) (w h : ℕ) : Type 0 where
   pub offset : l .offset ≤ maxWord
   pub period : (1 ≤ s .period) × (s .period ≤ maxWord)
   pub deadline : s .deadline ≤ maxWord
   pub propagation : k .propagation ≤ maxPropagation
-  pub time : (1 ≤ w) × (w ≤ maxTime)
+  pub wire : (1 ≤ w) × (w ≤ maxTime)
+  pub hold : (1 ≤ h) × (h ≤ maxTime)
 
-pub frame-of : (t : List ℕ) (a : ℕ) (l : Leg) (s : Stream) (k : Link) (w : ℕ)
-    → legAt t a ≡ l → streamOf t a ≡ s → linkOf t a ≡ k → w ≡ (s .octets + preambleOctets) * k .rate → Small l s k w → FrameOf t a (frameWith l s k w)
+pub frame-of : (t : List ℕ) (a : ℕ) (l : Leg) (s : Stream) (k : Link) (w h : ℕ)
+    → legAt t a ≡ l → streamOf t a ≡ s → linkOf t a ≡ k → w ≡ (s .octets + preambleOctets) * k .rate → h ≡ (s .octets + holdOctets) * k .rate → Small l s k w h
+    → FrameOf t a (frameWith l s k w h)
 unfolding startOf wireTime holdTime lasting
-frame-of t a l s k w e f g is small =
+frame-of t a l s k w h e f g is so small =
     let o = ap (λ (z : Stream). z .octets) f in
     let r = ap (λ (z : Link). z .rate) g in
     record {
@@ -61,8 +63,8 @@ frame-of t a l s k w e f g is small =
       start = sym (ap (λ (z : Leg). z .offset) e);
       near = small .offset;
       small = small .offset;
-      wire = record { same = cc; from = small .time .0; to = small .time .1 };
-      hold = record { same = cc; from = small .time .0; to = small .time .1 };
+      wire = record { same = cc; from = small .wire .0; to = small .wire .1 };
+      hold = record { same = cc; from = small .hold .0; to = small .hold .1 };
       propagation = sym (ap (λ (z : Link). z .propagation) g);
       short = small .propagation;
       link = sym (ap (λ (z : Leg). z .link) e);
@@ -106,12 +108,21 @@ module _ (n : PlanNumbers) where
   pub reads : PlanReadsSo n
   reads = plans-read-so n
 
-  -- How long the frames of stream 0 last on link 1, and that of stream 1 on link 0.
+  -- How long the frames of stream 0 are on the wire of link 1, and that of stream 1 on that of link 0; and how long each holds its link.
   abbrev pub w1 : ℕ
   w1 = (64 + preambleOctets) * n .rate-1
 
   abbrev pub w2 : ℕ
   w2 = (n .octets-1 + preambleOctets) * 8
+
+  abbrev pub h0 : ℕ
+  h0 = (64 + holdOctets) * 8
+
+  abbrev pub h1 : ℕ
+  h1 = (64 + holdOctets) * n .rate-1
+
+  abbrev pub h2 : ℕ
+  h2 = (n .octets-1 + holdOctets) * 8
 
   -- When legs 1 and 2 are ready: after their own wire time and propagation, and the precision.
   abbrev pub r1 : ℕ
@@ -121,13 +132,13 @@ module _ (n : PlanNumbers) where
   r2 = n .offset-2 + w2 + 600
 
   unfoldable pub f0 : Frame
-  f0 = record { offset = n .offset-0; start = n .offset-0; wire = 576; hold = 576; propagation = 500; link = 0; period = n .period-0; deadline = n .deadline-0; first = 0; end = 2 }
+  f0 = record { offset = n .offset-0; start = n .offset-0; wire = 576; hold = h0; propagation = 500; link = 0; period = n .period-0; deadline = n .deadline-0; first = 0; end = 2 }
 
   unfoldable pub f1 : Frame
-  f1 = record { offset = n .offset-1; start = n .offset-1; wire = w1; hold = w1; propagation = n .propagation-1; link = 1; period = n .period-0; deadline = n .deadline-0; first = 0; end = 2 }
+  f1 = record { offset = n .offset-1; start = n .offset-1; wire = w1; hold = h1; propagation = n .propagation-1; link = 1; period = n .period-0; deadline = n .deadline-0; first = 0; end = 2 }
 
   unfoldable pub f2 : Frame
-  f2 = record { offset = n .offset-2; start = n .offset-2; wire = w2; hold = w2; propagation = 500; link = 0; period = n .period-1; deadline = n .deadline-1; first = 2; end = 3 }
+  f2 = record { offset = n .offset-2; start = n .offset-2; wire = w2; hold = h2; propagation = 500; link = 0; period = n .period-1; deadline = n .deadline-1; first = 2; end = 3 }
 
   pub stream-0 : streamOf plan 0 ≡ record { period = n .period-0; deadline = n .deadline-0; octets = 64; first = 0; count = 2 }
   unfolding plan
@@ -146,68 +157,71 @@ module _ (n : PlanNumbers) where
   link-2 = link-of plan 2 0 _ _ (reads .leg-2) refl (reads .link-0)
 
   abbrev pub slot-0 : Slot
-  slot-0 = record { offset = n .offset-0; period = n .period-0; hold = 576 }
+  slot-0 = record { offset = n .offset-0; period = n .period-0; hold = h0 }
 
   abbrev pub slot-2 : Slot
-  slot-2 = record { offset = n .offset-2; period = n .period-1; hold = w2 }
+  slot-2 = record { offset = n .offset-2; period = n .period-1; hold = h2 }
 
   module _ (b : Bounded n) where
     pub is-0 : FrameOf plan 0 f0
     unfolding plan f0
-    is-0 = frame-of plan 0 _ _ _ 576 (reads .leg-0) stream-0 link-0 refl
+    is-0 = frame-of plan 0 _ _ _ 576 h0 (reads .leg-0) stream-0 link-0 refl refl
         (record {
           offset = omega (arith, b .offsets);
           period = (omega (arith, b .in-range .deadline-0), omega (arith, b .in-range .period-0));
           deadline = omega (arith, b .in-range .deadline-0, b .in-range .period-0);
           propagation = omega arith;
-          time = (omega arith, omega arith);
+          wire = (omega arith, omega arith);
+          hold = (omega arith, omega arith);
         })
 
     pub is-1 : FrameOf plan 1 f1
     unfolding plan f1
     is-1 =
         let r = rate-bounds (n .rate-1) (b .in-range .rate-1) in
-        frame-of plan 1 _ _ _ w1 (reads .leg-1) (stream-of plan 1 0 _ _ (reads .leg-1) refl (reads .stream-0)) (link-of plan 1 1 _ _ (reads .leg-1) refl (reads .link-1)) refl
+        frame-of plan 1 _ _ _ w1 h1 (reads .leg-1) (stream-of plan 1 0 _ _ (reads .leg-1) refl (reads .stream-0)) (link-of plan 1 1 _ _ (reads .leg-1) refl (reads .link-1)) refl refl
         (record {
           offset = omega (arith, b .offsets);
           period = (omega (arith, b .in-range .deadline-0), omega (arith, b .in-range .period-0));
           deadline = omega (arith, b .in-range .deadline-0, b .in-range .period-0);
           propagation = b .in-range .propagation-1;
-          time = (omega (arith, r), omega (arith, r));
+          wire = (omega (arith, r), omega (arith, r));
+          hold = (omega (arith, r), omega (arith, r));
         })
 
     pub is-2 : FrameOf plan 2 f2
     unfolding plan f2
-    is-2 = frame-of plan 2 _ _ _ w2 (reads .leg-2) stream-2 link-2 refl
+    is-2 = frame-of plan 2 _ _ _ w2 h2 (reads .leg-2) stream-2 link-2 refl refl
         (record {
           offset = omega (arith, b .offsets);
           period = (omega (arith, b .in-range .deadline-1), omega (arith, b .in-range .period-1));
           deadline = omega (arith, b .in-range .deadline-1, b .in-range .period-1);
           propagation = omega arith;
-          time = (omega (arith, b .in-range .octets-1), omega (arith, b .in-range .octets-1));
+          wire = (omega (arith, b .in-range .octets-1), omega (arith, b .in-range .octets-1));
+          hold = (omega (arith, b .in-range .octets-1), omega (arith, b .in-range .octets-1));
         })
 
-    pub window-0 : n .offset-0 + 576 ≤ n .period-0 → Window plan 0
+    pub window-0 : n .offset-0 + h0 ≤ n .period-0 → Window plan 0
     unfolding f0
     window-0 le = window-kept plan 0 f0 is-0 le
 
-    pub window-0-broken : n .period-0 < n .offset-0 + 576 → Window plan 0 → ⊥
+    pub window-0-broken : n .period-0 < n .offset-0 + h0 → Window plan 0 → ⊥
     unfolding f0
     window-0-broken lt = window-broken plan 0 f0 is-0 lt
 
-    pub window-1 : n .offset-1 + w1 ≤ n .period-0 → Window plan 1
+    pub window-1 : n .offset-1 + h1 ≤ n .period-0 → Window plan 1
     unfolding f1
     window-1 le = window-kept plan 1 f1 is-1 le
 
-    pub window-1-broken : n .period-0 < n .offset-1 + w1 → Window plan 1 → ⊥
+    pub window-1-broken : n .period-0 < n .offset-1 + h1 → Window plan 1 → ⊥
     unfolding f1
     window-1-broken lt = window-broken plan 1 f1 is-1 lt
 
-    pub window-2 : n .offset-2 + w2 ≤ n .period-1 → Window plan 2
+    pub window-2 : n .offset-2 + h2 ≤ n .period-1 → Window plan 2
     unfolding f2
     window-2 le = window-kept plan 2 f2 is-2 le
 
-    pub window-2-broken : n .period-1 < n .offset-2 + w2 → Window plan 2 → ⊥
+    pub window-2-broken : n .period-1 < n .offset-2 + h2 → Window plan 2 → ⊥
     unfolding f2
     window-2-broken lt = window-broken plan 2 f2 is-2 lt
 

@@ -2,51 +2,59 @@
 use Prim.Native.Nat.{ℕ, zero, suc, _+_, _*_, _≤_, _<_}
 use mathlib.Core.Path.{_≡_, refl, _∙_, sym, ap}
 use mathlib.Core.List.{List}
+use mathlib.Core.Logic.{inr, ⊎-elim}
 use native.Mathlib.Omega.{arith}
 use Rattle.basics.specs.declared.Holds.the-variants.{No}
 use Rattle.table.specs.Records.{legAt}
 use Rattle.table.specs.PlanC.{PlanCNumbers, planC, deadlinesC, offsetsC}
+use Rattle.table.specs.declared.Stream.{Stream}
 use Rattle.table.specs.declared.Leg.{Leg}
 use Rattle.table.proofs.PartLaws.{leg-of-part}
+use Rattle.shape.specs.Legs.{firstOf, endOf}
 use Rattle.shape.specs.Links.{maxPropagation}
 use Rattle.shape.proofs.Reading.{legOn, streamOn, linkOn, stream-on, link-on}
 use Rattle.shape.proofs.PlanC.{plan-c-is-well-formed}
 use Rattle.overlap.proofs.Law.{shared-instant}
-use Rattle.rules.specs.Times.{preambleOctets}
+use Rattle.rules.specs.Times.{preambleOctets, holdOctets}
 use Rattle.rules.specs.Rules.{Hop, Deadline, Overlap}
 use Rattle.rules.specs.Steps.{FrameOf, ReadyOf}
-use Rattle.rules.specs.CasesOfPlanC.{CasesOfPlanC, CasesOfPlanCArePlans}
+use Rattle.rules.specs.Places.{askedAt}
+use Rattle.rules.specs.Reads.{ReadsBeside, Reads}
+use Rattle.rules.specs.CasesOfPlanC.{CasesOfPlanC, ReadsOfPlanC, CasesOfPlanCArePlans}
 use Rattle.rules.specs.declared.Frame.{Frame}
 use Rattle.rules.proofs.Judging.{hop-kept, hop-broken, not-last-has-no-deadline, deadline-kept, late-last-leg, other-links, same-link-told}
 use Rattle.rules.proofs.CasePlans.{frameWith, frame-of, ready-of, slot-of}
 
--- Leg a of a table that is given word by word: how long its frame lasts, and its frame.
+-- Leg a of a table that is given word by word: how long its frame is on the wire and holds its link, and its frame.
 abbrev wireOn : List ℕ → ℕ → ℕ
 wireOn t a = (streamOn t a .octets + preambleOctets) * linkOn t a .rate
 
+abbrev holdOn : List ℕ → ℕ → ℕ
+holdOn t a = (streamOn t a .octets + holdOctets) * linkOn t a .rate
+
 abbrev frameOn : List ℕ → ℕ → Frame
-frameOn t a = frameWith (legOn t a) (streamOn t a) (linkOn t a) (wireOn t a)
+frameOn t a = frameWith (legOn t a) (streamOn t a) (linkOn t a) (wireOn t a) (holdOn t a)
 
 -- It repeats and lasts, and its numbers are small.
 record Near (t : List ℕ) (a : ℕ) : Type 0 where
   repeats : 1 ≤ streamOn t a .period
-  lasts : 1 ≤ wireOn t a
-  small : legOn t a .offset + streamOn t a .period + streamOn t a .deadline + linkOn t a .propagation + wireOn t a ≤ maxPropagation
+  lasts : (1 ≤ wireOn t a) × (1 ≤ holdOn t a)
+  small : legOn t a .offset + streamOn t a .period + streamOn t a .deadline + linkOn t a .propagation + wireOn t a + holdOn t a ≤ maxPropagation
 
 frame-on : (t : List ℕ) (a : ℕ) → Near t a → FrameOf t a (frameOn t a)
 frame-on t a h =
     let s = h .small in
-    frame-of t a _ _ _ _ (sym (leg-of-part t a)) (stream-on t a) (link-on t a) refl
-    (record { offset = omega arith; period = (h .repeats, omega arith); deadline = omega arith; propagation = omega arith; time = (h .lasts, omega arith) })
+    frame-of t a _ _ _ _ _ (sym (leg-of-part t a)) (stream-on t a) (link-on t a) refl refl
+    (record { offset = omega arith; period = (h .repeats, omega arith); deadline = omega arith; propagation = omega arith; wire = (h .lasts .0, omega arith); hold = (h .lasts .1, omega arith) })
 
 module _ (n : PlanCNumbers) (small : n .deadline-1 + n .deadline-2 + n .offset-2 + n .offset-3 ≤ 40000) where
   near : (a : ℕ) → a < 6 → Near (planC n) a
-  near zero h = record { repeats = omega arith; lasts = omega arith; small = omega arith }
-  near (suc zero) h = record { repeats = omega arith; lasts = omega arith; small = omega arith }
-  near (suc (suc zero)) h = record { repeats = omega arith; lasts = omega arith; small = omega arith }
-  near (suc (suc (suc zero))) h = record { repeats = omega arith; lasts = omega arith; small = omega arith }
-  near (suc (suc (suc (suc zero)))) h = record { repeats = omega arith; lasts = omega arith; small = omega arith }
-  near (suc (suc (suc (suc (suc zero))))) h = record { repeats = omega arith; lasts = omega arith; small = omega arith }
+  near zero h = record { repeats = omega arith; lasts = (omega arith, omega arith); small = omega arith }
+  near (suc zero) h = record { repeats = omega arith; lasts = (omega arith, omega arith); small = omega arith }
+  near (suc (suc zero)) h = record { repeats = omega arith; lasts = (omega arith, omega arith); small = omega arith }
+  near (suc (suc (suc zero))) h = record { repeats = omega arith; lasts = (omega arith, omega arith); small = omega arith }
+  near (suc (suc (suc (suc zero)))) h = record { repeats = omega arith; lasts = (omega arith, omega arith); small = omega arith }
+  near (suc (suc (suc (suc (suc zero))))) h = record { repeats = omega arith; lasts = (omega arith, omega arith); small = omega arith }
   near (suc (suc (suc (suc (suc (suc a)))))) h = absurd (omega arith)
 
   module _ (a : ℕ) (inside : a < 6) where
@@ -114,6 +122,35 @@ cases-of-plan-c = record {
   same-from = apart (offsetsC 2014 3128) (omega arith) 2 0 (λ e. absurd (omega (arith, e)));
   same-to = apart (offsetsC 2014 3128) (omega arith) 4 1 (λ e. absurd (omega (arith, e)));
   same-link = meet-on-link-4 (offsetsC 2014 3128) (omega arith);
+}
+
+-- The first leg of the stream of a leg of Plan C, and the leg after its last.
+abbrev c : List ℕ
+c = planC (offsetsC 2014 3128)
+
+first-is : (a : ℕ) → firstOf c a ≡ streamOn c a .first
+first-is a = ap (λ (s : Stream). s .first) (stream-on c a)
+
+end-is : (a : ℕ) → endOf c a ≡ streamOn c a .first + streamOn c a .count
+end-is a = omega (arith, first-is a, ap (λ (s : Stream). s .count) (stream-on c a))
+
+-- Another leg is read beside the leg itself.
+beside : (a p b : ℕ) → (b ≡ a → ⊥) → (ReadsBeside c a (askedAt p) b → ⊥) → Reads c a p b → ⊥
+beside a p b n k r = ⊎-elim n k r
+
+pub reads-of-plan-c : ReadsOfPlanC
+unfolding askedAt
+reads-of-plan-c = record {
+  hop-first = beside 4 1 3 (λ e. omega (arith, e)) (λ r. omega (arith, r .0, first-is 4));
+  hop-last = (inr (omega (arith, first-is 3), omega arith), beside 3 1 1 (λ e. omega (arith, e)) (λ r. omega (arith, r .1)));
+  deadline-last = (
+    inr (omega (arith, end-is 3), omega (arith, first-is 3)),
+    beside 3 2 0 (λ e. omega (arith, e)) (λ r. omega (arith, r .1, first-is 3)),
+    beside 3 2 2 (λ e. omega (arith, e)) (λ r. omega (arith, r .1, first-is 3)),
+  );
+  deadline-middle = beside 2 2 1 (λ e. omega (arith, e)) (λ r. omega (arith, r .0, end-is 2));
+  window = beside 3 0 2 (λ e. omega (arith, e)) (λ r. r);
+  overlap = (inr refl, beside 3 5 1 (λ e. omega (arith, e)) (λ r. omega (arith, r)));
 }
 
 pub cases-of-plan-c-are-plans : CasesOfPlanCArePlans

@@ -3,6 +3,7 @@ use Prim.Native.Nat.{_≤_}
 use Rattle.table.specs.PlanC.{PlanCNumbers, planC, deadlinesC, offsetsC}
 use Rattle.shape.specs.Shape.{WellFormedTable}
 use Rattle.rules.specs.Rules.{Hop, Deadline, Overlap}
+use Rattle.rules.specs.Reads.{Reads}
 
 pub record CasesOfPlanC : Type 0 where
   -- Leg 1 is sent at 1,000 and is ready at 1,000 + 864 + 100 + 50 = 2,014: leg 2, in the middle of its route, has a hop too, and the precision is 50 ns.
@@ -22,6 +23,16 @@ pub record CasesOfPlanC : Type 0 where
   pub same-to : Overlap (planC (offsetsC 2014 3128)) 4 1
   -- Legs 4 and 5 both hold link 4 at the instant 1,300: overlap is of any two legs, and not of leg 0 with another.
   pub same-link : Overlap (planC (offsetsC 2014 3128)) 5 4 → ⊥
+
+-- Which legs are read: leg 4 is a first leg, and so its hop reads no other; the hop of leg 3 reads leg 2, and not the first leg of its route; its deadline reads that
+-- first leg, leg 1, and neither leg 0 nor leg 2; leg 2 is not the last, and its deadline reads no other; a window reads no other; place 5 reads leg 2 alone.
+pub record ReadsOfPlanC : Type 0 where
+  pub hop-first : Reads (planC (offsetsC 2014 3128)) 4 1 3 → ⊥
+  pub hop-last : Reads (planC (offsetsC 2014 3128)) 3 1 2 × (Reads (planC (offsetsC 2014 3128)) 3 1 1 → ⊥)
+  pub deadline-last : Reads (planC (offsetsC 2014 3128)) 3 2 1 × (Reads (planC (offsetsC 2014 3128)) 3 2 0 → ⊥) × (Reads (planC (offsetsC 2014 3128)) 3 2 2 → ⊥)
+  pub deadline-middle : Reads (planC (offsetsC 2014 3128)) 2 2 1 → ⊥
+  pub window : Reads (planC (offsetsC 2014 3128)) 3 0 2 → ⊥
+  pub overlap : Reads (planC (offsetsC 2014 3128)) 3 5 2 × (Reads (planC (offsetsC 2014 3128)) 3 5 1 → ⊥)
 
 -- These tables are well-formed, whatever their offsets, with deadlines of 1 ns to the period: they are plans.
 abbrev pub CasesOfPlanCArePlans : Type 0

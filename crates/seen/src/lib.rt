@@ -28,18 +28,12 @@ pub fn same(a: &[u8], b: &[u8]) -> Holds
     }
     let mut i: usize = 0;
     while i < a.len() {
-        if wide(a[i]) != wide(b[i]) {
+        if numbers::wide(a[i]) != numbers::wide(b[i]) {
             return Holds::No;
         }
         i = i + 1;
     }
     Holds::Yes
-}
-
-fn wide(b: u8) -> u64
-    ensures { λ r. ⌜ r ≡ b ⌝ }
-{
-    b as u64
 }
 
 // Whether a plan is the one in front of a position, or the one after it.

@@ -15,11 +15,14 @@ enum-known-seen-2 : tie.Need-enum-known-seen-2
 enum-known-seen-2 c = search needs
 
 behind-header-requires : tie.Need-behind-header-requires
-behind-header-requires c κs = rw (c .before .seen2 .given .1) at (c .before .before .before .look-through .ensures)
+behind-header-requires c κs =
+    let looked : tie.After-look-through = search in
+    rw (c .before .seen2 .given .1) at (looked .look-through .ensures)
 
 returns : tie.Need-returns
 returns c =
-    let r = rw (c .before .seen .given .1) at (c .before .before .before .look-through .ensures) in
+    let looked : tie.After-look-through = search in
+    let r = rw (c .before .seen .given .1) at (looked .look-through .ensures) in
     inl (record { ws = r .ws; row = r .row; due = inl (r .short); no-number = r .no-number })
 
 returns-2 : tie.Need-returns-2

@@ -1,0 +1,268 @@
+//! Plan files for the programs, in families. Each wrong checker is told from the right one by one of them at least.
+
+use crate::chance::Chance;
+use crate::check::{Checker, Plain};
+use crate::damage::{any_bytes, bend_route, damage_bytes, damage_table, double_links, each_edge, shift_legs};
+use crate::drafts::{accepted, alike, full_line, large, medium, one_link, plan_a, row, small, to_an_edge};
+use crate::format::{encoded, is_whole, plan_bytes, table_words, Plan};
+use crate::paper::{HEADER_WORDS, LIMITS, MORE, NUMBER_BYTES};
+use crate::told::{printed, Verb};
+use crate::wrong::{self, given};
+use std::collections::BTreeSet;
+
+type Family = Vec<Vec<u8>>;
+
+/// The files, and the name of each wrong checker that none of them tells from the right one.
+pub struct Inputs {
+    pub files: Vec<Vec<u8>>,
+    pub at_large: Vec<String>,
+}
+
+/// Gives so many files of each family at the most, evenly, and those that tell wrong checkers.
+pub fn inputs(verb: Verb, seed: u64, most: usize) -> Inputs {
+    let most = most.max(1);
+    let families = families(verb, &mut Chance::new(seed, verb as u64));
+    let mut wrong = match verb {
+        Verb::Words => wrong::readers(),
+        Verb::Shape => wrong::judges(),
+        Verb::Check => wrong::checkers(),
+    };
+    let mut files = Vec::new();
+    for family in families {
+        let step = ((family.len() + most - 1) / most).max(1);
+        for (number, bytes) in family.into_iter().enumerate() {
+            let before = wrong.len();
+            let right = printed(&Plain, verb, Plain.read_plan(&bytes));
+            wrong.retain(|one| {
+                let told = given(|| printed(&one.checker, verb, one.checker.read_plan(&bytes)));
+                told.as_ref() == Some(&right)
+            });
+            if number % step == 0 || wrong.len() < before {
+                files.push(bytes);
+            }
+        }
+    }
+    let mut seen = BTreeSet::new();
+    files.retain(|bytes| seen.insert(bytes.clone()));
+    Inputs { files, at_large: wrong.into_iter().map(|one| one.name).collect() }
+}
+
+fn families(verb: Verb, chance: &mut Chance) -> Vec<Family> {
+    match verb {
+        Verb::Words => vec![
+            of_the_paper(),
+            cut_or_edited(),
+            headers(),
+            forms(),
+            around_the_largest(),
+            (0..600).map(|_| encoded(&any_table(chance, [5, 5, 9]))).collect(),
+            (0..8).map(|_| encoded(&any_table(chance, [LIMITS.links, LIMITS.streams, LIMITS.legs]))).collect(),
+            (0..2_400).map(|_| damaged_bytes(chance)).collect(),
+            (0..800).map(|_| any_bytes(chance)).collect(),
+        ],
+        Verb::Shape => vec![
+            of_the_paper(),
+            edges_of_tables(chance),
+            (0..600).map(|_| damaged(chance, |chance| row(chance), 2)).collect(),
+            (0..2_000).map(|_| damaged(chance, |chance| small(chance), 3)).collect(),
+            (0..400).map(|_| damaged(chance, |chance| medium(chance), 2)).collect(),
+            (0..48).map(|_| damaged(chance, |chance| alike(chance), 1)).collect(),
+            (0..48).map(|_| damaged(chance, |chance| large(chance), 1)).collect(),
+            of_one_word(),
+            (0..200).map(|_| damaged_bytes(chance)).collect(),
+        ],
+        Verb::Check => vec![
+            of_the_paper(),
+            each_edge(&plan_a().words()).iter().map(|words| encoded(words)).collect(),
+            (0..800).map(|_| at_edges(chance, |chance| small(chance))).collect(),
+            (0..300).map(|_| at_edges(chance, |chance| medium(chance))).collect(),
+            (0..300).map(|_| at_edges(chance, |chance| row(chance))).collect(),
+            (0..800).map(|_| at_edges(chance, |chance| one_link(chance))).collect(),
+            (0..800).map(|_| at_edges(chance, |chance| accepted(chance, 12))).collect(),
+            (0..60).map(|_| plan_bytes(&accepted(chance, 60))).collect(),
+            (0..24).map(|_| at_edges(chance, |chance| full_line(chance))).collect(),
+            (0..12).map(|_| at_edges(chance, |chance| large(chance))).collect(),
+            (0..200).map(|_| damaged(chance, |chance| small(chance), 2)).collect(),
+            (0..100).map(|_| damaged_bytes(chance)).collect(),
+        ],
+    }
+}
+
+// ---- Bytes
+
+/// Plan A, and the files of case 14.
+fn of_the_paper() -> Family {
+    vec![plan_bytes(&plan_a()), vec![0; HEADER_WORDS], Vec::new(), vec![MORE, 0]]
+}
+
+/// Plan A cut at each place, and with each byte replaced, taken out, or another put before it.
+fn cut_or_edited() -> Family {
+    let whole = plan_bytes(&plan_a());
+    let mut family: Family = (0..whole.len()).map(|size| whole[..size].to_vec()).collect();
+    for (at, &old) in whole.iter().enumerate() {
+        for new in [0x00, 0x7F, 0x80, 0xFF, 0x0F, 0x10, old.wrapping_add(1)] {
+            family.push([&whole[..at], &[new], &whole[at + 1..]].concat());
+        }
+        family.push([&whole[..at], &whole[at + 1..]].concat());
+        for new in [0x00, 0x01, 0x7F, 0x80, 0xFF] {
+            family.push([&whole[..at], &[new], &whole[at..]].concat());
+        }
+    }
+    family
+}
+
+/// Headers around each limit, alone and together, and far above; each with nothing behind it, with too little, with what it
+/// asks for, and with too much.
+fn headers() -> Family {
+    let limits = [LIMITS.links, LIMITS.streams, LIMITS.legs, LIMITS.precision];
+    let mut headers = Vec::new();
+    for (at, limit) in limits.into_iter().enumerate() {
+        let far = [
+            1 << 16,
+            256 + (1 << 16),
+            1 << 24,
+            1 << 30,
+            (1 << 30) + 1,
+            u32::MAX / 5 + 1,
+            u32::MAX / 3 + 1,
+            1 << 31,
+            u32::MAX,
+        ];
+        for word in [limit - 1, limit, limit + 1].into_iter().chain(far) {
+            let mut header = [7, 0, 0, 0, 0];
+            header[1 + at] = word;
+            headers.push(header);
+        }
+    }
+    for mix in 0..81 {
+        let step = |at: usize| limits[at] + [1, 0, 2][mix / [1, 3, 9, 27][at] % 3] - 1;
+        headers.push([u32::MAX, step(0), step(1), step(2), step(3)]);
+    }
+    let mut family = Vec::new();
+    for header in headers {
+        let (start, rest) = (encoded(&header), table_words(&header) - HEADER_WORDS as u64);
+        family.extend([&[][..], &[MORE], &[1]].map(|behind| [&start[..], behind].concat()));
+        if rest < 20_000 {
+            let whole = [start, vec![0; rest as usize]].concat();
+            family.extend([whole.clone(), [whole, vec![0]].concat()]);
+        }
+    }
+    family
+}
+
+/// Numbers in longer forms than they need, and of five bytes with each kind of last one: first, at the end of the header,
+/// behind it and last in Plan A, and last of all bytes.
+fn forms() -> Family {
+    let edges =
+        [0, 7, 14, 21, 28].map(|bits| 1u32 << bits).into_iter().flat_map(|edge| [edge - 1, edge]).chain([u32::MAX]);
+    let longer = |number: u32, size: usize| -> Vec<u8> {
+        let group = |at: usize| (u64::from(number) >> (7 * at)) as u8 & !MORE;
+        (0..size).map(|at| group(at) | if at + 1 < size { MORE } else { 0 }).collect()
+    };
+    let mut forms: Family = Vec::new();
+    for edge in edges {
+        forms.extend((encoded(&[edge]).len() + 1..=NUMBER_BYTES + 1).map(|size| longer(edge, size)));
+    }
+    for last in (0..0x13).chain([0x1F, 0x20, 0x40, 0x70, 0x7F, 0x80, 0x81, 0x8F, 0x90, 0xFF]) {
+        forms.extend([[0xFF, 0xFF, 0xFF, 0xFF, last].to_vec(), [0x80, 0x80, 0x80, 0x80, last].to_vec()]);
+    }
+    let words = plan_a().words();
+    let mut family = Vec::new();
+    for form in forms {
+        for at in [0, HEADER_WORDS - 1, HEADER_WORDS, words.len() - 1] {
+            let until = [encoded(&words[..at]), form.clone()].concat();
+            family.extend([[&until[..], &encoded(&words[at + 1..])].concat(), until]);
+        }
+    }
+    family
+}
+
+/// The largest file, cut, with its last number damaged, and with bytes behind it, and strings of about its length.
+fn around_the_largest() -> Family {
+    let header = [u32::MAX, LIMITS.links, LIMITS.streams, LIMITS.legs, LIMITS.precision];
+    let rest = table_words(&header) as usize - HEADER_WORDS;
+    let largest = [encoded(&header), encoded(&vec![u32::MAX; rest])].concat();
+    let size = largest.len();
+    let cuts = [4, 13, 14, 15, 4_096, size / 2, 32_768, size - 6, size - 5, size - 4, size - 1, size];
+    let mut family: Family = cuts.iter().map(|&cut| largest[..cut].to_vec()).collect();
+    family.extend([0x00, 0x10, 0x7F, 0x80, 0xFF].map(|last| [&largest[..size - 1], &[last]].concat()));
+    let more = [vec![0], vec![0x80], vec![0xFF], vec![0; 2], vec![0; 13], vec![0; 100_000]];
+    family.extend(more.map(|more| [&largest[..], &more].concat()));
+    for total in [size - 1, size, size + 1, 65_535, 65_536, 65_537, 200_000] {
+        family.extend([vec![0; total], vec![0x80; total], [0xFF, 0xFF, 0xFF, 0xFF, 0x0F].repeat(total / NUMBER_BYTES)]);
+    }
+    family
+}
+
+/// A table of any words, of so many links, streams and legs at the most.
+fn any_table(chance: &mut Chance, most: [u32; 3]) -> Vec<u32> {
+    let [links, streams, legs] = most.map(|most| chance.from_to(0, most));
+    let header = [chance.any_size(), links, streams, legs, chance.from_to(0, LIMITS.precision)];
+    let rest = (HEADER_WORDS as u64..table_words(&header)).map(|_| chance.any_size());
+    header.into_iter().chain(rest.collect::<Vec<_>>()).collect()
+}
+
+fn damaged_bytes(chance: &mut Chance) -> Vec<u8> {
+    let mut bytes = if chance.one_in(2) { plan_bytes(&small(chance)) } else { encoded(&any_table(chance, [4, 4, 6])) };
+    for _ in 0..chance.of(&[1, 1, 1, 2, 3]) {
+        damage_bytes(chance, &mut bytes);
+    }
+    bytes
+}
+
+// ---- Tables
+
+/// A plan of some kind, whole or damaged so many times at the most.
+fn damaged(chance: &mut Chance, kind: impl Fn(&mut Chance) -> Plan, most: usize) -> Vec<u8> {
+    let mut plan = kind(chance);
+    match chance.below(8) {
+        0 | 1 => bend_route(chance, &mut plan),
+        2 => shift_legs(chance, &mut plan),
+        3 => double_links(chance, &mut plan),
+        _ => {}
+    }
+    let mut words = plan.words();
+    for _ in 0..chance.below(most + 1) {
+        // A header that no longer fits the rest is damaged enough.
+        if is_whole(&words) {
+            damage_table(chance, &mut words);
+        }
+    }
+    encoded(&words)
+}
+
+/// Each word of two plans at each edge of its range, and each link of them in the place of each other.
+fn edges_of_tables(chance: &mut Chance) -> Family {
+    let mut family = Vec::new();
+    for plan in [row(chance), small(chance)] {
+        family.extend(each_edge(&plan.words()).iter().map(|words| encoded(words)));
+        for (one, other) in (0..plan.links.len()).flat_map(|one| (0..plan.links.len()).map(move |other| (one, other))) {
+            let mut twin = plan.clone();
+            twin.links[one] = plan.links[other];
+            family.push(plan_bytes(&twin));
+        }
+    }
+    family
+}
+
+/// Tables of few records and one word: parts that are empty, and records that are wrong in everything.
+fn of_one_word() -> Family {
+    let mut family = Vec::new();
+    for (links, streams, legs) in (0..3).flat_map(|n| (0..3).flat_map(move |s| (0..4).map(move |g| (n, s, g)))) {
+        for word in [0, 1, u32::MAX] {
+            let header = [word, links, streams, legs, 0];
+            let rest = table_words(&header) as usize - HEADER_WORDS;
+            family.push(encoded(&[&header[..], &vec![word; rest]].concat()));
+        }
+    }
+    family
+}
+
+/// A plan of some kind with a few legs at the edge of a rule.
+fn at_edges(chance: &mut Chance, kind: impl Fn(&mut Chance) -> Plan) -> Vec<u8> {
+    let mut plan = kind(chance);
+    for _ in 0..chance.of(&[0, 1, 1, 1, 2, 5]) {
+        to_an_edge(chance, &mut plan);
+    }
+    plan_bytes(&plan)
+}

@@ -1,0 +1,127 @@
+// What a start may replace: a saved cursor and a copy that are ours. Any other file of such a name is left as it is, and standard error says so.
+use crate::saved;
+use crate::saved::Saved;
+use basics::Holds;
+use durable::FileRead;
+use files::Cursor;
+
+// What stands where a start makes its files: nothing that would be lost, the cursor of a check that has begun, or a file that is not ours.
+pub enum Standing {
+    Free,
+    Begun(Cursor),
+    NotOurs,
+}
+
+// What stands beside a cursor: nothing, a copy, or a file that is none.
+enum Beside {
+    Nothing,
+    Copy,
+    NotOurs,
+}
+
+fn left_as_it_is() {
+    show::complaint(
+        b". It was left as it is: start with another name for the cursor, or remove this file by hand\n",
+    );
+}
+
+pub(crate) fn no_cursor(path: &[u8]) {
+    show::complaint(path);
+    show::complaint(b" is no saved cursor");
+    left_as_it_is();
+}
+
+fn no_copy(path: &[u8]) {
+    show::complaint(path);
+    show::complaint(b".seen is no copy of a plan as it is kept beside a cursor");
+    left_as_it_is();
+}
+
+// Three bytes of any text have the form of a saved cursor, so one is ours only where its copy stands beside it.
+fn perhaps_no_cursor(path: &[u8]) {
+    show::complaint(path);
+    show::complaint(b" is no saved cursor of these commands: there is no ");
+    show::complaint(path);
+    show::complaint(b".seen");
+    left_as_it_is();
+}
+
+// Whether bytes, of which the first n were read, are a copy. Where they are none, that is said.
+pub(crate) fn is_copy(path: &[u8], bytes: &[u8], n: usize) -> bool {
+    if bytes.len() < n {
+        return false;
+    }
+    let told = seen::is_copy(&bytes[0..n]);
+    match told {
+        Holds::Yes => true,
+        Holds::No => {
+            no_copy(path);
+            false
+        }
+    }
+}
+
+fn copy_beside(path: &[u8]) -> Beside {
+    let mut bytes = [0u8; saved::SEEN_ROOM];
+    let read = saved::seen_file(path, &mut bytes);
+    match read {
+        FileRead::Missing => Beside::Nothing,
+        FileRead::Failed => Beside::NotOurs,
+        FileRead::Bytes(n) => {
+            if is_copy(path, &bytes, n) {
+                return Beside::Copy;
+            }
+            Beside::NotOurs
+        }
+    }
+}
+
+fn is_first(c: Cursor) -> bool {
+    if c.leg == 0 {
+        return c.place == 0;
+    }
+    false
+}
+
+// A cursor at the first place has nothing to lose.
+fn of_cursor(c: Cursor) -> Standing {
+    if is_first(c) {
+        return Standing::Free;
+    }
+    Standing::Begun(c)
+}
+
+fn with_cursor(path: &[u8], c: Cursor) -> Standing {
+    let copy = copy_beside(path);
+    match copy {
+        Beside::Nothing => {
+            perhaps_no_cursor(path);
+            Standing::NotOurs
+        }
+        Beside::Copy => of_cursor(c),
+        Beside::NotOurs => Standing::NotOurs,
+    }
+}
+
+fn without_cursor(path: &[u8]) -> Standing {
+    let copy = copy_beside(path);
+    match copy {
+        Beside::Nothing => Standing::Free,
+        Beside::Copy => Standing::Free,
+        Beside::NotOurs => Standing::NotOurs,
+    }
+}
+
+// Internal: what stands where a start makes its files. Of a file that is not ours, that is said.
+pub fn judged(path: &[u8]) -> Standing {
+    let found = saved::found(path);
+    match found {
+        Saved::Missing => without_cursor(path),
+        Saved::At(c) => with_cursor(path, c),
+        Saved::Refused(_, _) => {
+            no_cursor(path);
+            Standing::NotOurs
+        }
+        Saved::Failed => Standing::NotOurs,
+    }
+}

@@ -1,0 +1,143 @@
+// The saved cursor, and what was last seen of its plan beside it.
+use crate::ours;
+use basics::Holds;
+use durable::FileRead;
+use files::Cursor;
+use files::CursorRead;
+use files::CursorWritten;
+use numbers::Written;
+use show::answers;
+use show::answers::Part;
+
+// One byte more than the largest file, so that a byte left over is seen.
+const CURSOR_ROOM: usize = files::MAX_CURSOR_BYTES + 1;
+
+pub(crate) const SEEN_ROOM: usize = seen::MAX_SEEN_BYTES + 1;
+
+// A cursor file: its cursor, a refusal's number and position, that there is none, or that it cannot be read.
+pub enum Saved {
+    At(Cursor),
+    Refused(u32, usize),
+    Missing,
+    Failed,
+}
+
+fn read_in(bytes: &[u8], n: usize) -> Saved {
+    if bytes.len() < n {
+        return Saved::Failed;
+    }
+    let read = files::read_cursor(&bytes[0..n]);
+    match read {
+        CursorRead::Saved(c) => Saved::At(c),
+        CursorRead::Refused(number, at) => Saved::Refused(number, at),
+    }
+}
+
+pub(crate) fn found(path: &[u8]) -> Saved {
+    let mut bytes = [0u8; CURSOR_ROOM];
+    let read = durable::file(path, &mut bytes);
+    match read {
+        FileRead::Bytes(n) => read_in(&bytes, n),
+        FileRead::Missing => Saved::Missing,
+        FileRead::Failed => Saved::Failed,
+    }
+}
+
+// Internal: the cursor to go on with. Where it is missing or refused, that is said or is the answer, which is written.
+pub fn cursor(path: &[u8]) -> Saved {
+    let at = found(path);
+    match at {
+        Saved::At(c) => Saved::At(c),
+        Saved::Refused(number, position) => {
+            answers::unread(number, position, Part::Cursor);
+            ours::no_cursor(path);
+            Saved::Failed
+        }
+        Saved::Missing => {
+            os::fail(path);
+            Saved::Failed
+        }
+        Saved::Failed => Saved::Failed,
+    }
+}
+
+// Whether the plan is one that was last seen. Where it is not, that is the answer, and it is written; and it is said where the copy is none.
+fn known_in(path: &[u8], bytes: &[u8], n: usize, plan: &[u8], revision: u32) -> bool {
+    if bytes.len() < n {
+        return false;
+    }
+    let told = seen::known(&bytes[0..n], plan);
+    match told {
+        Holds::Yes => true,
+        Holds::No => {
+            answers::unknown(b"changed", revision);
+            ours::is_copy(path, bytes, n);
+            false
+        }
+    }
+}
+
+// Reads the copy beside a cursor.
+pub(crate) fn seen_file(path: &[u8], bytes: &mut [u8]) -> FileRead {
+    let mut name = io::buffer();
+    let n = durable::ended(path, b".seen", &mut name);
+    durable::file(&name[..n], bytes)
+}
+
+// Internal: whether the plan is one that was last seen with the cursor. Where it is not, that is the answer, and it is written.
+pub fn is_known(path: &[u8], plan: &[u8], revision: u32) -> bool {
+    let mut bytes = [0u8; SEEN_ROOM];
+    let read = seen_file(path, &mut bytes);
+    match read {
+        FileRead::Bytes(n) => known_in(path, &bytes, n, plan, revision),
+        FileRead::Missing => {
+            answers::unknown(b"unseen", revision);
+            false
+        }
+        FileRead::Failed => false,
+    }
+}
+
+// Internal: writes the cursor beside its file.
+pub fn cursor_beside(path: &[u8], c: Cursor) -> bool {
+    let mut bytes = [0u8; files::MAX_CURSOR_BYTES];
+    let written = files::write_cursor(c, &mut bytes);
+    match written {
+        CursorWritten::Bytes(n) => {
+            if bytes.len() < n {
+                return false;
+            }
+            durable::write_beside(path, &bytes[0..n], b"", b"")
+        }
+        CursorWritten::Refused(_, _, _) => false,
+    }
+}
+
+fn sized_beside(name: &[u8], size: &[u8], n: usize, plan: &[u8], other: &[u8]) -> bool {
+    if size.len() < n {
+        return false;
+    }
+    durable::write_beside(name, &size[0..n], plan, other)
+}
+
+// Internal: writes what is seen beside its file: a plan, and the other of a move or nothing.
+pub fn seen_beside(path: &[u8], plan: &[u8], other: &[u8]) -> bool {
+    let mut name = io::buffer();
+    let n = durable::ended(path, b".seen", &mut name);
+    let mut size = [0u8; seen::MAX_SIZE_BYTES];
+    if files::MAX_FILE_BYTES < plan.len() {
+        return false;
+    }
+    let written = numbers::write_number(plan.len() as u32, &mut size, 0);
+    match written {
+        Written::Bytes(m) => sized_beside(&name[..n], &size, m, plan, other),
+        Written::Refused(_, _) => false,
+    }
+}
+
+// Internal: gives what was written beside the copy its name.
+pub fn put_seen_in_place(path: &[u8]) -> bool {
+    let mut name = io::buffer();
+    let n = durable::ended(path, b".seen", &mut name);
+    durable::put_in_place(&name[..n])
+}

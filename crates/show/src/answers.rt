@@ -1,0 +1,169 @@
+// The answers of the programs. Each ends with the line 'status N', which is for ./conepalhui: the exit status, and what else it goes by.
+// An answer without that line is not whole.
+use crate::end_line;
+use crate::number;
+use crate::refusal;
+use crate::refused;
+use crate::text;
+use crate::told;
+use files::Cursor;
+use rules::Rule;
+
+// What a refusal lies in.
+pub enum Part {
+    Plan,
+    Cursor,
+    Move,
+}
+
+fn labelled(label: &[u8], n: u32) {
+    text(label);
+    number(n as u64);
+}
+
+// How many places lie before a place of a leg. The sum is far from wrapping: there are some two million places at most.
+fn places_before(leg: usize, place: u32) {
+    if leg <= table::MAX_LEGS {
+        let earlier = places::place_count(leg) as u64;
+        number(std::num::wrapping_add_u64(earlier, place as u64));
+    }
+}
+
+// How many places lie before the cursor, and how many there are.
+fn passed(at: Cursor, between: &[u8], legs: usize) {
+    places_before(table::wide(at.leg), at.place);
+    text(between);
+    places_before(legs, 0);
+    end_line();
+}
+
+// Ends the first line with the revision, and writes the second: how many places lie before the cursor, of how many.
+fn progress(at: Cursor, legs: usize) {
+    labelled(b" revision ", at.revision);
+    text(b"\nplaces ");
+    passed(at, b" of ", legs);
+}
+
+// Internal: the first line of a whole check.
+pub fn counts(legs: usize) {
+    text(b"legs ");
+    number(legs as u64);
+    text(b" places ");
+    places_before(legs, 0);
+    end_line();
+}
+
+// Internal: the verdict of a whole check that found nothing violated.
+pub fn accepted() {
+    text(b"accepted\nstatus 0\n");
+}
+
+// Internal: the verdict of a whole check that found a violated place.
+pub fn first_violated(at: Cursor, rule: Rule) {
+    told::violated(at, rule);
+    text(b"\nstatus 1\n");
+}
+
+// Internal: a refusal of the plan on standard input.
+pub fn plan_refused(number_of: u32, at: usize) {
+    refused(number_of, at);
+    text(b"status 2\n");
+}
+
+// Internal: the words of a plan.
+pub fn words(of: &[u32]) {
+    crate::table(of);
+    text(b"status 0\n");
+}
+
+// Internal: that a plan is well-formed.
+pub fn well_formed() {
+    text(b"well-formed\nstatus 0\n");
+}
+
+// Internal: a start or a move that is granted.
+pub fn granted(at: Cursor, legs: usize) {
+    told::place(b"granted", at);
+    progress(at, legs);
+    text(b"status 0\n");
+}
+
+// Internal: a slice that used up its budget.
+pub fn paused(at: Cursor, steps: u32, legs: usize) {
+    told::place(b"paused", at);
+    labelled(b" steps ", steps);
+    progress(at, legs);
+    text(b"status 3 places ");
+    passed(at, b" ", legs);
+}
+
+// Internal: a slice that found nothing violated.
+pub fn nothing_violated(at: Cursor, steps: u32, legs: usize) {
+    labelled(b"nothing violated steps ", steps);
+    progress(at, legs);
+    text(b"status 0\n");
+}
+
+// Internal: a slice that found a violated place.
+pub fn violated(at: Cursor, steps: u32, rule: Rule, legs: usize) {
+    told::violated(at, rule);
+    labelled(b" steps ", steps);
+    progress(at, legs);
+    text(b"status 1\n");
+}
+
+fn part_word(part: Part) {
+    match part {
+        Part::Plan => {
+            text(b"plan");
+        }
+        Part::Cursor => {
+            text(b"cursor");
+        }
+        Part::Move => {
+            text(b"move");
+        }
+    }
+}
+
+fn lies_in(part: Part, number_of: u32) {
+    text(b"in the ");
+    part_word(part);
+    text(b"\nstatus 2 ");
+    part_word(part);
+    labelled(b" ", number_of);
+    end_line();
+}
+
+// Internal: a refusal by the reader of a file: no revision was judged.
+pub fn unread(number_of: u32, at: usize, part: Part) {
+    refused(number_of, at);
+    lies_in(part, number_of);
+}
+
+// Internal: a refusal of what was read, by the stage that refused.
+pub fn judged(number_of: u32, at: usize, revision: u32, part: Part) {
+    refusal(number_of, at);
+    labelled(b" revision ", revision);
+    end_line();
+    lies_in(part, number_of);
+}
+
+// Internal: the refusal of the guard: the plan is not the one that was last seen with this cursor, or none was.
+pub fn unknown(why: &[u8], revision: u32) {
+    text(b"refused ");
+    text(why);
+    labelled(b" revision ", revision);
+    text(b"\nin the plan\nstatus 2 ");
+    text(why);
+    end_line();
+}
+
+// Internal: the refusal of a start where a check has begun: the cursor that stands there.
+pub fn begun(at: Cursor) {
+    told::place(b"refused begun", at);
+    labelled(b" revision ", at.revision);
+    told::place(b"\nin the cursor\nstatus 2 begun", at);
+    labelled(b" ", at.revision);
+    end_line();
+}

@@ -1,0 +1,165 @@
+# Proves and builds the programs and the calls for C, and installs them. The command conepalhui reads this file in the repository.
+
+has_rt() {
+    has rt || { note "the command rt is not on the PATH: install the Rattle kit"; return 1; }
+}
+
+# One rt at a time may use target/. The lock is the open file 9. rt inherits it, so it lasts as long as rt runs.
+lock() {
+    mkdir -p .built && exec 9>.built/lock || { note "cannot write to the folder .built"; return 1; }
+    flock -n 9 || { note "waiting for another build to end"; flock 9; } || { note "cannot lock .built/lock"; return 1; }
+}
+unlock() { exec 9>&-; }
+
+# Prints the lines of crates.txt of a crate and of all that it uses. The crates stand there lowest first.
+uses() { # CRATE
+    local lines wanted=" $1 " i
+    mapfile -t lines <crates.txt || return 1
+    for ((i = ${#lines[@]} - 1; i >= 0; i--)); do
+        [[ $wanted == *" ${lines[i]%%:*} "* ]] || continue
+        wanted+="${lines[i]#*:} "
+        printf '%s\n' "${lines[i]}"
+    done
+}
+
+# Prints a hash of the sources that a crate is built from: its own and those of the crates that it uses.
+sources() ( # CRATE
+    LC_ALL=C
+    set -o pipefail
+    shopt -s globstar nullglob dotglob
+    used=$(uses "$1") && files=()
+    while IFS=: read -r crate _; do
+        for file in crates/"$crate"/{src,specs,proofs}/**; do
+            [[ ! -f $file ]] || files+=("$file")
+        done
+    done <<<"$used"
+    ((${#files[@]} > 0)) && { printf '%s\n' "$used" && sha256sum -- "${files[@]}"; } | sha256sum
+)
+
+# Whether FILE was built from these sources. Where there is a kit, it has to be the one that built it.
+is_fresh() { # FILE SOURCES
+    local built kit
+    { read -r built && read -r kit; } 2>/dev/null <".built/$1.stamp" || return 1
+    [[ -f .built/$1 && $built == "$2" ]] && { ! has rt || [[ $kit == "$(rt version </dev/null)" ]]; }
+}
+
+# Proves and builds the program NAME as .built/NAME, unless it is fresh. Another COMMAND of rt builds another PRODUCT of the crate, which is FILE there.
+build() { # NAME [COMMAND PRODUCT FILE]
+    local stamp command=${2-check} product=${3-target/bin/$1} file=${4-$1}
+    stamp=$(sources "$1" </dev/null) || stop "cannot read the sources of the crates"
+    is_fresh "$file" "$stamp" && return
+    has_rt && lock || exit 4
+    # While this process waited, another may have built the program, and the sources may have changed.
+    stamp=$(sources "$1" </dev/null) || stop "cannot read the sources of the crates"
+    if ! is_fresh "$file" "$stamp"; then
+        if ! rt "$command" "$1" >".built/$file.log" 2>&1 </dev/null; then
+            cat ".built/$file.log" >&2
+            stop "the program $1 cannot be built (see above)"
+        fi
+        # The stamp goes first and comes last, so that a program never stands beside the stamp of another.
+        rm -f ".built/$file.stamp" && cp "$product" ".built/$file.new" && mv -f ".built/$file.new" ".built/$file" ||
+            stop "the program $1 was proved, and cannot be copied to .built/$file"
+        # Where the sources changed during the build there is no stamp, and the next run builds it again.
+        if [[ $(sources "$1" </dev/null) == "$stamp" ]]; then
+            { printf '%s\n' "$stamp" && rt version </dev/null; } >".built/$file.stamp.new" && mv -f ".built/$file.stamp.new" ".built/$file.stamp"
+        fi
+    fi
+    unlock
+}
+
+# Proves and builds the archive of the calls for C, .built/libconepalhui.a.
+build_library() { build host staticlib target/staticlib/libhost.a libconepalhui.a; }
+
+about_library() {
+    cat <<'END'
+Proves the calls for C and builds their archive, unless it is there and its sources have not changed. It prints two lines,
+'archive FILE' and 'header FILE'. The archive is .built/libconepalhui.a, for x86-64, and the header include/conepalhui.h:
+
+  cc -Iinclude program.c .built/libconepalhui.a
+
+examples/README.md has a whole program. Exit status: 0 built, 4 where it cannot be proved or built.
+END
+}
+
+do_library() {
+    local folder=''
+    (($# == 0)) || stop "library takes no argument"
+    build_library
+    [[ $from -ef . ]] || folder=$PWD/
+    printf '%s\n' "archive ${folder}.built/libconepalhui.a" "header ${folder}include/conepalhui.h" || stop "cannot write to standard output"
+}
+
+# ---- An installed copy
+
+about_install() {
+    cat <<'END'
+Puts the following into the folder DIR, which is made where it is not there. A machine without the Rattle kit can run and link
+it; on Arm that takes Debian's packages qemu-user and libc6-amd64-cross.
+
+  bin/conepalhui                     this command, for check, start, slice, move, run, words and shape
+  lib/conepalhui                     its parts: the programs, and the scripts that run them
+  lib/libconepalhui.a                the calls for C, for x86-64
+  lib/pkgconfig/conepalhui.pc        their flags: cc program.c $(pkg-config --cflags --libs conepalhui)
+  include/conepalhui.h               their header
+  share/man/man1/conepalhui.1        a man page
+  share/doc/conepalhui               docs/OPERATIONS.md and docs/REFUSALS.md
+
+Programs and calls are proved and built first where their sources changed. The folder may be moved as a whole. Exit status: 0
+installed, 4 where something cannot be built or written.
+END
+}
+
+# Prints a text as the lines of a man page.
+as_roff() { sed 's/\\/\\e/g; s/-/\\-/g; s/^[.'"'"']/\\\&&/'; }
+
+# Prints the man page: the list of commands, and what is said of each.
+man_page() { # VERSION
+    local name
+    printf '.TH CONEPALHUI 1 "" "Conepalhui %s"\n.SH NAME\nconepalhui \\- a verified checker of network timetables\n.SH COMMANDS\n.nf\n' "$1"
+    list_commands | sed '1,2d' | as_roff
+    for name in "${commands[@]%%|*}"; do
+        printf '.fi\n.SH %s\n.nf\n' "${name^^}"
+        tell_command "$name" | as_roff
+    done
+    printf '.fi\n'
+}
+
+# Prints what pkg-config has to know. The folder may be moved: the prefix is found from the file.
+package_config() { # VERSION
+    cat <<END
+prefix=\${pcfiledir}/../..
+includedir=\${prefix}/include
+libdir=\${prefix}/lib
+
+Name: conepalhui
+Description: a verified checker of network timetables: start, slice and move
+Version: $1
+Cflags: -I\${includedir}
+Libs: -L\${libdir} -lconepalhui
+END
+}
+
+# Writes standard input to a file of the folder $to, which it replaces whole.
+put() { # FILE [MODE]
+    local file=$to/$1
+    mkdir -p "${file%/*}" && cat >"$file.new" && chmod "${2-644}" "$file.new" && mv -f "$file.new" "$file" || stop "cannot write $file"
+}
+
+do_install() {
+    local to=${1-} version name
+    (($# == 1)) && [[ -n $to && $to != -* ]] || stop "install takes a folder: $(usage install)"
+    [[ $to == /* ]] || to=$from/$to
+    build timetable
+    build operator
+    build_library
+    version=$(sed -n 's/^#define CONEPALHUI_VERSION "\(.*\)"$/\1/p' include/conepalhui.h)
+    for name in timetable operator; do put "lib/conepalhui/$name" 755 <".built/$name"; done
+    for name in help run; do put "lib/conepalhui/$name.sh" <"tools/$name.sh"; done
+    sed 's|^parts=tools .*|parts=../lib/conepalhui|' conepalhui | put bin/conepalhui 755
+    put lib/libconepalhui.a <.built/libconepalhui.a
+    package_config "$version" | put lib/pkgconfig/conepalhui.pc
+    put include/conepalhui.h <include/conepalhui.h
+    for name in OPERATIONS REFUSALS; do put "share/doc/conepalhui/$name.md" <"docs/$name.md"; done
+    (is_installed() { true; } && called=conepalhui && . tools/help.sh && man_page "$version") | put share/man/man1/conepalhui.1
+    printf 'installed %s\n' "$to" || stop "cannot write to standard output"
+}

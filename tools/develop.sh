@@ -1,0 +1,174 @@
+# What developers run: the test, the comparison and the benchmark. The command conepalhui reads this file in the repository.
+
+# ---- What a machine has to have
+
+missing=() # Packages of Debian that are missing.
+
+# Notes the package that has a command or a file, where that is missing.
+need() { # COMMAND-OR-FILE PACKAGE
+    has "$1" || missing+=("$2")
+}
+
+# The archive of the calls for C is for x86-64. On Arm it is linked by a compiler for that processor.
+need_c() {
+    need cc gcc
+    need /usr/include/stdio.h libc6-dev
+    if [[ $(uname -m) == aarch64 ]]; then
+        need x86_64-linux-gnu-gcc gcc-x86-64-linux-gnu
+        need "$cross/lib/libc.a" libc6-dev-amd64-cross
+    fi
+}
+
+# Ends where something is missing. No command but the test installs anything.
+stop_if_missing() {
+    ((${#missing[@]} == 0)) || stop "packages are missing, and this installs them: apt-get install ${missing[*]}"
+}
+
+# What the tests take. What is missing is installed where we may: a test that goes without it fails by itself.
+install_missing() {
+    need python3 python3 # A test may be written in it.
+    need_c # tests/host.test compiles the example of a C host,
+    need g++ g++ # and the header as C++.
+    need rustc rustc # The plain checker is written in it.
+    need pkg-config pkg-config # tests/install.test links with its flags.
+    case $(uname -m) in
+    x86_64) need strace strace ;; # On Arm the emulator traces system calls itself.
+    aarch64)
+        need qemu-x86_64 qemu-user
+        need "$cross/lib64/ld-linux-x86-64.so.2" libc6-amd64-cross
+        ;;
+    esac
+    ((${#missing[@]} > 0)) || return 0
+    if ((EUID == 0)) && has apt-get; then
+        note "packages are missing, so they are installed: ${missing[*]}"
+        apt-get -q update >&2
+        DEBIAN_FRONTEND=noninteractive apt-get -q -y --no-install-recommends install "${missing[@]}" >&2
+    else
+        note "packages are missing, and are not installed: ${missing[*]}"
+    fi
+}
+
+# ---- The test. Each of these adds to $passed and $failed, which belong to do_test.
+
+# Makes the folder $temp, which is removed at the end.
+make_temp() {
+    temp=$(mktemp -d) || { note "cannot make a temporary folder"; return 1; }
+    trap 'rm -rf -- "$temp"' EXIT
+}
+
+# Runs one named test. What it says is shown only where it fails.
+try() { # NAME COMMAND...
+    local name=$1 began=$SECONDS line
+    shift
+    if "$@" >"$temp/said" 2>&1; then
+        passed=$((passed + 1))
+        printf 'ok %s (%d s)\n' "$name" $((SECONDS - began))
+    else
+        failed=$((failed + 1))
+        printf 'FAILED %s\n' "$name"
+        while IFS= read -r line || [[ -n $line ]]; do printf '    %s\n' "$line"; done <"$temp/said"
+    fi
+}
+
+# Runs rt ci and adds its counts. Where rt fails and counts no failure, or counts nothing, that is one failure.
+prove() {
+    local status=none last='' fault=''
+    if lock; then
+        rm -f .built/*.stamp # The tests run the programs that this run proved.
+        rt ci | tee "$temp/ci"
+        status=${PIPESTATUS[0]}
+        unlock
+        last=$(tail -n 1 "$temp/ci")
+    fi
+    if [[ $status == none ]]; then
+        fault="it was not run"
+    elif [[ $last =~ ^([0-9]{1,9})' passed, '([0-9]{1,9})' failed'$ ]]; then
+        local good=$((10#${BASH_REMATCH[1]})) bad=$((10#${BASH_REMATCH[2]}))
+        passed=$((passed + good)) failed=$((failed + bad))
+        if ((bad == 0 && status != 0)); then
+            fault="it ended with status $status although it counted no failure"
+        elif ((bad == 0 && good == 0)); then
+            fault="it counted nothing"
+        fi
+    else
+        fault="it ended with status $status and its last line is no count"
+    fi
+    if [[ -n $fault ]]; then
+        failed=$((failed + 1))
+        printf 'FAILED rt ci: %s\n' "$fault"
+    fi
+}
+
+about_test() {
+    cat <<'END'
+Checks the layout of the sources, proves every crate from nothing with 'rt ci', and runs each tests/*.test.
+The last line is 'N passed, M failed'. The exit status is 0 only where something passed and nothing failed.
+END
+}
+
+do_test() {
+    local passed=0 failed=0 file
+    (($# == 0)) || stop "test takes no argument"
+    exec </dev/null
+    if ! has_rt || ! make_temp; then
+        echo '0 passed, 1 failed'
+        return 1
+    fi
+    install_missing
+    try format rt fmt --check
+    prove
+    for file in tests/*.test; do
+        # Where there is no test the pattern stands for itself.
+        [[ ! -e $file && ! -L $file ]] || try "$file" "./$file"
+    done
+    printf '%d passed, %d failed\n' "$passed" "$failed"
+    ((failed == 0 && passed > 0))
+}
+
+# ---- The comparison and the benchmark
+
+# Sets each named number from arguments of the form --NAME NUMBER.
+numbers_from() { # NAMES ARGUMENT...
+    local names=$1
+    shift
+    while (($# > 0)); do
+        [[ " $names " == *" ${1#--} "* && $1 == --* ]] || stop "unknown argument '$1'"
+        [[ ${2-} =~ ^[0-9]{1,18}$ ]] || stop "$1 takes a number"
+        printf -v "${1#--}" %s "$2"
+        shift 2
+    done
+}
+
+about_compare() {
+    cat <<'END'
+Makes calls for C on plans, cursors and buffers taken by chance, and compares each result and every byte of lent memory
+with a plain checker in Rust. Each wrong checker of compare/wrong.rs has to be caught. --calls N says how many calls
+are made (200,000), and --seed N gives other ones (1). Exit status: 0 only where nothing differs and all are caught.
+END
+}
+
+do_compare() {
+    local calls=200000 seed=1 emulator c_compiler
+    numbers_from 'calls seed' "$@"
+    . compare/build.sh
+    build_comparison
+    compare/judge compare "$seed" "$calls" "${emulator[@]}" .built/compare/driver
+}
+
+about_bench() {
+    cat <<'END'
+Times the check beside a plain checker in Rust, in one process and in turns, on the plans full-line, plant and largest of
+the folder plans: a whole check, and resumed calls with the budgets 0 and 300. --rounds N says how many rounds are made
+(21); medians are given. A ratio above 1 says that the proved code took longer. On Arm both sides run under Debian's
+emulator.
+END
+}
+
+do_bench() {
+    local rounds=21 emulator c_compiler
+    numbers_from rounds "$@"
+    ((rounds > 0)) || stop "--rounds takes a number from 1 up"
+    . compare/build.sh
+    build_benchmark
+    "${emulator[@]}" .built/compare/bench "$rounds" plans/full-line.plan plans/plant.plan plans/largest.plan
+}

@@ -1,0 +1,307 @@
+# What people run: checks of a plan, and checks that are paused and resumed. The command conepalhui reads this file.
+
+# How many seconds to wait for others.
+patience=${CONEPALHUI_WAIT:-10}
+
+# ---- The programs
+
+# Whether a command, or a file by its whole path, is there.
+has() { [[ $1 == /* && -e $1 ]] || command -v "$1" >/dev/null; } # COMMAND-OR-FILE
+
+cross=/usr/x86_64-linux-gnu # Where Debian's C library for x86-64 stands on other processors.
+
+# Finds how programs run here, $runner. They are for x86-64: on Arm they run as rt runs them, under the kit's emulator, and under
+# Debian's where there is no kit.
+find_runner() {
+    local machine tools
+    machine=$(uname -m)
+    runner=()
+    case $machine in
+    x86_64) ;;
+    aarch64)
+        if has rt; then
+            tools=$(rt doc </dev/null) && tools=$(dirname "$(dirname "$tools")")/on/aarch64/toolchain || stop "cannot find the kit"
+            runner=("$tools/bin/qemu-x86_64" "$tools/lib/ld-linux-x86-64.so.2" --library-path "$tools/lib")
+        else
+            has qemu-x86_64 && has "$cross/lib64/ld-linux-x86-64.so.2" ||
+                stop "programs are for x86-64, and its emulator is missing here: apt-get install qemu-user libc6-amd64-cross"
+            runner=(qemu-x86_64 -L "$cross")
+        fi
+        ;;
+    *) stop "programs run on x86_64 and aarch64, and this processor is ${machine:-unknown}" ;;
+    esac
+}
+
+# Makes the program NAME ready to run. In the repository it is proved and built, unless it is fresh.
+prepare() { # NAME
+    find_runner
+    is_installed || build "$1"
+}
+
+# Runs a program.
+run_program() { # NAME ARGUMENT...
+    (
+        for word in "${!QEMU_@}"; do unset "$word"; done
+        exec "${runner[@]}" "$programs/$1" "${@:2}"
+    )
+}
+
+# Takes the last line, and a byte behind it, off what a program wrote, $wrote. It says the exit status that goes with the answer,
+# $status, and what else goes by it, $why. A program always ends with status 0: without this line its answer is not whole.
+take_status() {
+    local rest=${wrote%$'\n.'} line
+    [[ $rest != "$wrote" ]] || return 1
+    line=${rest##*$'\n'}
+    [[ $line =~ ^status' '([0-3])(' '.+)?$ ]] || return 1
+    status=${BASH_REMATCH[1]} why=${BASH_REMATCH[2]# } wrote=${rest%"$line"}
+    [[ -n $wrote ]]
+}
+
+# Asks a program of the plan on standard input, and passes its answer on.
+answer() { # PROGRAM ARGUMENT...
+    local wrote status why
+    prepare "$1"
+    wrote=$(run_program "$@" && printf .) || stop "the program $1 ended with status $?"
+    [[ $wrote != . ]] || stop "the program $1 printed nothing: the plan cannot be read"
+    take_status || stop "the program $1 gave no whole answer"
+    printf '%s' "$wrote" || stop "cannot write to standard output"
+    return $status
+}
+
+# ---- Plans
+
+do_check() {
+    (($# <= 1)) || stop "check takes one plan at most"
+    if (($# == 1)); then
+        [[ $1 == /* ]] || set -- "$from/$1"
+        [[ -f $1 || -p $1 || -c $1 ]] && exec <"$1" || stop "cannot read the plan $1"
+    fi
+    answer timetable
+}
+
+# Asks for something of the plan on standard input.
+of_plan() { # VERB ARGUMENT...
+    (($# == 1)) || stop "$1 takes no argument: the plan comes on standard input"
+    answer operator "$1"
+}
+
+do_words() { of_plan words "$@"; }
+do_shape() { of_plan shape "$@"; }
+
+# ---- The files of an operator: a plan and a cursor
+
+# Prints the real path of a file, which need not be there, and a byte behind it.
+real_path() { # PATH
+    local path=$1
+    [[ $path == /* ]] || path=$from/$path
+    readlink -f -- "$path" && printf .
+}
+
+# Finds the files $plan and $cursor. Links are followed, so that a file is replaced and not the link to it.
+find_files() { # PLAN CURSOR
+    local path
+    [[ -n $1 && -n $2 ]] || stop "the plan and the cursor are paths, and one of them is empty"
+    plan=$(real_path "$1") || stop "cannot find the plan $1"
+    cursor=$(real_path "$2") || stop "cannot find the folder of the cursor $2"
+    plan=${plan%$'\n.'} cursor=${cursor%$'\n.'}
+    for path in "$plan" "$cursor"; do
+        [[ $path != *.conepalhui-new && $path != *.seen ]] || stop "$path has the name of a file that is written beside others: give it another name"
+    done
+    [[ -f $plan ]] || stop "there is no plan file $1"
+    [[ ! -e $cursor || -f $cursor && -w $cursor ]] || stop "the cursor $2 is no file that may be written"
+    [[ -f $cursor.seen || ! -e $cursor.seen && ! -L $cursor.seen ]] || stop "$cursor.seen is no file, and the copy of the plan has this name: give the cursor another name"
+    [[ ! $plan -ef $cursor ]] || stop "the plan $1 and the cursor $2 are one file"
+}
+
+# Holds a folder as an open file, which the program inherits: the folder is free again when both have ended.
+hold_folder() { # FOLDER
+    local file
+    exec {file}<"$1" || stop "cannot read the folder $1"
+    held+=("$file")
+    flock -w "$patience" "$file"
+    case $? in
+    0) ;;
+    1) stop "others have worked in $1 for $patience seconds: nothing was changed, so try again" ;;
+    *) stop "cannot lock the folder $1" ;;
+    esac
+}
+
+# Holds the folders of the plan and the cursor, always in the same order, so that one call at a time works on either.
+hold() {
+    local one=${plan%/*}/ other=${cursor%/*}/ LC_ALL=C
+    [[ $patience =~ ^[0-9]+(\.[0-9]+)?$ ]] || stop "CONEPALHUI_WAIT is a number of seconds, and not '$patience'"
+    [[ $one < $other ]] || local one=$other other=$one
+    held=()
+    hold_folder "$one"
+    [[ $one -ef $other ]] || hold_folder "$other"
+}
+
+# Holds the files that were found. Where their names lead to other files by now, the answer would be read as one about those.
+hold_found() { # PLAN CURSOR
+    local found_plan=$plan found_cursor=$cursor
+    hold
+    find_files "$@"
+    [[ $plan == "$found_plan" ]] || stop "the plan $1 led to $found_plan and leads to $plan now: no answer is given. Give the plan that is meant, and a cursor of its own"
+    [[ $cursor == "$found_cursor" ]] || stop "the cursor $2 led to $found_cursor and leads to $cursor now: no answer is given. Give the cursor that is meant"
+}
+
+release() {
+    local file
+    for file in "${held[@]}"; do exec {file}<&-; done
+}
+
+# Asks the program operator. Its answer is $wrote, the exit status that goes with it $status, and $why says what else goes by it. What it makes is as
+# private as the plan, and its owner may read and write it. What it says on standard error is passed on, and $complained is whether that was anything.
+consult() { # VERB WORD...
+    local mode pipe line ended
+    mode=$(stat -c %a -- "$plan") && umask "$(printf %o $((~(0$mode | 0600) & 0777)))" || stop "cannot read the plan $plan"
+    exec {pipe}<> <(:) || stop "cannot make a pipe"
+    wrote=$(run_program operator "$1" "$plan" "$cursor" "${@:2}" 2>&"$pipe" && printf .)
+    ended=$? complained=0
+    while read -t 0 -u "$pipe"; do
+        IFS= read -r -t 1 -u "$pipe" line # Where the program was killed, the last line may have no end.
+        printf '%s\n' "$line" >&2
+        complained=1
+    done
+    exec {pipe}>&-
+    ((ended == 0)) || stop "the program operator ended early: what stands in the files is whole"
+    take_status || stop "there is no answer (see above)"
+}
+
+# Prints a call of this command that can be pasted. A file whose name begins with a dash is no option.
+shown_call() { # VERB PLAN CURSOR WORD...
+    local word
+    printf '%q %s' "$0" "$1"
+    for word in "${@:2:2}"; do
+        [[ $word != -* ]] || word=./$word
+        printf ' %q' "$word"
+    done
+    [[ -z ${*:4} ]] || printf ' %s' "${*:4}"
+}
+
+# Says how to start anew. A file of which the program said that it was left as it is stands in the way, and so may the cursor once it is gone.
+start_anew() { # PLAN CURSOR
+    if ((complained)); then
+        printf 'To check the plan as it is now, from its first place, remove %q by hand, and %q if it is there, unless they are something else of yours. Then: %s' "$cursor" "$cursor.seen" "$(shown_call start "$@")"
+    else
+        printf 'To check the plan as it is now, from its first place: %s' "$(shown_call start "$@" --anew)"
+    fi
+}
+
+# Prints the answer, and after a refusal that asks for it how to go on or to start anew. The files are named as they were given.
+pass_on() { # PLAN CURSOR
+    local leg place revision
+    printf '%s' "$wrote" || stop "cannot write to standard output"
+    case $why in
+    changed) note "this is not the plan that was last seen with this cursor: it was changed outside of our moves, or $cursor.seen was. $(start_anew "$@")" ;;
+    unseen) note "there is no $cursor.seen, so it cannot be told whether the plan was changed. To check the plan as it is now, from its first place, with a cursor of its own: $(shown_call start "$1" "$2-anew")" ;;
+    'begun '*)
+        read -r _ leg place revision <<<"$why"
+        note "the cursor $2 stands at leg $leg, place $place of a check at revision $revision. Nothing was changed." \
+            "Where the plan is still the same, this goes on: $(shown_call run "$@" --budget 300)." \
+            "To drop that and start at the first place: $(shown_call start "$@" --anew)"
+        ;;
+    'cursor 8') note "the cursor is not of this revision: a move was made with another cursor or was cut off, or the plan fell back. $(start_anew "$@")" ;;
+    'cursor 9') note "the cursor is not of this plan. $(start_anew "$@")" ;;
+    'cursor '*) note "the file $2 is no whole cursor. $(complained=1 start_anew "$@")" ;;
+    esac
+    return $status
+}
+
+# One call on a plan and a cursor.
+call() { # VERB PLAN CURSOR WORD...
+    local plan cursor held wrote status why complained
+    prepare operator
+    find_files "$2" "$3"
+    [[ $1 != move || -w $plan ]] || stop "the plan $2 may not be written"
+    hold_found "$2" "$3"
+    consult "$1" "${@:4}"
+    release
+    pass_on "$2" "$3"
+}
+
+do_start() {
+    local word anew='' files=()
+    for word; do
+        case $word in
+        --anew) anew=--anew ;;
+        -*) stop "start has no option $word: $(usage start)" ;;
+        *) files+=("$word") ;;
+        esac
+    done
+    ((${#files[@]} == 2)) || stop "start takes a plan and a cursor: $(usage start)"
+    call start "${files[@]}" ${anew:+"$anew"}
+}
+
+do_slice() {
+    (($# == 3)) || stop "slice takes a plan, a cursor and a budget: $(usage slice)"
+    call slice "$@"
+}
+
+do_move() {
+    (($# == 4)) || stop "move takes a plan, a cursor, a leg and an offset: $(usage move)"
+    call move "$@"
+}
+
+# ---- A run
+
+# The time since the machine was started, in microseconds and exact to a hundredth of a second. It does not jump where the date is set.
+now() {
+    local seconds
+    read -r seconds _ </proc/uptime && printf %s "$((10#${seconds/./}))0000"
+}
+
+# Says on a terminal how far the check is, and how long it takes from here on at the pace since the first answer.
+say_progress() {
+    local passed all left='' seconds
+    [[ -t 2 && $why == 'places '* ]] || return 0
+    read -r _ passed all <<<"$why"
+    if [[ -z $first_passed ]] || ((passed < first_passed)); then
+        first_passed=$passed first_time=$(now)
+    elif ((passed > first_passed)); then
+        seconds=$((($(now) - first_time) * (all - passed) / (passed - first_passed) / 1000000))
+        left=$(printf ', %d:%02d:%02d left' $((seconds / 3600)) $((seconds / 60 % 60)) $((seconds % 60)))
+    fi
+    printf '\rplaces %d of %d, %d %%%s\033[K' "$passed" "$all" $((all == 0 ? 100 : passed * 100 / all)) "$left" >&2
+}
+
+# Sleeps until the places of one slice are due at the rate.
+keep_pace() { # BEGAN BUDGET RATE
+    local rest=$(($1 + $2 * 1000000 / $3 + 10000 - $(now))) # It may have begun a hundredth of a second later.
+    ((rest <= 0)) || sleep "$((rest / 1000000)).$(printf %06d $((rest % 1000000)))"
+}
+
+# A number from 1 on, as it is asked for by run.
+is_positive() { [[ $1 =~ ^0*([1-9][0-9]{0,9})$ ]] && ((BASH_REMATCH[1] <= 4294967295)); } # TEXT
+
+do_run() {
+    local budget='' rate='' files=() began first_passed='' first_time
+    local plan cursor held wrote status why complained verb=()
+    while (($# > 0)); do
+        case $1 in
+        --budget | --rate)
+            (($# > 1)) && is_positive "$2" || stop "$1 takes a number from 1 to 4294967295"
+            local "${1#--}=${BASH_REMATCH[1]}"
+            shift 2
+            ;;
+        -*) stop "run has no option $1: $(usage run)" ;;
+        *) files+=("$1") && shift ;;
+        esac
+    done
+    ((${#files[@]} == 2)) && [[ -n $budget ]] || stop "run takes a plan, a cursor and a budget: $(usage run)"
+    prepare operator
+    find_files "${files[@]}"
+    while :; do
+        began=$(now) || stop "cannot read /proc/uptime"
+        hold_found "${files[@]}"
+        if [[ -e $cursor ]]; then verb=(slice "$budget"); else verb=(start); fi
+        consult "${verb[@]}"
+        release
+        [[ $verb != start || $status != 0 ]] || continue
+        ((status == 3)) || break
+        say_progress
+        [[ -z $rate ]] || keep_pace "$began" "$budget" "$rate"
+    done
+    [[ -z $first_passed ]] || printf '\n' >&2
+    pass_on "${files[@]}"
+}
