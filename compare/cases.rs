@@ -3,7 +3,7 @@
 use crate::calls::{answer, Answer, Call, Kind};
 use crate::chance::Chance;
 use crate::check::{begin, next, places_before, places_of, Checker, Plain};
-use crate::damage::{any_bytes, bend_route, damage_bytes, damage_table, double_links, shift_legs};
+use crate::damage::{any_bytes, bend_route, damage_bytes, damage_table, double_links, routes, shift_legs};
 use crate::drafts::{beyond, large, medium, one_link, plan_a, row, small, to_an_edge};
 use crate::format::{cursor_bytes, encoded, is_whole, plan_bytes, Cursor, Plan};
 use crate::paper::{CURSOR_BYTES, GRANTED, MORE, NOTHING_VIOLATED, REFUSED, VIOLATED};
@@ -326,9 +326,10 @@ impl Batch {
     }
 
     fn damaged_table(&mut self) {
-        let plan = match self.chance.below(5) {
+        let plan = match self.chance.below(6) {
             0 => medium(&mut self.chance),
             1 => row(&mut self.chance),
+            2 => routes(&mut self.chance),
             _ => small(&mut self.chance),
         };
         for _ in 0..8 {

@@ -10,7 +10,7 @@
 //!   slice PLAN CURSOR BUDGET        nothing violated|paused|violated REVISION LEG PLACE steps STEPS [RULE]
 //!   move PLAN CURSOR LEG OFFSET     granted REVISION LEG PLACE, and in a second line the new table
 //!   places LEGS                     how many places there are
-//!   word PLAN stream 0 deadline     which word of the table this is; also word PLAN revision
+//!   word PLAN stream 0 octets       which word of the table this is; also word PLAN revision
 //!   plan SEED STREAMS               a table in which nothing is violated, of so many streams or fewer
 //!
 //! PLAN and CURSOR are bytes, x0AFF or @FILE, or words, w0,2,2. Each may be refused: refused NUMBER AT.

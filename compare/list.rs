@@ -1,6 +1,6 @@
 //! The list of cases (crates/cases/list), spelled out for the program that makes the calls.
 //!
-//!   # TEXT                           printed as it stands; other lines that begin with # say something of the list
+//!   # TEXT                           printed as it stands; a line that begins with ## says something of the list
 //!   let NAME = PLAN                  a name for a plan
 //!   VERB NUMBERS [from CURSOR] [of PLAN]
 //!

@@ -4,9 +4,9 @@
 use crate::check::{self, begin, next, packed, places_before, places_of, rule_at, Bent, Checker, Plain, Sliced, RIGHT};
 use crate::format::{self, plan_bytes, refused, table_words, Cursor, Link, Numbers, Outcome, Plan, Refusal, Stream};
 use crate::paper::{
-    Limits, ABOVE_LIMIT, BAD_FORM, CURSOR_BYTES, DEADLINE, ENDS_EARLY, HEADER_WORDS, HOP, LAST_REVISION, LEFT_OVER,
-    LEG_WRONG, LIMITS, LINK_RANGE, LINK_TWICE, MORE, NOTHING_VIOLATED, NO_PLACE, NO_ROOM, NUMBER_BYTES, OVERLAP,
-    OVERLAPS, PAUSED, PREAMBLE, REFUSED, RULES, STREAM_WRONG, VIOLATED,
+    Limits, ABOVE_LIMIT, BAD_FORM, CURSOR_BYTES, DEADLINE, ENDS_EARLY, GROUP_BITS, HEADER_WORDS, HOP, LAST_REVISION,
+    LEFT_OVER, LEG_WRONG, LIMITS, LINK_RANGE, LINK_TWICE, MORE, NOTHING_VIOLATED, NO_PLACE, NO_ROOM, NUMBER_BYTES,
+    OVERLAP, OVERLAPS, PAUSED, PREAMBLE, REFUSED, RULES, STREAM_WRONG, VIOLATED, WINDOW,
 };
 use crate::rules::{arrival, divisor, sent, Sent};
 use crate::shape;
@@ -114,7 +114,7 @@ pub fn readers() -> Vec<Wrong> {
             return right;
         }
         let low = bytes[start..start + groups].iter().rev();
-        Ok((low.fold(0, |value, byte| value << 7 | u32::from(byte & !MORE)), start + groups + 1))
+        Ok((low.fold(0, |value, byte| value << GROUP_BITS | u32::from(byte & !MORE)), start + groups + 1))
     };
     let twelve_at_end: fn(&Bent, &[u8], usize) -> _ = |c, bytes, start| {
         format::number(c, bytes, start).map_err(|refusal| match refusal.number {
@@ -469,8 +469,8 @@ fn of_the_order() -> Vec<Wrong> {
         wrong("a place too many for each leg", |c| {
             c.places = |_, legs| legs * (legs + 1) / 2 + u64::from(OVERLAPS) * legs
         }),
-        wrong("window and hop exchanged in name", |c| c.rules = [RULES[1], RULES[0], RULES[2], RULES[3]]),
-        wrong("hop and deadline exchanged in name", |c| c.rules = [RULES[0], RULES[2], RULES[1], RULES[3]]),
+        wrong("window and hop exchanged in name", |c| c.rules.swap(WINDOW, HOP)),
+        wrong("hop and deadline exchanged in name", |c| c.rules.swap(HOP, DEADLINE)),
     ]
 }
 

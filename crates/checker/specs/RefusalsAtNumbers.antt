@@ -1,21 +1,16 @@
 -- The refusals 8 to 11 at numbers, most of them where a later one is due too.
 use Prim.Native.Nat.{ℕ}
-use mathlib.Core.List.{List}
 use Rattle.table.specs.Records.{moveTo}
-use Rattle.table.specs.PlanA.{planWith}
+use Rattle.table.specs.PlanA.{planAOf}
 use Rattle.shape.specs.RefusalsAtNumbers.{wrongLeg}
 use Rattle.files.specs.declared.Cursor.{Cursor}
 use Rattle.checker.specs.Cursors.{CursorFault}
 use Rattle.checker.specs.Moves.{MoveFault}
 
--- Plan A of a revision. It has the legs 0, 1 and 2, and leg 0 has the places 0, 1 and 2.
-abbrev pub planAOf : ℕ → List ℕ
-planAOf revision = planWith (record { revision = revision; rate-1 = 8; propagation-1 = 500; period-0 = 100000; deadline-0 = 2352; period-1 = 150000; deadline-1 = 2000; octets-1 = 64; offset-0 = 0; offset-1 = 1176; offset-2 = 0 })
-
 abbrev pub cursorAt : ℕ → ℕ → ℕ → Cursor
 cursorAt revision leg place = record { revision = revision; leg = leg; place = place }
 
--- A cursor: 7 before 8, 8 before 9; 9 past the places of leg 0, past the end, and past the legs.
+-- Plan A has the legs 0, 1 and 2, and leg 0 has the places 0, 1 and 2. A cursor: 7 before 8, 8 before 9; 9 past the places of leg 0, past the end, and past the legs.
 pub record CursorRefusalsAtNumbers : Type 0 where
   pub table : CursorFault wrongLeg (cursorAt 6 0 3) 7 1
   pub stale : CursorFault (planAOf 7) (cursorAt 6 0 3) 8 0

@@ -8,8 +8,7 @@ use native.Mathlib.Omega.{arith}
 use Rattle.numbers.specs.Number.{maxWord}
 use Rattle.table.specs.Records.{moved}
 use Rattle.table.specs.declared.Move.{Move}
-use Rattle.table.specs.PlanA.{planWith}
-use Rattle.table.proofs.MovedPlans.{revisedA}
+use Rattle.table.specs.PlanA.{planWith, revisedA}
 use Rattle.shape.specs.Shape.{WellFormedTable}
 use Rattle.shape.proofs.AtNumbers.{plan-a-in-range, plans-are-well-formed}
 use Rattle.files.specs.declared.Cursor.{Cursor}

@@ -60,7 +60,7 @@ slice-results t c budget (answer.Refused k p d) a z s e =
 
 move-results : (t : List ℕ) (c : Cursor) (mv : Move) (g : Grant) (u : List ℕ) (m : Lent) (a : Answer) (m′ : Lent)
     → Sized t → Moves t c mv g u → AfterMove g u m a m′ → (a .result ≡ 0) ⊎ IsRefusal (a .result)
-move-results t c mv (grant.Granted d) u m a m′ z s (inl r) = inr (for-room a (r .number) (r .at) (r .answer) (r .fault .number))
+move-results t c mv (grant.Granted d) u m a m′ z s (inl r) = inr (for-room a (r .number) (r .at) (r .answer) (r .fault .0))
 move-results t c mv (grant.Granted d) u m a m′ z s (inr x) = inl (ap resultAlone (x .1 .answer))
 move-results t c mv (grant.Refused k p d) u m a m′ z s x =
     let r = move-refused t c mv k p z (s .0) in inr (refused a k p (x .0) (r .0) (omega (arith, r .1)))
@@ -68,7 +68,7 @@ move-results t c mv (grant.Refused k p d) u m a m′ z s x =
 -- The calls on bytes.
 start-these : (plan out : List ℕ) (a : Answer) (out′ : List ℕ) → HostStarts plan out a out′ → (a .result ≡ 0) ⊎ IsRefusal (a .result)
 start-these plan out a out′ (inl r) = inr (of-the-plan a (r .number) (r .at) (r .answer) (plan-refused plan (r .number) (r .at) (r .fault)))
-start-these plan out a out′ (inr (t, f, inl r)) = inr (for-room a (r .number) (r .at) (r .answer) (r .fault .number))
+start-these plan out a out′ (inr (t, f, inl r)) = inr (for-room a (r .number) (r .at) (r .answer) (r .fault .0))
 start-these plan out a out′ (inr (t, f, inr x)) = let s = x .1 in start-results t (placeCount t) (s .given) a (f .complete) (s .starts) (s .answer)
 
 slice-these : (plan cursor : List ℕ) (budget : ℕ) (out : List ℕ) (a : Answer) (out′ : List ℕ)
@@ -76,7 +76,7 @@ slice-these : (plan cursor : List ℕ) (budget : ℕ) (out : List ℕ) (a : Answ
 slice-these plan cursor budget out a out′ (inl r) = inr (of-the-plan a (r .number) (r .at) (r .answer) (plan-refused plan (r .number) (r .at) (r .fault)))
 slice-these plan cursor budget out a out′ (inr (t, f, inl r)) =
     inr (of-the-plan a (r .number) (r .at) (r .answer) (inr (cursor-refused cursor (r .number) (r .at) (r .fault))))
-slice-these plan cursor budget out a out′ (inr (t, f, inr (c, g, inl r))) = inr (for-room a (r .number) (r .at) (r .answer) (r .fault .number))
+slice-these plan cursor budget out a out′ (inr (t, f, inr (c, g, inl r))) = inr (for-room a (r .number) (r .at) (r .answer) (r .fault .0))
 slice-these plan cursor budget out a out′ (inr (t, f, inr (c, g, inr x))) =
     let s = x .1 in slice-results t c budget (s .given) a (f .complete) (s .slices) (s .answer)
 
@@ -85,7 +85,7 @@ move-these : (plan cursor : List ℕ) (mv : Move) (m : Lent) (a : Answer) (m′ 
 move-these plan cursor mv m a m′ (inl r) = inr (of-the-plan a (r .number) (r .at) (r .answer) (plan-refused plan (r .number) (r .at) (r .fault)))
 move-these plan cursor mv m a m′ (inr (t, f, inl r)) =
     inr (of-the-plan a (r .number) (r .at) (r .answer) (inr (cursor-refused cursor (r .number) (r .at) (r .fault))))
-move-these plan cursor mv m a m′ (inr (t, f, inr (c, g, inl r))) = inr (for-room a (r .number) (r .at) (r .answer) (r .fault .number))
+move-these plan cursor mv m a m′ (inr (t, f, inr (c, g, inl r))) = inr (for-room a (r .number) (r .at) (r .answer) (r .fault .0))
 move-these plan cursor mv m a m′ (inr (t, f, inr (c, g, inr x))) =
     let s = x .1 in move-results t c mv (s .given) (s .table) m a m′ (f .complete) (s .moves) (s .after)
 

@@ -8,8 +8,8 @@ use native.Mathlib.Omega.{arith}
 use Rattle.basics.proofs.Splits.{lt-or-ge}
 use Rattle.table.specs.Layout.{maxLegs}
 use Rattle.rules.specs.Places.{ownPlaces, overlapPlace, placesOf, PlaceHolds, JudgedTold}
-use Rattle.rules.specs.declared.Asked.the-variants as asked
 use Rattle.rules.specs.Steps.{LegIn}
+use Rattle.rules.specs.declared.Asked.the-variants as asked
 use Rattle.rules.specs.declared.Judged.{Judged}
 use Rattle.rules.specs.declared.Judged.the-variants as judged
 use Rattle.rules.specs.declared.Rule.{Rule}
@@ -69,7 +69,7 @@ module _ {t : List ℕ} {a p own limit : ℕ} {told : LegTold} where
   own-kept e l h m = record { more = h; held = subst (LegHolds t a p) (l .is-right (omega arith)) (subst (ToldOfLeg t a p own) e m) }
 
 -- The places of the leg alone, and those of its overlaps from the leg on that p stands for.
-own-and-overlaps : {t : List ℕ} {a p n m limit : ℕ} → n ≡ p - ownPlaces → OwnKept t a p limit → Clear t a n m → LegHolds t a p (ownPlaces + m)
+own-and-overlaps : {t : List ℕ} {a p n m limit : ℕ} → n ≡ p - ownPlaces → OwnKept t a p limit → Clear t a n m → LegHolds t a p (overlapPlace m)
 own-and-overlaps {t} {a} d own clear s l h =
     ⊎-elim
     (λ (k : s < ownPlaces). own .held s l k)
@@ -82,17 +82,17 @@ module _ {t : List ℕ} {a p n limit : ℕ} {met : Found} (d : n ≡ p - ownPlac
   pub none-met : met ≡ found.Nowhere → ToldOfMeeting t a n (limit - ownPlaces) met → LegHolds t a p limit
   none-met e m s l h = own-and-overlaps d own (subst (ToldOfMeeting t a n (limit - ownPlaces)) e m) s l (omega (arith, own .more))
 
-  pub met-is-broken : {b q : ℕ} → met ≡ found.At b → q ≡ overlapPlace b → ToldOfMeeting t a n (limit - ownPlaces) met → FirstBroken t a p limit q rule.Overlap
-  met-is-broken {b} {q} e o m =
+  pub met-is-broken : {b q : ℕ} → met ≡ found.At b → ToldOfMeeting t a n (limit - ownPlaces) met → q ≡ overlapPlace b → FirstBroken t a p limit q rule.Overlap
+  met-is-broken {b} e m at =
       let x : FirstMet t a n (limit - ownPlaces) b = subst (ToldOfMeeting t a n (limit - ownPlaces)) e m in
-      let y : FirstBroken t a p limit (overlapPlace b) rule.Overlap = record {
+      rw at
+      (record {
         from = omega (arith, x .from);
         below = omega (arith, x .below, own .more);
-        before = λ s l h. own-and-overlaps d own (x .before) s l (omega arith);
+        before = own-and-overlaps d own (x .before);
         broken = λ h. x .meets (asked-holds t a (asked.Overlap b) h);
         rule = place-rule (asked.Overlap b);
-      } in
-      subst (λ (z : ℕ). FirstBroken t a p limit z rule.Overlap) (sym o) y
+      })
 
 -- A leg that is met comes before the leg itself.
 pub record Met : Type 0 where

@@ -2,8 +2,7 @@
 use Prim.Native.Nat.{ℕ, zero, suc, _+_, _≤_, _<_}
 use mathlib.Core.Path.{_≡_, refl}
 use native.Mathlib.Omega.{arith}
-use Rattle.table.specs.PlanA.{PlanNumbers, planWith}
-use Rattle.table.proofs.MovedPlans.{revisedA}
+use Rattle.table.specs.PlanA.{PlanNumbers, planWith, revisedA}
 use Rattle.shape.proofs.AtNumbers.{plan-a-in-range}
 use Rattle.overlap.proofs.Law.{shared-instant}
 use Rattle.overlap.proofs.AtNumbers.{overlap-at-numbers}
