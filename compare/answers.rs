@@ -25,7 +25,11 @@ fn cursor_told(cursor: Cursor) -> String {
 
 /// Words of a lent buffer on one line.
 fn row(words: &[u32]) -> String {
-    if words.is_empty() { "none\n".to_string() } else { joined(words) + "\n" }
+    if words.is_empty() {
+        "none\n".to_string()
+    } else {
+        joined(words) + "\n"
+    }
 }
 
 /// What was written into a marked buffer of this length.
@@ -209,7 +213,9 @@ impl Calls {
             ("host-move", [leg, offset, _, _]) => self.host_move(Move { leg: *leg, offset: *offset }, room(2), room(3)),
             ("digits", []) => digits(&self.saved),
             ("same", []) => yes(self.plan == self.saved),
-            ("known", []) => yes(seen(&self.saved).map_or(false, |(first, other)| first == self.plan || other == self.plan)),
+            ("known", []) => {
+                yes(seen(&self.saved).map_or(false, |(first, other)| first == self.plan || other == self.plan))
+            }
             ("copy", []) => yes(seen(&self.saved).map_or(false, |(first, other)| {
                 let is_plan = |file: &[u8]| Plain.read_plan(file).is_ok();
                 is_plan(first) && (other.is_empty() || is_plan(other))
@@ -220,7 +226,11 @@ impl Calls {
 }
 
 fn yes(holds: bool) -> String {
-    if holds { "yes\n".to_string() } else { "no\n".to_string() }
+    if holds {
+        "yes\n".to_string()
+    } else {
+        "no\n".to_string()
+    }
 }
 
 /// A number as a person types it: digits and nothing else.
@@ -231,7 +241,8 @@ fn digits(text: &[u8]) -> String {
     if let Some(at) = text.iter().position(|byte| !byte.is_ascii_digit()) {
         return format!("no digit at {}\n", at);
     }
-    let value = text.iter().fold(0u128, |value, digit| (value * 10 + u128::from(digit - b'0')).min(u128::from(u64::MAX)));
+    let value =
+        text.iter().fold(0u128, |value, digit| (value * 10 + u128::from(digit - b'0')).min(u128::from(u64::MAX)));
     match u32::try_from(value) {
         Ok(value) => format!("value {}\n", value),
         Err(_) => "too large\n".to_string(),
@@ -242,7 +253,11 @@ fn digits(text: &[u8]) -> String {
 fn seen(bytes: &[u8]) -> Option<(&[u8], &[u8])> {
     let (size, next) = Plain.number(bytes, 0).ok()?;
     let plans = &bytes[next..];
-    if plans.len() < size as usize { None } else { Some(plans.split_at(size as usize)) }
+    if plans.len() < size as usize {
+        None
+    } else {
+        Some(plans.split_at(size as usize))
+    }
 }
 
 /// What the program prints for these lines.
