@@ -2,7 +2,10 @@
 
 use crate::calls::{answer, receive, send, send_flush, Answer, Call, Kind};
 use crate::cases::{batch, Case, BATCH};
-use crate::paper::{GRANTED, PAUSED, REFUSED, RULES};
+use crate::paper::{
+    ABOVE_LIMIT, BAD_FORM, ENDS_EARLY, GRANTED, LAST_REVISION, LEFT_OVER, LEG_WRONG, LINK_RANGE, LINK_TWICE, NO_LEG,
+    NO_PLACE, NO_ROOM, PAUSED, REFUSED, RULES, STALE, STREAM_WRONG,
+};
 use crate::wrong::{all, given, Wrong};
 use std::collections::BTreeMap;
 use std::io::{BufReader, BufWriter};
@@ -212,10 +215,12 @@ fn spoilers_at_large(command: &[String]) -> Vec<&'static str> {
 /// Gives each result that a call can have and that was never seen. From a file, refusals 1 and 3 cannot come.
 fn unseen(seen: &BTreeMap<(Kind, u32), u64>) -> Vec<(Kind, u32)> {
     let refusals = |numbers: &[u32]| numbers.iter().map(|number| REFUSED + number).collect::<Vec<_>>();
-    let start = [vec![GRANTED], refusals(&[2, 4, 5, 6, 7, 12, 13, 14, 15])].concat();
+    let of_shape = [LINK_RANGE, LINK_TWICE, STREAM_WRONG, LEG_WRONG];
+    let of_files = [ABOVE_LIMIT, ENDS_EARLY, BAD_FORM, LEFT_OVER, NO_ROOM];
+    let start = [vec![GRANTED], refusals(&of_shape), refusals(&of_files)].concat();
     let violated = RULES.iter().map(|rule| rule.result).collect();
-    let slice = [start.clone(), vec![PAUSED], violated, refusals(&[8, 9])].concat();
-    let moves = [start.clone(), refusals(&[8, 9, 10, 11])].concat();
+    let slice = [start.clone(), vec![PAUSED], violated, refusals(&[STALE, NO_PLACE])].concat();
+    let moves = [start.clone(), refusals(&[STALE, NO_PLACE, NO_LEG, LAST_REVISION])].concat();
     let all = [(Kind::Slice, &slice), (Kind::SliceFull, &slice), (Kind::Start, &start), (Kind::Move, &moves)];
     let each = all.iter().flat_map(|(kind, results)| results.iter().map(move |&result| (*kind, result)));
     each.filter(|one| !seen.contains_key(one)).collect()

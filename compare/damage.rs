@@ -1,7 +1,7 @@
 //! Tables and byte strings that are damaged in some way.
 
 use crate::chance::Chance;
-use crate::format::{encoded, Link, Plan};
+use crate::format::{encoded, Leg, Link, Plan, Stream};
 use crate::paper::{HEADER_WORDS, LEG_WORDS, LIMITS, LINK_WORDS, MORE, STREAM_WORDS};
 
 /// The words of a record of each part.
@@ -138,6 +138,42 @@ pub fn bend_route(chance: &mut Chance, plan: &mut Plan) {
     let back = plan.links.iter().position(|link| link.from == from(leg) && met.contains(&link.to));
     let any = chance.below(plan.links.len());
     plan.legs[leg].link = if chance.one_in(4) { any } else { back.unwrap_or(any) } as u32;
+}
+
+/// Links between all of some nodes, and streams over them. A route may come back to any of its nodes, or have a link that
+/// begins elsewhere.
+pub fn routes(chance: &mut Chance) -> Plan {
+    let nodes = [0, 1, 2, 255, 256, 257, 32_768, 4_660, LIMITS.node - 1, LIMITS.node];
+    let ends: Vec<(u32, u32)> = nodes
+        .iter()
+        .flat_map(|&from| nodes.iter().map(move |&to| (from, to)))
+        .filter(|(from, to)| from != to)
+        .collect();
+    let link = |&(from, to): &(u32, u32)| Link { from, to, ns_per_octet: LIMITS.rates[0], propagation: 500 };
+    let links = ends.iter().map(link).collect();
+    let mut plan = Plan { revision: 7, precision: 100, links, streams: Vec::new(), legs: Vec::new() };
+    for stream in 0..chance.from_to(1, 3) {
+        let length = 1 + chance.below((LIMITS.route.1 as usize).min(nodes.len() - 1));
+        let mut way = nodes;
+        (1..way.len()).rev().for_each(|at| way.swap(at, chance.below(at + 1)));
+        let fault = chance.below(4);
+        if fault == 0 && length > 1 {
+            let back = 2 + chance.below(length - 1);
+            way[back] = way[chance.below(back - 1)];
+        }
+        let mut route: Vec<(u32, u32)> = (0..length).map(|hop| (way[hop], way[hop + 1])).collect();
+        if fault == 1 {
+            route[chance.below(length)] = chance.of(&ends);
+        }
+        let (first_leg, leg_count) = (plan.legs.len() as u32, length as u32);
+        plan.streams.push(Stream { period: 100_000, deadline: 50_000, octets: LIMITS.octets.0, first_leg, leg_count });
+        for hop in route {
+            // Where a route comes back to the node that it would leave, it takes any link.
+            let link = ends.iter().position(|&other| other == hop).unwrap_or(0) as u32;
+            plan.legs.push(Leg { stream, link, offset: 0 });
+        }
+    }
+    plan
 }
 
 /// Damages a byte string once.

@@ -2,10 +2,10 @@
 
 use crate::chance::Chance;
 use crate::check::{Checker, Plain};
-use crate::damage::{any_bytes, bend_route, damage_bytes, damage_table, double_links, each_edge, shift_legs};
+use crate::damage::{any_bytes, bend_route, damage_bytes, damage_table, double_links, each_edge, routes, shift_legs};
 use crate::drafts::{accepted, alike, full_line, large, medium, one_link, plan_a, row, small, to_an_edge};
 use crate::format::{encoded, is_whole, plan_bytes, table_words, Plan};
-use crate::paper::{HEADER_WORDS, LIMITS, MORE, NUMBER_BYTES};
+use crate::paper::{GROUP_BITS, HEADER_WORDS, LIMITS, MORE, NUMBER_BYTES};
 use crate::told::{printed, Verb};
 use crate::wrong::{self, given};
 use std::collections::BTreeSet;
@@ -63,6 +63,7 @@ fn families(verb: Verb, chance: &mut Chance) -> Vec<Family> {
         Verb::Shape => vec![
             of_the_paper(),
             edges_of_tables(chance),
+            (0..600).map(|_| plan_bytes(&routes(chance))).collect(),
             (0..600).map(|_| damaged(chance, |chance| row(chance), 2)).collect(),
             (0..2_000).map(|_| damaged(chance, |chance| small(chance), 3)).collect(),
             (0..400).map(|_| damaged(chance, |chance| medium(chance), 2)).collect(),
@@ -156,7 +157,7 @@ fn forms() -> Family {
     let edges =
         [0, 7, 14, 21, 28].map(|bits| 1u32 << bits).into_iter().flat_map(|edge| [edge - 1, edge]).chain([u32::MAX]);
     let longer = |number: u32, size: usize| -> Vec<u8> {
-        let group = |at: usize| (u64::from(number) >> (7 * at)) as u8 & !MORE;
+        let group = |at: usize| (u64::from(number) >> (GROUP_BITS * at)) as u8 & !MORE;
         (0..size).map(|at| group(at) | if at + 1 < size { MORE } else { 0 }).collect()
     };
     let mut forms: Family = Vec::new();

@@ -10,7 +10,7 @@
 //!   slice PLAN CURSOR BUDGET        nothing violated|paused|violated REVISION LEG PLACE steps STEPS [RULE]
 //!   move PLAN CURSOR LEG OFFSET     granted REVISION LEG PLACE, and in a second line the new table
 //!   places LEGS                     how many places there are
-//!   word PLAN stream 0 deadline     which word of the table this is; also word PLAN revision
+//!   word PLAN stream 0 octets       which word of the table this is; also word PLAN revision
 //!   plan SEED STREAMS               a table in which nothing is violated, of so many streams or fewer
 //!
 //! PLAN and CURSOR are bytes, x0AFF or @FILE, or words, w0,2,2. Each may be refused: refused NUMBER AT.
@@ -42,9 +42,9 @@ mod wrong;
 
 use chance::Chance;
 use check::{begin, Checker, Plain};
-use format::{encoded, index_of, table, write_cursor, write_plan, Cursor, Outcome, Plan, HEADER};
+use format::{encoded, index_of, table, write_cursor, write_plan, Cursor, Move, Outcome, Plan, HEADER};
 use paper::{CURSOR_WORDS, NOTHING_VIOLATED, PAUSED};
-use std::io::{BufRead, Write};
+use std::io::{BufRead, Read, Write};
 use told::{joined, printed, rule_named, Verb};
 
 /// What is wrong with a question.
@@ -138,8 +138,8 @@ fn slice(plan: &Plan, cursor: Cursor, budget: u32) -> String {
     format!("{} {} steps {}{}\n", kind, told(sliced.cursor), sliced.steps, rule)
 }
 
-fn moved(mut plan: Plan, cursor: Cursor, leg: u32, offset: u32) -> Outcome<String> {
-    let cursor = Plain.moved(&mut plan, cursor, leg, offset)?;
+fn moved(mut plan: Plan, cursor: Cursor, wanted: Move) -> Outcome<String> {
+    let cursor = Plain.moved(&mut plan, cursor, wanted)?;
     Ok(format!("granted {}\nw{}\n", told(cursor), joined(&plan.words(), ",")))
 }
 
@@ -175,8 +175,8 @@ fn answer(question: &[&str]) -> Asked<String> {
             opened(&given(1)?, &given(2)?)?.map(|(plan, cursor)| slice(&plan, cursor, budget))
         }
         ["move", _, _, leg, offset] => {
-            let (leg, offset) = (number(leg)?, number(offset)?);
-            opened(&given(1)?, &given(2)?)?.and_then(|(plan, cursor)| moved(plan, cursor, leg, offset))
+            let wanted = Move { leg: number(leg)?, offset: number(offset)? };
+            opened(&given(1)?, &given(2)?)?.and_then(|(plan, cursor)| moved(plan, cursor, wanted))
         }
         ["word", _, name @ ..] => match given(1)?.plan() {
             Ok(plan) => Ok(index(&plan, name)?),
@@ -224,7 +224,9 @@ fn inputs(verb: Verb, seed: u64, most: usize) -> bool {
 }
 
 fn input() -> Asked<String> {
-    std::io::read_to_string(std::io::stdin()).map_err(|fault| fault.to_string())
+    let mut text = String::new();
+    std::io::stdin().read_to_string(&mut text).map_err(|fault| fault.to_string())?;
+    Ok(text)
 }
 
 fn shown_all(told: String) -> bool {

@@ -114,7 +114,7 @@ def parts(words):
 
 
 def index(words, name):
-    """Gives the index of a word by its name, for instance "revision" or "stream 0 deadline"."""
+    """Gives the index of a word by its name, for instance "revision" or "stream 0 octets"."""
     return int(ask("word", told(words), name)[0])
 
 

@@ -61,10 +61,17 @@ def closing(toks, i, where):
 
 
 class Definition:
-    """A definition of specs/: its text, the comment that it is read with, and the fields or constructors that it declares."""
+    """A definition of specs/: its text, the comment that it is read with, and the fields or constructors that it declares. An operator, written
+    _name_, stands between what it takes."""
 
-    def __init__(self, name, kind, comment):
-        self.name, self.kind, self.comment, self.lines, self.members = name, kind, comment, [], []
+    def __init__(self, written, kind, comment):
+        operator = re.fullmatch(r"_(.+)_", written)
+        self.name, self.written, self.operator = operator.group(1) if operator else written, written, bool(operator)
+        self.kind, self.comment, self.lines, self.members = kind, comment, [], []
+
+    def clause(self, line):
+        """Whether a line begins a clause of this function."""
+        return self.kind == "function" and line.split()[int(self.operator):][:1] == [self.name]
 
 
 class Uses:
@@ -132,13 +139,15 @@ class Spec:
                 continue
             if line.startswith("use "):
                 uses.append(line)
+            elif re.fullmatch(r"infix[lr]? \d+ _\S+_", line):
+                continue
             elif line.startswith("--"):
                 comment, fresh = (comment if fresh else []) + [n], True
             elif line.startswith((" ", "}")):
                 if not current:
                     raise Unknown(f"{self.path}:{n + 1}: not in a definition")
                 current.lines.append((n, line))
-            elif current and current.kind == "function" and start and line.startswith(current.name + " "):
+            elif current and current.clause(line):
                 if fresh:
                     raise Unknown(f"{self.path}:{n + 1}: a comment inside a definition")
                 current.lines.append((n, line))
@@ -427,7 +436,7 @@ class Reading:
             if not line.startswith((" ", "}")):
                 parts.append("")
             parts[-1] += line + "\n"
-        signature, clauses = self.marks(tokens(parts[0]), definition.name, path), parts[1:]
+        signature, clauses = self.marks(tokens(parts[0]), definition.written, path), parts[1:]
         if signature[0] != ":" or not clauses:
             raise Unknown(f"{path}: a form that is not known")
         self.sign(":", path)
@@ -436,7 +445,8 @@ class Reading:
             toks = tokens(clause)
             if "=" not in toks or "{" in toks[:toks.index("=")]:
                 raise Unknown(f"{path}: a clause that is not known")
-            left, right = toks[1:toks.index("=")], toks[toks.index("=") + 1:]
+            left, right = toks[:toks.index("=")], toks[toks.index("=") + 1:]
+            left.remove(definition.name)
             self.sign("=", path)
             bound = set()
             for token in left:
@@ -460,7 +470,7 @@ class Reading:
                 raise Unknown(f"{path}: a form that is not known: {line}")
             parts[-1] += line + "\n"
             head = head and not line.rstrip().endswith(" where")
-        first = self.marks(tokens(parts[0]), definition.name, path)
+        first = self.marks(tokens(parts[0]), definition.written, path)
         if head or first[-1] != "where":
             raise Unknown(f"{path}: a form that is not known")
         self.sign("where", path)

@@ -49,14 +49,14 @@ module _ {t : List ℕ} {c : Cursor} (right : CursorRight t c) where
       passed = budget - left + (q - p);
       went = record {
         revision = right .revision;
-        steps = omega (arith, i .steps, i .within, b .from);
-        held = held-on (cursorRank c) a p q (i .held) (b .before) (omega (arith, b .below));
+        steps = omega (arith, i .steps, i .within, b .first .above);
+        held = held-on (cursorRank c) a p q (i .held) (b .first .before) (omega (arith, b .first .inside));
       };
       steps = refl;
-      place = record { leg = h; place = omega (arith, b .below) };
-      broken = b .broken;
+      place = record { leg = h; place = omega (arith, b .first .inside) };
+      broken = b .first .bad;
       rule = b .rule;
-      within = omega (arith, i .within, b .from, b .below);
+      within = omega (arith, i .within, b .first .above, b .first .inside);
     }
 
     pub looking-paused : (limit : ℕ) → a < legCount t → limit ≡ p + left → limit < placesOf a → LegHolds t a p limit

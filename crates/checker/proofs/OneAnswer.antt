@@ -6,28 +6,44 @@ use mathlib.Core.List.{List}
 use mathlib.Core.Logic.{inl, inr, ⊎-elim}
 use native.Mathlib.Nat.{eq-or-lt-of-le}
 use native.Mathlib.Omega.{arith}
+use Rattle.basics.specs.Refusals.{OneFault}
+use Rattle.basics.proofs.Refusals.{unless-one, then-one, called-one}
 use Rattle.basics.proofs.Splits.{lt-or-ge}
-use Rattle.table.specs.Layout.{legCount}
+use Rattle.numbers.specs.Number.{maxWord}
+use Rattle.table.specs.Layout.{revisionOf, legCount}
 use Rattle.table.specs.declared.Move.{Move}
 use Rattle.files.specs.declared.Cursor.{Cursor}
-use Rattle.shape.proofs.OneShape.{well-no-fault, fault-one}
+use Rattle.shape.proofs.OneShape.{shape-one, well-no-fault}
 use Rattle.rules.specs.Places.{ruleAt}
 use Rattle.rules.specs.declared.Rule.{Rule}
 use Rattle.places.specs.Order.{placesBelow, PlaceOrEnd}
 use Rattle.places.proofs.Ranks.{end-rank, place-rank, rank-is-one}
-use Rattle.checker.specs.Cursors.{cursorRank, CursorRight, CursorWrong, CursorFault}
+use Rattle.checker.specs.Cursors.{cursorRank, staleCursor, noPlace, CursorRight, CursorFault, cursorRefusals}
 use Rattle.checker.specs.Slices.{Went, Violates, Ends, Pauses}
-use Rattle.checker.specs.Moves.{AtTheLesser, MoveRight, MoveWrong, MoveFault}
+use Rattle.checker.specs.Moves.{noLeg, cannotRise, AtTheLesser, MoveFault, moveRefusals}
 use Rattle.checker.specs.Theorems.{StartOneAnswer, SliceOneAnswer, MoveOneAnswer}
 use Rattle.checker.specs.declared.Grant.the-variants.{Granted, Refused}
 use Rattle.checker.specs.declared.SliceAnswer.the-variants as answer
+
+-- Each refusal speaks where those before it are clear.
+pub cursor-one : (t : List ℕ) (c : Cursor) → OneFault (cursorRefusals t c)
+cursor-one t c =
+    called-one
+    (then-one (shape-one t) (then-one (unless-one staleCursor _) (unless-one noPlace _)))
+    (λ r. (r .shape, (r .revision, r .stands)))
+
+pub move-one : (t : List ℕ) (c : Cursor) (mv : Move) → OneFault (moveRefusals t c mv)
+move-one t c mv =
+    called-one
+    (then-one (cursor-one t c) (then-one (unless-one noLeg _) (unless-one cannotRise _)))
+    (λ m. (m .cursor, (m .below, m .rises)))
 
 pub start-one-answer : StartOneAnswer
 start-one-answer t (Granted d) (Granted e) p q = ap Granted (p .1 ∙ sym (q .1))
 start-one-answer t (Granted d) (Refused k p e) w f = absurd (well-no-fault (w .0) (f .0))
 start-one-answer t (Refused k p d) (Granted e) f w = absurd (well-no-fault (w .0) (f .0))
 start-one-answer t (Refused k p d) (Refused l q e) f g =
-    let x = fault-one (f .0) (g .0) in
+    let x = shape-one t .one (f .0) (g .0) in
     let x0 = x .0 in
     let x1 = x .1 in
     let y = f .1 ∙ sym (g .1) in
@@ -55,23 +71,7 @@ not-greater a b =
 
 module _ {t : List ℕ} {c : Cursor} where
   pub right-no-fault : {k p : ℕ} → CursorRight t c → CursorFault t c k p → ⊥
-  right-no-fault r (inl f) = well-no-fault (r .shape) f
-  right-no-fault r (inr w) = ⊎-elim (λ s. s .other (r .revision)) (λ l. l .nowhere (r .stands)) (w .cause)
-
-  wrong-one : {k p l q : ℕ} → CursorWrong t c k p → CursorWrong t c l q → (k ≡ l) × (p ≡ q)
-  wrong-one v w = (
-    ⊎-elim
-        (λ s. ⊎-elim (λ u. s .number ∙ sym (u .number)) (λ u. absurd (s .other (u .revision))) (w .cause))
-        (λ s. ⊎-elim (λ u. absurd (u .other (s .revision))) (λ u. s .number ∙ sym (u .number)) (w .cause))
-        (v .cause),
-    v .at ∙ sym (w .at),
-  )
-
-  cursor-fault-one : {k p l q : ℕ} → CursorFault t c k p → CursorFault t c l q → (k ≡ l) × (p ≡ q)
-  cursor-fault-one (inl f) (inl g) = fault-one f g
-  cursor-fault-one (inl f) (inr w) = absurd (well-no-fault (w .shape) f)
-  cursor-fault-one (inr w) (inl f) = absurd (well-no-fault (w .shape) f)
-  cursor-fault-one (inr v) (inr w) = wrong-one v w
+  right-no-fault r f = cursor-one t c .none r f
 
   -- No answer passes a violated place.
   not-past : {b m n : ℕ} {d e : Cursor} {r : Rule} → Went t c d n → Violates t c b e m r → cursorRank e < cursorRank d → ⊥
@@ -134,7 +134,7 @@ slice-one-answer t c b (answer.Refused k p d) (answer.Violated e n s) f w = absu
 slice-one-answer t c b (answer.Refused k p d) (answer.NothingViolated e n) f w = absurd (right-no-fault (w .0) (f .0))
 slice-one-answer t c b (answer.Refused k p d) (answer.Paused e n) f w = absurd (right-no-fault (w .0) (f .0))
 slice-one-answer t c b (answer.Refused k p d) (answer.Refused l q e) f g =
-    let x = cursor-fault-one (f .0) (g .0) in
+    let x = cursor-one t c .one (f .0) (g .0) in
     let x0 = x .0 in
     let x1 = x .1 in
     let y = f .1 ∙ sym (g .1) in
@@ -153,35 +153,18 @@ module _ {t : List ℕ} {c : Cursor} {leg : ℕ} where
   moved-cursor-one {d} {e} r h q a b =
       one-cursor q (lesser-stands r h a) (lesser-stands r h b) (omega (arith, not-greater a b, not-greater b a))
 
-module _ {t : List ℕ} {c : Cursor} {mv : Move} where
-  move-no-fault : {k p : ℕ} {d : Cursor} {u : List ℕ} → MoveRight t c mv d u → MoveFault t c mv k p → ⊥
-  move-no-fault m (inl f) = right-no-fault (m .cursor) f
-  move-no-fault m (inr w) = ⊎-elim (λ n. omega (arith, n .not-below, m .below)) (λ l. omega (arith, l .last, m .rises)) (w .cause)
-
-  move-wrong-one : {k p l q : ℕ} → MoveWrong t c mv k p → MoveWrong t c mv l q → (k ≡ l) × (p ≡ q)
-  move-wrong-one v w = (
-    ⊎-elim
-        (λ s. ⊎-elim (λ u. s .number ∙ sym (u .number)) (λ u. absurd (omega (arith, s .not-below, u .below))) (w .cause))
-        (λ s. ⊎-elim (λ u. absurd (omega (arith, s .below, u .not-below))) (λ u. s .number ∙ sym (u .number)) (w .cause))
-        (v .cause),
-    v .at ∙ sym (w .at),
-  )
-
-  move-fault-one : {k p l q : ℕ} → MoveFault t c mv k p → MoveFault t c mv l q → (k ≡ l) × (p ≡ q)
-  move-fault-one (inl f) (inl g) = cursor-fault-one f g
-  move-fault-one (inl f) (inr w) = absurd (right-no-fault (w .cursor) f)
-  move-fault-one (inr w) (inl f) = absurd (right-no-fault (w .cursor) f)
-  move-fault-one (inr v) (inr w) = move-wrong-one v w
+pub move-no-fault : {t : List ℕ} {c : Cursor} (mv : Move) {k p : ℕ} → CursorRight t c → mv .leg < legCount t → revisionOf t < maxWord → MoveFault t c mv k p → ⊥
+move-no-fault {t} {c} mv r below rises f = move-one t c mv .none (record { cursor = r; below = below; rises = rises }) f
 
 pub move-one-answer : MoveOneAnswer
 move-one-answer t c mv (Granted d) (Granted e) u v p q = (
   ap Granted (moved-cursor-one (p .cursor) (p .below) (p .revision ∙ sym (q .revision)) (p .lesser) (q .lesser)),
   p .table ∙ sym (q .table),
 )
-move-one-answer t c mv (Granted d) (Refused l q e) u v m f = absurd (move-no-fault m (f .0))
-move-one-answer t c mv (Refused k p d) (Granted e) u v f m = absurd (move-no-fault m (f .0))
+move-one-answer t c mv (Granted d) (Refused l q e) u v m f = absurd (move-no-fault mv (m .cursor) (m .below) (m .rises) (f .0))
+move-one-answer t c mv (Refused k p d) (Granted e) u v f m = absurd (move-no-fault mv (m .cursor) (m .below) (m .rises) (f .0))
 move-one-answer t c mv (Refused k p d) (Refused l q e) u v f g =
-    let x = move-fault-one (f .0) (g .0) in
+    let x = move-one t c mv .one (f .0) (g .0) in
     let x0 = x .0 in
     let x1 = x .1 in
     let y = f .1 ∙ sym (g .1) in

@@ -17,11 +17,10 @@ well-formed : (revision : ℕ) → WellFormedTable (planAOf revision)
 well-formed revision = plans-are-well-formed _ (plan-a-in-range revision 0 1176 0)
 
 stale : (revision other leg place : ℕ) → (other ≡ revision → ⊥) → CursorFault (planAOf revision) (cursorAt other leg place) 8 0
-stale revision other leg place h = inr (record { shape = well-formed revision; at = refl; cause = inl (record { number = refl; other = h }) })
+stale revision other leg place h = inr (well-formed revision, inl (refl, refl, h))
 
 lost : (revision leg place : ℕ) → (leg < 3 → placesOf leg ≤ place) → (leg ≡ 3 → 0 < place) → CursorFault (planAOf revision) (cursorAt revision leg place) 9 0
-lost revision leg place f g = inr
-    (record { shape = well-formed revision; at = refl; cause = inr (record { number = refl; revision = refl; nowhere = not-standing (planAOf revision) leg place f g }) })
+lost revision leg place f g = inr (well-formed revision, inr (refl, (refl, refl, not-standing (planAOf revision) leg place f g)))
 
 right : (revision leg place : ℕ) → PlaceOrEnd (planAOf revision) leg place → CursorRight (planAOf revision) (cursorAt revision leg place)
 right revision leg place h = record { shape = well-formed revision; revision = refl; stands = h }
@@ -40,8 +39,6 @@ move-refusals-at-numbers = record {
   table = inl (cursor-refusals-at-numbers .table);
   stale = inl (stale 4294967295 6 0 3 (λ e. omega (arith, e)));
   no-place = inl (lost 4294967295 0 3 (λ h. omega arith) (λ e. omega (arith, e)));
-  no-leg = inr
-      (record { cursor = right 4294967295 0 2 (inl (record { leg = omega arith; place = omega arith })); at = refl; cause = inl (record { number = refl; not-below = omega arith }) });
-  cannot-rise = inr
-      (record { cursor = right 4294967295 3 0 (inr (record { leg = refl; place = refl })); at = refl; cause = inr (record { number = refl; below = omega arith; last = refl }) });
+  no-leg = inr (right 4294967295 0 2 (inl (record { leg = omega arith; place = omega arith })), inl (refl, refl, λ h. omega (arith, h)));
+  cannot-rise = inr (right 4294967295 3 0 (inr (record { leg = refl; place = refl })), inr (omega arith, (refl, refl, λ h. omega (arith, h))));
 }

@@ -2,9 +2,9 @@
 use Prim.Native.Nat.{ℕ}
 use mathlib.Core.Path.{_≡_}
 use mathlib.Core.List.{List}
-use mathlib.Core.Logic.{_⊎_}
+use Rattle.basics.specs.Refusals.{Refusals, unless, _then_, _called_}
 use Rattle.table.specs.Layout.{revisionOf}
-use Rattle.shape.specs.Shape.{WellFormedTable, ShapeFault}
+use Rattle.shape.specs.Shape.{WellFormedTable, shapeRefusals}
 use Rattle.files.specs.declared.Cursor.{Cursor}
 use Rattle.places.specs.Order.{rank, PlaceOrEnd}
 
@@ -25,21 +25,14 @@ staleCursor = 8
 abbrev pub noPlace : ℕ
 noPlace = 9
 
-pub record Stale (t : List ℕ) (c : Cursor) (k : ℕ) : Type 0 where
-  pub number : k ≡ staleCursor
-  pub other : c .revision ≡ revisionOf t → ⊥
+-- The refusals in their order: 1 to 7, then 8, then 9.
+abbrev pub cursorRefusals : List ℕ → Cursor → Refusals
+cursorRefusals t c =
+    shapeRefusals t
+    then unless staleCursor (c .revision ≡ revisionOf t)
+    then unless noPlace (PlaceOrEnd t (c .leg) (c .place))
+    called CursorRight t c
 
-pub record Lost (t : List ℕ) (c : Cursor) (k : ℕ) : Type 0 where
-  pub number : k ≡ noPlace
-  pub revision : c .revision ≡ revisionOf t
-  pub nowhere : PlaceOrEnd t (c .leg) (c .place) → ⊥
-
--- The cursor of a well-formed table is wrong, at 0.
-pub record CursorWrong (t : List ℕ) (c : Cursor) (k p : ℕ) : Type 0 where
-  pub shape : WellFormedTable t
-  pub at : p ≡ 0
-  pub cause : Stale t c k ⊎ Lost t c k
-
--- The first refusal that is due: 1 to 7, then 8, then 9.
+-- The first refusal that is due is k at p.
 abbrev pub CursorFault : List ℕ → Cursor → ℕ → ℕ → Type 0
-CursorFault t c k p = ShapeFault t k p ⊎ CursorWrong t c k p
+CursorFault t c k p = cursorRefusals t c .Fault k p

@@ -3,13 +3,14 @@ use Prim.Native.Nat.{ℕ, _+_, _≤_, _<_}
 use mathlib.Core.Path.{_≡_}
 use mathlib.Core.List.{List}
 use mathlib.Core.Logic.{_⊎_}
+use Rattle.basics.specs.Refusals.{Refusals, unless, _then_, _called_}
 use Rattle.numbers.specs.Number.{maxWord}
 use Rattle.table.specs.Layout.{revisionOf, legCount}
 use Rattle.table.specs.Records.{moved}
 use Rattle.table.specs.declared.Move.{Move}
 use Rattle.files.specs.declared.Cursor.{Cursor}
 use Rattle.places.specs.Order.{rank}
-use Rattle.checker.specs.Cursors.{cursorRank, CursorRight, CursorFault}
+use Rattle.checker.specs.Cursors.{cursorRank, CursorRight, cursorRefusals}
 use Rattle.checker.specs.declared.Grant.{Grant}
 use Rattle.checker.specs.declared.Grant.the-variants as grant
 
@@ -20,24 +21,23 @@ noLeg = 10
 abbrev pub cannotRise : ℕ
 cannotRise = 11
 
-pub record NoLeg (t : List ℕ) (mv : Move) (k : ℕ) : Type 0 where
-  pub number : k ≡ noLeg
-  pub not-below : legCount t ≤ mv .leg
-
-pub record CannotRise (t : List ℕ) (mv : Move) (k : ℕ) : Type 0 where
-  pub number : k ≡ cannotRise
-  pub below : mv .leg < legCount t
-  pub last : revisionOf t ≡ maxWord
-
--- The cursor is right and the move is wrong, at 0.
-pub record MoveWrong (t : List ℕ) (c : Cursor) (mv : Move) (k p : ℕ) : Type 0 where
+-- A move may be made: the cursor is right, the leg is there, and the revision can rise.
+pub record MoveAllowed (t : List ℕ) (c : Cursor) (mv : Move) : Type 0 where
   pub cursor : CursorRight t c
-  pub at : p ≡ 0
-  pub cause : NoLeg t mv k ⊎ CannotRise t mv k
+  pub below : mv .leg < legCount t
+  pub rises : revisionOf t < maxWord
 
--- The first refusal that is due: 1 to 9, then 10, then 11.
+-- The refusals in their order: 1 to 9, then 10, then 11.
+abbrev pub moveRefusals : List ℕ → Cursor → Move → Refusals
+moveRefusals t c mv =
+    cursorRefusals t c
+    then unless noLeg (mv .leg < legCount t)
+    then unless cannotRise (revisionOf t < maxWord)
+    called MoveAllowed t c mv
+
+-- The first refusal that is due is k at p.
 abbrev pub MoveFault : List ℕ → Cursor → Move → ℕ → ℕ → Type 0
-MoveFault t c mv k p = CursorFault t c k p ⊎ MoveWrong t c mv k p
+MoveFault t c mv k p = moveRefusals t c mv .Fault k p
 
 -- The cursor d is at the lesser of the place of c and (leg,0).
 pub record AtTheLesser (c : Cursor) (leg : ℕ) (d : Cursor) : Type 0 where

@@ -2,31 +2,21 @@
 use Prim.Native.Nat.{ℕ, _≤_, _<_}
 use mathlib.Core.Path.{_≡_}
 use mathlib.Core.List.{List}
-use Rattle.numbers.specs.Number.{maxWord}
-use Rattle.table.specs.Layout.{revisionOf, legCount}
+use Rattle.basics.specs.Refusals.{Told}
+use Rattle.basics.specs.declared.Checked.{Checked}
 use Rattle.table.specs.declared.Move.{Move}
 use Rattle.files.specs.declared.Cursor.{Cursor}
 use Rattle.shape.specs.Guarantees.{Guarantees}
-use Rattle.shape.specs.declared.Shape.{Shape}
-use Rattle.shape.specs.declared.Shape.the-variants.{Right, Wrong}
 use Rattle.places.specs.Chains.{Begun, Chained}
-use Rattle.checker.specs.Cursors.{CursorRight, CursorFault}
-use Rattle.checker.specs.Moves.{MoveFault}
+use Rattle.checker.specs.Cursors.{cursorRefusals}
+use Rattle.checker.specs.Moves.{moveRefusals}
 
--- A cursor is right, or the first refusal is due.
-abbrev pub CursorTold : List ℕ → Cursor → Shape → Type 0
-CursorTold t c Right = CursorRight t c
-CursorTold t c (Wrong k p) = CursorFault t c k p
+-- A cursor is right, and a move may be made; or the first refusal is due.
+abbrev pub CursorTold : List ℕ → Cursor → Checked → Type 0
+CursorTold t c a = Told (cursorRefusals t c) a
 
--- A move may be made.
-pub record MoveAllowed (t : List ℕ) (c : Cursor) (mv : Move) : Type 0 where
-  pub cursor : CursorRight t c
-  pub below : mv .leg < legCount t
-  pub rises : revisionOf t < maxWord
-
-abbrev pub MoveTold : List ℕ → Cursor → Move → Shape → Type 0
-MoveTold t c mv Right = MoveAllowed t c mv
-MoveTold t c mv (Wrong k p) = MoveFault t c mv k p
+abbrev pub MoveTold : List ℕ → Cursor → Move → Checked → Type 0
+MoveTold t c mv a = Told (moveRefusals t c mv) a
 
 -- A cursor of a revision: where c stands at a lower leg, and else at (leg,0).
 pub record PulledBack (c : Cursor) (rev leg : ℕ) (d : Cursor) : Type 0 where

@@ -5,9 +5,9 @@ ghost use Rattle.shape.specs.Shape.{WellFormedTable};
 ghost use Rattle.places.specs.Order.{PlaceOrEnd};
 ghost use Rattle.checker.specs.Cursors.{CursorRight};
 ghost use Rattle.checker.specs.Steps.{CursorTold, MoveTold, PulledBack};
+use basics::Checked;
 use basics::Holds;
 use files::Cursor;
-use shape::Shape;
 use table::Move;
 
 pub const STALE_CURSOR: u32 = 8;
@@ -41,53 +41,53 @@ fn place_or_end_told(t: &[u32], a: u32, p: u32) -> Holds
 }
 
 // The refusals 8 and 9, or none, of a well-formed table.
-fn placed_told(t: &[u32], c: Cursor) -> Shape
+fn placed_told(t: &[u32], c: Cursor) -> Checked
     requires { ⌜ WellFormedTable (now t) ⌝ }
     ensures { λ r. ⌜ CursorTold (now (t .entry)) c r ⌝ }
 {
     if c.revision != t[table::REVISION_AT] {
-        return Shape::Wrong(STALE_CURSOR, 0);
+        return Checked::Refused(STALE_CURSOR, 0);
     }
     let told = place_or_end_told(t, c.leg, c.place);
     match told {
-        Holds::Yes => Shape::Right,
-        Holds::No => Shape::Wrong(NO_PLACE, 0),
+        Holds::Yes => Checked::Clear,
+        Holds::No => Checked::Refused(NO_PLACE, 0),
     }
 }
 
 // Internal: the first of the refusals 1 to 9 that is due, or none.
-pub fn judged_cursor(t: &[u32], c: Cursor) -> Shape
+pub fn judged_cursor(t: &[u32], c: Cursor) -> Checked
     ensures { λ r. ⌜ CursorTold (now (t .entry)) c r ⌝ }
 {
     let told = shape::judged_shape(t);
     match told {
-        Shape::Wrong(number, at) => Shape::Wrong(number, at),
-        Shape::Right => placed_told(t, c),
+        Checked::Refused(number, at) => Checked::Refused(number, at),
+        Checked::Clear => placed_told(t, c),
     }
 }
 
 // The refusals 10 and 11, or none, of a right cursor.
-fn allowed_told(t: &[u32], c: Cursor, mv: Move) -> Shape
+fn allowed_told(t: &[u32], c: Cursor, mv: Move) -> Checked
     requires { ⌜ CursorRight (now t) c ⌝ }
     ensures { λ r. ⌜ MoveTold (now (t .entry)) c mv r ⌝ }
 {
     if t[table::LEGS_AT] <= mv.leg {
-        return Shape::Wrong(NO_LEG, 0);
+        return Checked::Refused(NO_LEG, 0);
     }
     if t[table::REVISION_AT] == MAX_REVISION {
-        return Shape::Wrong(CANNOT_RISE, 0);
+        return Checked::Refused(CANNOT_RISE, 0);
     }
-    Shape::Right
+    Checked::Clear
 }
 
 // Internal: the first of the refusals 1 to 11 that is due, or none.
-pub fn judged_move(t: &[u32], c: Cursor, mv: Move) -> Shape
+pub fn judged_move(t: &[u32], c: Cursor, mv: Move) -> Checked
     ensures { λ r. ⌜ MoveTold (now (t .entry)) c mv r ⌝ }
 {
     let told = judged_cursor(t, c);
     match told {
-        Shape::Wrong(number, at) => Shape::Wrong(number, at),
-        Shape::Right => allowed_told(t, c, mv),
+        Checked::Refused(number, at) => Checked::Refused(number, at),
+        Checked::Clear => allowed_told(t, c, mv),
     }
 }
 

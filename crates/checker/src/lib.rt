@@ -1,9 +1,9 @@
 // The check: start, slice and move.
 ghost use Rattle.checker.specs.Slices.{Starts, Slices};
 ghost use Rattle.checker.specs.Moves.{Moves};
+use basics::Checked;
 use files::Cursor;
 use rules::Rule;
-use shape::Shape;
 use table::Move;
 
 pub mod cursors;
@@ -30,7 +30,7 @@ pub fn start(t: &[u32]) -> Grant
 {
     let told = shape::judged_shape(t);
     match told {
-        Shape::Wrong(number, at) => Grant::Refused(
+        Checked::Refused(number, at) => Grant::Refused(
             number,
             at,
             Cursor {
@@ -39,7 +39,7 @@ pub fn start(t: &[u32]) -> Grant
                 place: 0,
             },
         ),
-        Shape::Right => Grant::Granted(Cursor {
+        Checked::Clear => Grant::Granted(Cursor {
             revision: t[table::REVISION_AT],
             leg: 0,
             place: 0,
@@ -53,8 +53,8 @@ pub fn slice(t: &[u32], cursor: Cursor, budget: u32) -> SliceAnswer
 {
     let told = cursors::judged_cursor(t, cursor);
     match told {
-        Shape::Wrong(number, at) => SliceAnswer::Refused(number, at, cursor),
-        Shape::Right => look::looked(t, cursor, budget),
+        Checked::Refused(number, at) => SliceAnswer::Refused(number, at, cursor),
+        Checked::Clear => look::looked(t, cursor, budget),
     }
 }
 
@@ -65,8 +65,8 @@ pub fn move_leg(t: &mut [u32], cursor: Cursor, mv: Move) -> Grant
 {
     let told = cursors::judged_move(t, cursor, mv);
     match told {
-        Shape::Wrong(number, at) => Grant::Refused(number, at, cursor),
-        Shape::Right => {
+        Checked::Refused(number, at) => Grant::Refused(number, at, cursor),
+        Checked::Clear => {
             let revision = t[table::REVISION_AT] + 1;
             table::parts::make_move(t, mv, revision);
             Grant::Granted(cursors::pulled_back(cursor, revision, mv.leg))

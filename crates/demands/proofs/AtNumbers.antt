@@ -69,7 +69,7 @@ goes-on-ahead p b q k l h e le =
 stale-cursor : Slices (moved good (moveTo 2 700)) (at 0 1 2) 5 (answer.Refused 8 0 (at 0 1 2))
 stale-cursor =
     on (at 0 1 2) 5 (answer.Refused 8 0 (at 0 1 2)) (moved-2 (offsetsA 0 1176 576) 700)
-    (inr (record { shape = shape 1 0 1176 700; at = refl; cause = inl (record { number = refl; other = λ e. absurd (omega (arith, e)) }) }), refl)
+    (inr (shape 1 0 1176 700, inl (refl, refl, λ e. absurd (omega (arith, e)))), refl)
 
 -- A table with no record at all.
 no-records : WellFormedTable none
@@ -110,7 +110,7 @@ runs-at-numbers = record {
     good,
     on-good,
     inl refl,
-    (inr (record { cursor = right 0 0 1176 576 1 2 (at-1-2 576); at = refl; cause = inl (record { number = refl; not-below = omega arith }) }), refl, refl),
+    (inr (right 0 0 1176 576 1 2 (at-1-2 576), inl (refl, refl, λ h. omega (arith, h))), refl, refl),
   );
   goes-on = (refl, tt);
   over-stale = (

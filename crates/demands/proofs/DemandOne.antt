@@ -27,7 +27,7 @@ pub refusals-lose-nothing : RefusalsLoseNothing
 refusals-lose-nothing = record {
   write-number = λ x at k p b b′ w. w .kept;
   read-plan = λ s b b′ k p w. w .1;
-  write-plan = λ t b b′ k p w. w .2;
+  write-plan = λ t b b′ k p w. w .1;
   write-cursor = λ c d b b′ k p w. (w .0 .kept, w .1);
   start = λ t d k p w. w .1;
   slice = λ t c d b k p w. w .1;

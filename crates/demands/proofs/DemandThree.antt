@@ -7,7 +7,6 @@ use mathlib.Core.Logic.{_⊎_, inl, inr, ⊎-elim}
 use native.Mathlib.Nat.{eq-or-lt-of-le}
 use native.Mathlib.Omega.{arith}
 use Rattle.basics.proofs.Splits.{lt-or-ge}
-use Rattle.numbers.specs.Number.{maxWord}
 use Rattle.table.specs.Layout.{revisionOf, legCount}
 use Rattle.table.specs.declared.Move.{Move}
 use Rattle.shape.specs.Shape.{WellFormedTable}
@@ -19,8 +18,8 @@ use Rattle.places.specs.Order.{rank, IsPlace, placeCount, HoldFrom}
 use Rattle.places.proofs.Ranks.{place-rank, rank-is-one, order-is-by-leg}
 use Rattle.checker.specs.Cursors.{cursorRank, CursorRight}
 use Rattle.checker.specs.Slices.{startCursor, Starts, Slices, Went}
-use Rattle.checker.specs.Moves.{MoveRight, MoveFault}
-use Rattle.checker.proofs.OneAnswer.{right-no-fault}
+use Rattle.checker.specs.Moves.{MoveRight}
+use Rattle.checker.proofs.OneAnswer.{right-no-fault, move-no-fault}
 use Rattle.checker.specs.declared.Grant.the-variants.{Granted, Refused}
 use Rattle.checker.specs.declared.SliceAnswer.{SliceAnswer}
 use Rattle.checker.specs.declared.SliceAnswer.the-variants as answer
@@ -209,15 +208,10 @@ newest-right (slice c b (answer.Refused k p d) ∷ call ∷ earlier) t (r, out, 
 newest-right (move-leg c mv (Granted d) ∷ call ∷ earlier) t r = renewed (move-leg c mv (Granted d)) (call ∷ earlier) t r tt
 newest-right (move-leg c mv (Refused k p d) ∷ call ∷ earlier) t (u, r, out, m) = newest-right (call ∷ earlier) t (subst (Run (call ∷ earlier)) (sym (m .2)) r)
 
--- What is refused of a right cursor: nothing of a slice, and of a move a leg that is not there or a revision that cannot rise.
-pub move-refused : {t : List ℕ} {c : Cursor} {mv : Move} {k p : ℕ} → CursorRight t c → mv .leg < legCount t → revisionOf t < maxWord → MoveFault t c mv k p → ⊥
-move-refused r below rises (inl f) = right-no-fault r f
-move-refused r below rises (inr w) = ⊎-elim (λ x. omega (arith, x .not-below, below)) (λ x. omega (arith, x .last, rises)) (w .cause)
-
 pub runs-go-on : RunsGoOn
 runs-go-on = record {
   slice = λ calls t latest before b k p d r e s. right-no-fault (subst (NewestRight t) e (newest-right calls t r)) (s .0);
-  move-leg = λ calls t latest before mv k p d u r e below rises m. move-refused (subst (NewestRight t) e (newest-right calls t r)) below rises (m .0);
+  move-leg = λ calls t latest before mv k p d u r e below rises m. move-no-fault mv (subst (NewestRight t) e (newest-right calls t r)) below rises (m .0);
 }
 
 pub runs-keep-shape : RunsKeepShape

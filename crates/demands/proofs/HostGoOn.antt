@@ -27,7 +27,7 @@ use Rattle.checker.specs.declared.Grant.{Grant}
 use Rattle.checker.specs.declared.Grant.the-variants as grant
 use Rattle.checker.specs.declared.SliceAnswer.{SliceAnswer}
 use Rattle.checker.specs.declared.SliceAnswer.the-variants as answer
-use Rattle.checker.proofs.OneAnswer.{right-no-fault}
+use Rattle.checker.proofs.OneAnswer.{right-no-fault, move-no-fault}
 use Rattle.host.specs.Answers.{refusedResult, ruleResult, sliceAnswered, startAnswered, resultAlone}
 use Rattle.host.specs.Calls.{Lent, AfterMove, HostStarts, HostSlices, HostMoves}
 use Rattle.host.specs.declared.Answer.{Answer}
@@ -38,7 +38,7 @@ use Rattle.demands.specs.Runs.{Call, cursorOfAnswer, cursorOf, Run}
 use Rattle.demands.specs.Runs as runs
 use Rattle.demands.specs.HostRuns.{savedIn, HostCall, start, slice, move-leg, bytesLeft, NotRefused}
 use Rattle.demands.specs.DemandThreeForC.{HostGives, HostRunsGoOn, DemandThreeForC}
-use Rattle.demands.proofs.DemandThree.{renewed, move-refused}
+use Rattle.demands.proofs.DemandThree.{renewed}
 use Rattle.demands.proofs.Runs.{run-keeps}
 use Rattle.demands.proofs.HostCalls.{slice-carried}
 use Rattle.demands.proofs.HostRuns.{Mirrors, Carried, carried, left-is, told-to-c, host-runs-are-sound, host-runs-end-in-time}
@@ -83,7 +83,7 @@ start-answers t n (grant.Refused k p d) a w s e = absurd (well-no-fault w (s .0)
 
 starts-go-on : (calls : List HostCall) (plan out : List ℕ) (a : Answer) (out′ : List ℕ) → Carried calls plan → maxCursorBytes ≤ length out → HostStarts plan out a out′ → NotRefused a
 starts-go-on calls plan out a out′ i h (inl x) = absurd (file-no-fault (i .file) (x .fault))
-starts-go-on calls plan out a out′ i h (inr (t, f, inl x)) = absurd (omega (arith, x .fault .fewer, h))
+starts-go-on calls plan out a out′ i h (inr (t, f, inl x)) = absurd (x .fault .2 h)
 starts-go-on calls plan out a out′ i h (inr (t, f, inr x)) =
     let w = subst WellFormedTable (same-file (i .file) f) (run-keeps (i .latest ∷ i .earlier) (i .table) (i .run) .shape) in
     start-answers t (placeCount t) (x .1 .given) a w (x .1 .starts) (x .1 .answer)
@@ -101,16 +101,16 @@ slices-go-on : (latest : HostCall) (earlier : List HostCall) (plan : List ℕ) (
 slices-go-on latest earlier plan b out a out′ i h (inl x) = absurd (file-no-fault (i .file) (x .fault))
 slices-go-on latest earlier plan b out a out′ i h (inr (t, f, inl x)) =
     absurd (saved-not-unread (savedIn (bytesLeft latest)) (cursorOf (i .latest)) (x .number) (x .at) (left-is latest (i .latest) (i .mirrored .0)) (x .fault))
-slices-go-on latest earlier plan b out a out′ i h (inr (t, f, inr (c, g, inl x))) = absurd (omega (arith, x .fault .fewer, h))
+slices-go-on latest earlier plan b out a out′ i h (inr (t, f, inr (c, g, inl x))) = absurd (x .fault .2 h)
 slices-go-on latest earlier plan b out a out′ i h (inr (t, f, inr (c, g, inr x))) =
     slice-answers t c b (x .1 .given) a (given-right latest earlier plan t c i f g) (x .1 .slices) (x .1 .answer)
 
 -- A granted move has room for its file, and from a right cursor no other fault is left.
 move-answers : (t : List ℕ) (c : Cursor) (mv : Move) (m : Lent) (g : Grant) (u : List ℕ) (a : Answer) (m′ : Lent)
     → CursorRight t c → mv .leg < legCount t → revisionOf t < maxWord → (a .result ≡ refusedResult noRoom → ⊥) → Moves t c mv g u → AfterMove g u m a m′ → NotRefused a
-move-answers t c mv m (grant.Granted d) u a m′ r below rises room x (inl y) = absurd (room (omega (arith, ap resultAlone (y .answer), y .fault .number)))
+move-answers t c mv m (grant.Granted d) u a m′ r below rises room x (inl y) = absurd (room (omega (arith, ap resultAlone (y .answer), y .fault .0)))
 move-answers t c mv m (grant.Granted d) u a m′ r below rises room x (inr y) = omega (arith, ap resultAlone (y .1 .answer))
-move-answers t c mv m (grant.Refused k p d) u a m′ r below rises room x y = absurd (move-refused r below rises (x .0))
+move-answers t c mv m (grant.Refused k p d) u a m′ r below rises room x y = absurd (move-no-fault mv r below rises (x .0))
 
 moves-go-on : (latest : HostCall) (earlier : List HostCall) (plan t : List ℕ) (mv : Move) (m : Lent) (a : Answer) (m′ : Lent)
     → Carried (latest ∷ earlier) plan → IsFile Sized plan t → mv .leg < legCount t → revisionOf t < maxWord → maxCursorBytes ≤ length (m .out)
@@ -118,7 +118,7 @@ moves-go-on : (latest : HostCall) (earlier : List HostCall) (plan t : List ℕ) 
 moves-go-on latest earlier plan t mv m a m′ i is below rises h room (inl x) = absurd (file-no-fault (i .file) (x .fault))
 moves-go-on latest earlier plan t mv m a m′ i is below rises h room (inr (u, f, inl x)) =
     absurd (saved-not-unread (savedIn (bytesLeft latest)) (cursorOf (i .latest)) (x .number) (x .at) (left-is latest (i .latest) (i .mirrored .0)) (x .fault))
-moves-go-on latest earlier plan t mv m a m′ i is below rises h room (inr (u, f, inr (c, g, inl x))) = absurd (omega (arith, x .fault .fewer, h))
+moves-go-on latest earlier plan t mv m a m′ i is below rises h room (inr (u, f, inr (c, g, inl x))) = absurd (x .fault .2 h)
 moves-go-on latest earlier plan t mv m a m′ i is below rises h room (inr (u, f, inr (c, g, inr x))) =
     let k = given-right latest earlier plan u c i f g in
     let same = same-file is f in

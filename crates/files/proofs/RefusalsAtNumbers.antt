@@ -12,7 +12,7 @@ use Rattle.table.specs.Layout.{maxLinks, InLimits, Sized}
 use Rattle.files.specs.Reading.{Cut, Over}
 use Rattle.files.specs.Plan.{PlanDue}
 use Rattle.files.specs.Cursors.{CursorDue, CursorComplete, cursorWords}
-use Rattle.files.specs.RefusalsAtNumbers.{FileRefused, fourBytes, PlanReadRefusalsAtNumbers, PlanWrittenRefusalsAtNumbers, SavedCursorRefusalsAtNumbers, FileRefusalsAtNumbers}
+use Rattle.files.specs.RefusalsAtNumbers.{FileRefused, linksAbove, fourBytes, PlanReadRefusalsAtNumbers, PlanWrittenRefusalsAtNumbers, SavedCursorRefusalsAtNumbers, FileRefusalsAtNumbers}
 
 -- The words ws stand in front, and the number after them, which is due, is refused with k.
 cut : (Due : List ℕ → Type 0) (ws rest : List ℕ) (k : ℕ) → total ws ≤ maxWord → Due ws → NoNumber (fileBytes ws ++ rest) (length (fileBytes ws)) k
@@ -56,17 +56,17 @@ plan-read-refusals-at-numbers = record {
           refl,
           refl,
           record {
-            head = 0 ∷ 257 ∷ 0 ∷ 0 ∷ 0 ∷ [];
+            head = 0 ∷ linksAbove ∷ 0 ∷ 0 ∷ 0 ∷ [];
             next = 6;
-            row = row-in-front (0 ∷ 257 ∷ 0 ∷ 0 ∷ 0 ∷ []) (0x80 ∷ 0 ∷ []) (omega arith);
+            row = row-in-front (0 ∷ linksAbove ∷ 0 ∷ 0 ∷ 0 ∷ []) (0x80 ∷ 0 ∷ []) (omega arith);
             five = refl;
             above = λ h. omega (arith, h .links);
           },
         ))),
     refl,
   );
-  above-missing = plan-cut (0 ∷ 257 ∷ 0 ∷ 0 ∷ []) [] 12 (omega arith) (inl (omega arith)) (cut-short _ 5 tt (omega arith));
-  above-unfit = plan-cut (0 ∷ 257 ∷ 0 ∷ 0 ∷ []) (0x80 ∷ 0 ∷ []) 13 (omega arith) (inl (omega arith)) (zero-second _ 5 0x80 [] refl (omega arith, omega arith));
+  above-missing = plan-cut (0 ∷ linksAbove ∷ 0 ∷ 0 ∷ []) [] 12 (omega arith) (inl (omega arith)) (cut-short _ 5 tt (omega arith));
+  above-unfit = plan-cut (0 ∷ linksAbove ∷ 0 ∷ 0 ∷ []) (0x80 ∷ 0 ∷ []) 13 (omega arith) (inl (omega arith)) (zero-second _ 5 0x80 [] refl (omega arith, omega arith));
   left-over = zeros-over 0 [];
   left-over-unfit = zeros-over 0x80 (0 ∷ []);
   no-room = (

@@ -13,6 +13,10 @@ use Rattle.files.specs.declared.CursorWritten.the-variants as saved
 abbrev pub FileRefused : List ℕ → ℕ → ℕ → Type 0
 FileRefused s k p = (b : List ℕ) → ReadsPlan s b (plan.Refused k p) b
 
+-- One link more than there may be.
+abbrev pub linksAbove : ℕ
+linksAbove = 257
+
 pub record PlanReadRefusalsAtNumbers : Type 0 where
   -- 12: the fourth number of the header is missing, the third is cut short, the propagation of link 0 is missing.
   pub missing : FileRefused (0x00 ∷ 0x00 ∷ 0x00 ∷ []) 12 3
@@ -34,7 +38,7 @@ pub record PlanReadRefusalsAtNumbers : Type 0 where
 -- Nothing is lent but in the last, where one byte is missing: 1, 2 and 3 before 15.
 pub record PlanWrittenRefusalsAtNumbers : Type 0 where
   pub four-words : WritesPlan (0 ∷ 0 ∷ 0 ∷ 0 ∷ []) [] (written.Refused 1 0) []
-  pub above : WritesPlan (0 ∷ 257 ∷ 0 ∷ 0 ∷ 0 ∷ []) [] (written.Refused 2 0) []
+  pub above : WritesPlan (0 ∷ linksAbove ∷ 0 ∷ 0 ∷ 0 ∷ []) [] (written.Refused 2 0) []
   pub word-more : WritesPlan (0 ∷ 0 ∷ 0 ∷ 0 ∷ 0 ∷ 0 ∷ []) [] (written.Refused 3 0) []
   pub no-room : WritesPlan (300 ∷ 0 ∷ 0 ∷ 0 ∷ 0 ∷ []) (1 ∷ 2 ∷ 3 ∷ 4 ∷ 5 ∷ []) (written.Refused 15 0) (1 ∷ 2 ∷ 3 ∷ 4 ∷ 5 ∷ [])
 

@@ -8,20 +8,14 @@ use Rattle.numbers.specs.Number.{NoNumber}
 use Rattle.numbers.specs.Series.{Row}
 use Rattle.numbers.proofs.Rows.{file-length}
 use Rattle.table.specs.Layout.{maxTableWords, Sized}
-use Rattle.table.specs.Size.{SizeFault}
-use Rattle.table.specs.declared.Move.{Move}
 use Rattle.table.proofs.Sizes.{table-words-at-most}
-use Rattle.shape.specs.Shape.{badLink, ShapeFault}
-use Rattle.shape.proofs.Refused.{sized-refused}
+use Rattle.shape.specs.OfTables.{maxRefusal, OfTable}
 use Rattle.files.specs.Plan.{PlanDue, PlanFault, PlanUnread}
 use Rattle.files.specs.Theorems.{maxFileBytes}
-use Rattle.files.specs.declared.Cursor.{Cursor}
-use Rattle.checker.specs.Cursors.{noPlace, CursorFault}
-use Rattle.checker.specs.Moves.{cannotRise, MoveFault}
 use Rattle.host.specs.Refusals.{CursorUnread}
 use Rattle.host.specs.Steps.{Small}
 
-no-number-small : (s : List ℕ) (p k : ℕ) → NoNumber s p k → k ≤ 15
+no-number-small : (s : List ℕ) (p k : ℕ) → NoNumber s p k → k ≤ maxRefusal
 no-number-small s p k n = ⊎-elim (λ x. omega (arith, x .0)) (λ x. omega (arith, x .0)) n
 
 -- So many numbers end within the largest file.
@@ -48,38 +42,5 @@ cursor-file-small s k p (inl c) = record { number = no-number-small s p k (c .no
 cursor-file-small s k p (inr x) =
     let o = x .1 in record { number = omega (arith, x .0); position = row-end s (o .ws) p (o .row) (omega (arith, o .complete)) }
 
-size-small : (t : List ℕ) (k : ℕ) → SizeFault t k → k ≤ 15
-size-small t k (inl x) = omega (arith, x .0)
-size-small t k (inr (inl x)) = omega (arith, x .0)
-size-small t k (inr (inr x)) = omega (arith, x .0)
-
-pub shape-small : (t : List ℕ) (k p : ℕ) → ShapeFault t k p → Small k p
-shape-small t k p (inl x) = record { number = size-small t k (x .0); position = omega (arith, x .1) }
-shape-small t k p (inr (inl x)) = let f = x .1 in record { number = omega (arith, x .0); position = omega (arith, f .lowest .inside, f .sized .limits .links) }
-shape-small t k p (inr (inr (inl x))) = let f = x .1 in record { number = omega (arith, x .0); position = omega (arith, f .lowest .inside, f .sized .limits .links) }
-shape-small t k p (inr (inr (inr (inl x)))) =
-    let f = x .1 in
-    let s = f .sized .limits .streams in
-    record { number = omega (arith, x .0); position = ⊎-elim (λ l. omega (arith, l .inside, s)) (λ e. omega (arith, e .0, s)) (f .wrong) }
-shape-small t k p (inr (inr (inr (inr x)))) = let f = x .1 in record { number = omega (arith, x .0); position = omega (arith, f .lowest .inside, f .sized .limits .legs) }
-
-pub cursor-fault-small : (t : List ℕ) (c : Cursor) (k p : ℕ) → CursorFault t c k p → Small k p
-cursor-fault-small t c k p (inl f) = shape-small t k p f
-cursor-fault-small t c k p (inr w) =
-    record { number = ⊎-elim (λ s. omega (arith, s .number)) (λ s. omega (arith, s .number)) (w .cause); position = omega (arith, w .at) }
-
-pub move-fault-small : (t : List ℕ) (c : Cursor) (mv : Move) (k p : ℕ) → MoveFault t c mv k p → Small k p
-move-fault-small t c mv k p (inl f) = cursor-fault-small t c k p f
-move-fault-small t c mv k p (inr w) =
-    record { number = ⊎-elim (λ s. omega (arith, s .number)) (λ s. omega (arith, s .number)) (w .cause); position = omega (arith, w .at) }
-
--- With which numbers a table that was read is refused: a slice with 4 to 9, a move with 4 to 11.
-pub slice-refused : (t : List ℕ) (c : Cursor) (k p : ℕ) → Sized t → CursorFault t c k p → (badLink ≤ k) × (k ≤ noPlace)
-slice-refused t c k p z (inl f) = let r = sized-refused t k p z f in (r .0, omega (arith, r .1))
-slice-refused t c k p z (inr w) =
-    ⊎-elim (λ s. (omega (arith, s .number), omega (arith, s .number))) (λ s. (omega (arith, s .number), omega (arith, s .number))) (w .cause)
-
-pub move-refused : (t : List ℕ) (c : Cursor) (mv : Move) (k p : ℕ) → Sized t → MoveFault t c mv k p → (badLink ≤ k) × (k ≤ cannotRise)
-move-refused t c mv k p z (inl f) = let r = slice-refused t c k p z f in (r .0, omega (arith, r .1))
-move-refused t c mv k p z (inr w) =
-    ⊎-elim (λ s. (omega (arith, s .number), omega (arith, s .number))) (λ s. (omega (arith, s .number), omega (arith, s .number))) (w .cause)
+pub table-small : {k p : ℕ} → OfTable k p → Small k p
+table-small o = record { number = o .number; position = omega (arith, o .position) }

@@ -1,11 +1,16 @@
 -- Each call for C has one answer and leaves one memory, since each stage has one. Assumes nothing.
-use Prim.Native.Nat.{ℕ}
+use Prim.Native.Nat.{ℕ, _≤_}
 use mathlib.Core.Path.{_≡_, _∙_, sym, ap, subst}
 use mathlib.Core.List.{List}
 use mathlib.Core.Logic.{inl, inr}
 use native.Mathlib.Omega.{arith}
 use lib.ListN.{length}
+use Rattle.basics.specs.Refusals.{unless}
+use Rattle.basics.proofs.Refusals.{unless-one}
+use Rattle.numbers.specs.Number.{noRoom}
 use Rattle.numbers.specs.Series.{fileOf}
+use Rattle.table.specs.Layout.{Sized}
+use Rattle.files.specs.Reading.{IsFile}
 use Rattle.table.specs.declared.Move.{Move}
 use Rattle.files.specs.Cursors.{ReadsCursor}
 use Rattle.files.specs.Plan.{PlanFault}
@@ -20,7 +25,7 @@ use Rattle.checker.specs.declared.Grant.the-variants as grant
 use Rattle.checker.proofs.OneAnswer.{start-one-answer, slice-one-answer, move-one-answer}
 use Rattle.host.specs.declared.Answer.{Answer}
 use Rattle.host.specs.Answers.{refusal, sliceAnswered, startAnswered, bytesAfterSlice, bytesAfterStart, resultAlone}
-use Rattle.host.specs.Refusals.{RefusedFor, CursorUnread, TooFew, AfterPlan, AfterCursor, AfterRoom}
+use Rattle.host.specs.Refusals.{CursorUnread, After, With, AfterPlan, AfterCursor, AfterRoom}
 use Rattle.host.specs.Calls.{Lent, AfterMove, BothWritten, Started, Sliced, MovedLeg, StartsTable, SlicesTable, MovesTable}
 use Rattle.host.specs.Theorems.{OneAnswer, HostStartOneAnswer, HostSliceFullOneAnswer, HostSliceOneAnswer, HostMoveOneAnswer, SliceGivesTheResult}
 
@@ -53,35 +58,39 @@ pub saved-not-unread : (s : List ℕ) (c : Cursor) (k p : ℕ) → ReadsCursor s
 unfolding is-saved
 saved-not-unread s c k p f g = let e : _≡_ {A = ℕ} 1 0 = ap is-saved (read-cursor-one-answer s (read.Saved c) (read.Refused k p) f g) in omega arith
 
-too-few-one : (room needed k p l q : ℕ) → TooFew room needed k p → TooFew room needed l q → (k ≡ l) × (p ≡ q)
-too-few-one room needed k p l q x y = (x .number ∙ sym (y .number), x .position ∙ sym (y .position))
-
--- The stages.
+-- The stages. Two refusals are one, none is due where the next one speaks, and that has one answer.
 module _ (M : Type 0) (m : M) where
-  refused-one : (Fault : ℕ → ℕ → Type 0) → ((k p l q : ℕ) → Fault k p → Fault l q → (k ≡ l) × (p ≡ q)) → OneAnswer Answer M (RefusedFor M Fault m)
-  refused-one Fault one a b x y u v =
+  after-one : (Fault : ℕ → ℕ → Type 0) (Next : Answer → M → Type 0) → ((k p l q : ℕ) → Fault k p → Fault l q → (k ≡ l) × (p ≡ q))
+      → ((a : Answer) (x : M) (k p : ℕ) → Next a x → Fault k p → ⊥) → OneAnswer Answer M Next → OneAnswer Answer M (After M Fault m Next)
+  after-one Fault Next one none next a b x y (inl u) (inl v) =
       let e = one (u .number) (u .at) (v .number) (v .at) (u .fault) (v .fault) in (
         u .answer ∙ ap (λ (k : ℕ). refusal k (u .at)) (e .0) ∙ ap (refusal (v .number)) (e .1) ∙ sym (v .answer),
         u .kept ∙ sym (v .kept),
       )
+  after-one Fault Next one none next a b x y (inl u) (inr v) = absurd (none b y (u .number) (u .at) v (u .fault))
+  after-one Fault Next one none next a b x y (inr u) (inl v) = absurd (none a x (v .number) (v .at) u (v .fault))
+  after-one Fault Next one none next a b x y (inr u) (inr v) = next a b x y u v
+
+  with-one : (Value : Type 0) (Clear : Value → Type 0) (Then : Value → Answer → M → Type 0) → ((v w : Value) → Clear v → Clear w → v ≡ w)
+      → ((v : Value) → OneAnswer Answer M (Then v)) → OneAnswer Answer M (With M Value Clear Then)
+  with-one Value Clear Then same one a b x y (v, f, u) (w, g, z) = one v a b x y u (subst (λ (k : Value). Then k b y) (same w v g f) z)
 
   after-plan-one : (s : List ℕ) (Then : List ℕ → Answer → M → Type 0) → ((t : List ℕ) → OneAnswer Answer M (Then t)) → OneAnswer Answer M (AfterPlan M s m Then)
-  after-plan-one s Then one a b x y (inl u) (inl v) = refused-one (PlanFault s) (plan-fault-one s) a b x y u v
-  after-plan-one s Then one a b x y (inl u) (inr (t, f, v)) = absurd (file-no-fault f (u .fault))
-  after-plan-one s Then one a b x y (inr (t, f, u)) (inl v) = absurd (file-no-fault f (v .fault))
-  after-plan-one s Then one a b x y (inr (t, f, u)) (inr (w, g, v)) = one t a b x y u (subst (λ (z : List ℕ). Then z b y) (same-file g f) v)
+  after-plan-one s Then one =
+      after-one (PlanFault s) (With M (List ℕ) (IsFile Sized s) Then) (plan-fault-one s) (λ a x k p c f. file-no-fault (c .1) f)
+      (with-one (List ℕ) (IsFile Sized s) Then (λ t u f g. same-file f g) one)
 
   after-cursor-one : (s : List ℕ) (Then : Cursor → Answer → M → Type 0) → ((c : Cursor) → OneAnswer Answer M (Then c)) → OneAnswer Answer M (AfterCursor M s m Then)
-  after-cursor-one s Then one a b x y (inl u) (inl v) = refused-one (CursorUnread s) (unread-one s) a b x y u v
-  after-cursor-one s Then one a b x y (inl u) (inr (c, f, v)) = absurd (saved-not-unread s c (u .number) (u .at) f (u .fault))
-  after-cursor-one s Then one a b x y (inr (c, f, u)) (inl v) = absurd (saved-not-unread s c (v .number) (v .at) f (v .fault))
-  after-cursor-one s Then one a b x y (inr (c, f, u)) (inr (d, g, v)) = one c a b x y u (subst (λ (z : Cursor). Then z b y) (saved-one s d c g f) v)
+  after-cursor-one s Then one =
+      let Clear : Cursor → Type 0 = λ c. ReadsCursor s (read.Saved c) in
+      after-one (CursorUnread s) (With M Cursor Clear Then) (unread-one s) (λ a x k p c f. saved-not-unread s (c .0) k p (c .1) f)
+      (with-one Cursor Clear Then (saved-one s) one)
 
   after-room-one : (room needed : ℕ) (Then : Answer → M → Type 0) → OneAnswer Answer M Then → OneAnswer Answer M (AfterRoom M room needed m Then)
-  after-room-one room needed Then one a b x y (inl u) (inl v) = refused-one (TooFew room needed) (too-few-one room needed) a b x y u v
-  after-room-one room needed Then one a b x y (inl u) (inr v) = absurd (omega (arith, u .fault .fewer, v .0))
-  after-room-one room needed Then one a b x y (inr u) (inl v) = absurd (omega (arith, u .0, v .fault .fewer))
-  after-room-one room needed Then one a b x y (inr u) (inr v) = one a b x y (u .1) (v .1)
+  after-room-one room needed Then one =
+      let none = unless-one noRoom (needed ≤ room) in
+      after-one (unless noRoom (needed ≤ room) .Fault) (λ a x. (needed ≤ room) × Then a x) (λ k p l q f g. none .one f g) (λ a x k p c f. f .2 (c .0))
+      (λ a b x y u v. one a b x y (u .1) (v .1))
 
 -- The calls.
 started-one : (t out : List ℕ) → OneAnswer Answer (List ℕ) (Started t out)

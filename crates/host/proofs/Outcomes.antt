@@ -5,12 +5,14 @@ use mathlib.Core.List.{List}
 use mathlib.Core.Logic.{inl, inr}
 use native.Mathlib.Omega.{arith}
 use lib.ListN.{length}
+use Rattle.basics.specs.Refusals.{unless}
+use Rattle.numbers.specs.Number.{noRoom}
 use Rattle.files.specs.Plan.{PlanFault}
 use Rattle.files.specs.Theorems.{maxCursorBytes}
 use Rattle.files.specs.declared.Cursor.{Cursor}
 use Rattle.files.proofs.OneAnswer.{plan-fault-one, file-no-fault}
 use Rattle.table.specs.Layout.{Sized}
-use Rattle.shape.proofs.Refused.{sized-refused}
+use Rattle.shape.proofs.Refused.{shape-of-table}
 use Rattle.rules.specs.declared.Rule.{Rule}
 use Rattle.rules.specs.declared.Rule.the-variants as rule
 use Rattle.places.specs.Order.{placeCount}
@@ -21,23 +23,24 @@ use Rattle.checker.specs.declared.SliceAnswer.{SliceAnswer}
 use Rattle.checker.specs.declared.SliceAnswer.the-variants as answer
 use Rattle.host.specs.declared.Answer.{Answer}
 use Rattle.host.specs.Answers.{refusedResult, ruleResult, refusal, sliceAnswered, startAnswered, bytesAfterSlice, bytesAfterStart, resultAlone}
-use Rattle.host.specs.Refusals.{AfterPlan, AfterCursor, AfterRoom}
+use Rattle.host.specs.Refusals.{CursorUnread, After, AfterPlan, AfterCursor, AfterRoom}
 use Rattle.host.specs.Calls.{Lent, AfterMove, Started, Sliced, MovedLeg, StartsTable, SlicesTable, MovesTable, HostStarts, HostSlices}
 use Rattle.host.specs.Theorems.{Keeps, HostRefusalsWriteNothing, PlanFaultsComeFirst, ResultsOfThePaper}
 
 -- A refusal at any stage keeps the memory, so what comes after the stage decides.
 module _ (M : Type 0) (m : M) where
+  after-keeps : (Fault : ℕ → ℕ → Type 0) (Next : Answer → M → Type 0) → Keeps M m Next → Keeps M m (After M Fault m Next)
+  after-keeps Fault Next keeps a m′ (inl x) h = x .kept
+  after-keeps Fault Next keeps a m′ (inr x) h = keeps a m′ x h
+
   after-plan-keeps : (s : List ℕ) (Then : List ℕ → Answer → M → Type 0) → ((t : List ℕ) → Keeps M m (Then t)) → Keeps M m (AfterPlan M s m Then)
-  after-plan-keeps s Then keeps a m′ (inl x) h = x .kept
-  after-plan-keeps s Then keeps a m′ (inr (t, f, x)) h = keeps t a m′ x h
+  after-plan-keeps s Then keeps = after-keeps (PlanFault s) _ (λ a m′ x h. keeps (x .0) a m′ (x .2) h)
 
   after-cursor-keeps : (s : List ℕ) (Then : Cursor → Answer → M → Type 0) → ((c : Cursor) → Keeps M m (Then c)) → Keeps M m (AfterCursor M s m Then)
-  after-cursor-keeps s Then keeps a m′ (inl x) h = x .kept
-  after-cursor-keeps s Then keeps a m′ (inr (c, f, x)) h = keeps c a m′ x h
+  after-cursor-keeps s Then keeps = after-keeps (CursorUnread s) _ (λ a m′ x h. keeps (x .0) a m′ (x .2) h)
 
   after-room-keeps : (room needed : ℕ) (Then : Answer → M → Type 0) → Keeps M m Then → Keeps M m (AfterRoom M room needed m Then)
-  after-room-keeps room needed Then keeps a m′ (inl x) h = x .kept
-  after-room-keeps room needed Then keeps a m′ (inr x) h = keeps a m′ (x .1) h
+  after-room-keeps room needed Then keeps = after-keeps (unless noRoom (needed ≤ room) .Fault) _ (λ a m′ x h. keeps a m′ (x .1) h)
 
 -- The results of the calls themselves: those that are no refusals are below 100.
 rule-small : (x : Rule) → ruleResult x < refusedResult 0
@@ -91,18 +94,19 @@ first-fault M m s Then k p a m′ f (inl x) =
     x .answer ∙ ap (λ (l : ℕ). refusal l (x .at)) (e .0) ∙ ap (refusal k) (e .1)
 first-fault M m s Then k p a m′ f (inr (t, g, x)) = absurd (file-no-fault g f)
 
--- After the plan reader a start is refused with 15 or with 4 to 7.
-not-granted : (t : List ℕ) (n k p : ℕ) (g : Grant) → Sized t → 12 ≤ k → Starts t g → refusal k p ≡ startAnswered n g → ⊥
-not-granted t n k p (grant.Granted d) z h s e = omega (arith, ap resultAlone e)
-not-granted t n k p (grant.Refused l q d) z h s e = omega (arith, ap resultAlone e, sized-refused t l q z (s .0) .1)
+-- After the plan reader a start is refused with 15 or as a table is, which is with none of 12 to 14.
+not-granted : (t : List ℕ) (n k p : ℕ) (g : Grant) → 12 ≤ k → k ≤ 14 → Starts t g → refusal k p ≡ startAnswered n g → ⊥
+not-granted t n k p (grant.Granted d) h l s e = omega (arith, ap resultAlone e)
+not-granted t n k p (grant.Refused j q d) h l s e =
+    let i = ap resultAlone e in shape-of-table t j q (s .0) .not-of-bytes (omega arith, omega arith)
 
 of-the-plan : (plan out : List ℕ) (k p : ℕ) (out′ : List ℕ) → 12 ≤ k → k ≤ 14 → HostStarts plan out (refusal k p) out′ → PlanFault plan k p
 of-the-plan plan out k p out′ h l (inl x) =
     let e : x .number ≡ k = omega (arith, ap resultAlone (x .answer)) in
     let f : x .at ≡ p = sym (ap (λ (a : Answer). a .beside) (x .answer)) in
     subst (λ (q : ℕ). PlanFault plan k q) f (subst (λ (j : ℕ). PlanFault plan j (x .at)) e (x .fault))
-of-the-plan plan out k p out′ h l (inr (t, g, inl x)) = absurd (omega (arith, ap resultAlone (x .answer), x .fault .number))
-of-the-plan plan out k p out′ h l (inr (t, g, inr x)) = absurd (not-granted t (placeCount t) k p (x .1 .given) (g .complete) h (x .1 .starts) (x .1 .answer))
+of-the-plan plan out k p out′ h l (inr (t, g, inl x)) = absurd (omega (arith, ap resultAlone (x .answer), x .fault .0))
+of-the-plan plan out k p out′ h l (inr (t, g, inr x)) = absurd (not-granted t (placeCount t) k p (x .1 .given) h l (x .1 .starts) (x .1 .answer))
 
 pub plan-faults-come-first : PlanFaultsComeFirst
 plan-faults-come-first = record {

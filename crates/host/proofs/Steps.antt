@@ -5,14 +5,16 @@ use mathlib.Core.List.{List}
 use mathlib.Core.Logic.{inl, inr}
 use native.Mathlib.Omega.{arith}
 use lib.ListN.{length, take}
+use Rattle.basics.specs.Refusals.{unless}
+use Rattle.numbers.specs.Number.{noRoom}
 use Rattle.numbers.specs.Series.{fileOf}
 use Rattle.numbers.specs.declared.Written.{Written}
 use Rattle.numbers.specs.declared.Written.the-variants as written
 use Rattle.numbers.proofs.Overlay.{overlaid-taken, overlaid-length}
 use Rattle.table.specs.Layout.{maxTableWords, Sized}
 use Rattle.table.specs.declared.Move.{Move}
-use Rattle.table.proofs.Sizes.{sized-no-fault}
-use Rattle.files.specs.Plan.{PlanFault, PlanUnwritten, ReadsPlan, WritesPlan}
+use Rattle.table.proofs.Sizes.{size-one}
+use Rattle.files.specs.Plan.{PlanFault, writeRefusals, ReadsPlan, WritesPlan}
 use Rattle.files.specs.Cursors.{ReadsCursor}
 use Rattle.files.specs.declared.PlanRead.{PlanRead}
 use Rattle.files.specs.declared.PlanRead.the-variants as plan
@@ -22,6 +24,8 @@ use Rattle.files.specs.declared.CursorRead.the-variants as read
 use Rattle.places.specs.Order.{placeCount}
 use Rattle.shape.specs.Shape.{WellFormedTable}
 use Rattle.shape.proofs.Moved.{moves-keep-shape, moved-same}
+use Rattle.shape.proofs.Refused.{shape-of-table}
+use Rattle.checker.proofs.Refused.{cursor-of-table, move-of-table}
 use Rattle.checker.specs.Slices.{Starts, Slices}
 use Rattle.checker.specs.Moves.{Moves, MoveRight}
 use Rattle.checker.specs.declared.Grant.{Grant}
@@ -32,10 +36,10 @@ use Rattle.host.specs.declared.Answer.{Answer}
 use Rattle.host.specs.declared.Opened.{Opened}
 use Rattle.host.specs.declared.Opened.the-variants as opened
 use Rattle.host.specs.Answers.{answered, refusal, sliceAnswered, startAnswered, withCursor, bytesAfterSlice, bytesAfterStart}
-use Rattle.host.specs.Refusals.{CursorUnread, TooFew, AfterPlan, AfterCursor}
+use Rattle.host.specs.Refusals.{CursorUnread, AfterPlan, AfterCursor}
 use Rattle.host.specs.Calls.{Lent, lent, WritesBoth, MovedLeg, Started, Sliced, SlicesTable, MovesTable, HostSlices, HostMoves}
 use Rattle.host.specs.Steps.{Small, InFront, Opens}
-use Rattle.host.proofs.Laws.{plan-fault, plan-fault-small, cursor-file-small, shape-small, cursor-fault-small, move-fault-small}
+use Rattle.host.proofs.Laws.{plan-fault, plan-fault-small, cursor-file-small, table-small}
 
 -- A plan file was read: a table, which lies in the first words; or a fault of the file.
 pub read-front : (s w w′ : List ℕ) (r : PlanRead) (n : ℕ) → r ≡ plan.Words n → ReadsPlan s w r w′ → InFront s n w′
@@ -96,7 +100,7 @@ pub started-shape : (t : List ℕ) (g : Grant) (d : Cursor) → g ≡ grant.Gran
 started-shape t g d e h = subst (Starts t) e h .0
 
 pub start-small : (t : List ℕ) (g : Grant) (k p : ℕ) (d : Cursor) → g ≡ grant.Refused k p d → Starts t g → Small k p
-start-small t g k p d e h = shape-small t k p (subst (Starts t) e h .0)
+start-small t g k p d e h = table-small (shape-of-table t k p (subst (Starts t) e h .0))
 
 pub start-made : (t out out′ : List ℕ) (g h : Grant) (a : Answer) → g ≡ h → Starts t g → a ≡ startAnswered (placeCount t) h → out′ ≡ bytesAfterStart out h
     → Started t out a out′
@@ -104,7 +108,7 @@ start-made t out out′ g h a e x f k = record { given = h; starts = subst (Star
 
 -- A slice was made, or is refused.
 pub slice-small : (t : List ℕ) (c : Cursor) (b : ℕ) (x : SliceAnswer) (k p : ℕ) (d : Cursor) → x ≡ answer.Refused k p d → Slices t c b x → Small k p
-slice-small t c b x k p d e h = cursor-fault-small t c k p (subst (Slices t c b) e h .0)
+slice-small t c b x k p d e h = table-small (cursor-of-table t c k p (subst (Slices t c b) e h .0))
 
 pub slice-made : (t : List ℕ) (c : Cursor) (b : ℕ) (out out′ : List ℕ) (x y : SliceAnswer) (a : Answer) → x ≡ y → Slices t c b x → a ≡ sliceAnswered y
     → out′ ≡ bytesAfterSlice out y → Sliced t c b out a out′
@@ -116,7 +120,7 @@ with-result r s n e = ap (λ (x : ℕ). answered x n) e
 -- A move was granted, or is refused.
 module _ (t : List ℕ) (c : Cursor) (mv : Move) (g : Grant) (u : List ℕ) where
   pub move-small : (k p : ℕ) (d : Cursor) → g ≡ grant.Refused k p d → Moves t c mv g u → Small k p
-  move-small k p d e h = move-fault-small t c mv k p (subst (λ (x : Grant). Moves t c mv x u) e h .0)
+  move-small k p d e h = table-small (move-of-table t c mv k p (subst (λ (x : Grant). Moves t c mv x u) e h .0))
 
   pub moved-sized : (d : Cursor) → g ≡ grant.Granted d → Moves t c mv g u → Sized u
   moved-sized d e h =
@@ -134,15 +138,13 @@ module _ (t : List ℕ) (c : Cursor) (mv : Move) (g : Grant) (u : List ℕ) wher
   move-granted m a m′ d e h w = record { given = grant.Granted d; table = u; moves = subst (λ (x : Grant). Moves t c mv x u) e h; after = w }
 
 -- A plan file was written, or had no room.
-unwritten-for-room : (t : List ℕ) (room k : ℕ) → Sized t → PlanUnwritten t room k → TooFew room (length (fileOf t)) k 0
-unwritten-for-room t room k z (inl f) = absurd (sized-no-fault t k z f)
-unwritten-for-room t room k z (inr x) = record { number = x .0; position = refl; fewer = x .2 }
+unwritten-for-room : (t : List ℕ) (room k p : ℕ) → Sized t → writeRefusals t room .Fault k p → unless noRoom (length (fileOf t) ≤ room) .Fault k p
+unwritten-for-room t room k p z (inl f) = absurd (size-one t .none z f)
+unwritten-for-room t room k p z (inr x) = x .1
 
 pub unwritten-room : (t file file′ : List ℕ) (r : Written) (k p : ℕ) → Sized t → r ≡ written.Refused k p → WritesPlan t file r file′
-    → TooFew (length file) (length (fileOf t)) k p
-unwritten-room t file file′ r k p z e h =
-    let x = subst (λ (y : Written). WritesPlan t file y file′) e h in
-    subst (TooFew (length file) (length (fileOf t)) k) (sym (x .1)) (unwritten-for-room t (length file) k z (x .0))
+    → unless noRoom (length (fileOf t) ≤ length file) .Fault k p
+unwritten-room t file file′ r k p z e h = unwritten-for-room t (length file) k p z (subst (λ (y : Written). WritesPlan t file y file′) e h .0)
 
 pub file-size : (t file file′ : List ℕ) (r : Written) (n : ℕ) → r ≡ written.Bytes n → WritesPlan t file r file′ → n ≡ length (fileOf t)
 file-size t file file′ r n e h = subst (λ (y : Written). WritesPlan t file y file′) e h .1 .count
@@ -150,7 +152,7 @@ file-size t file file′ r n e h = subst (λ (y : Written). WritesPlan t file y 
 module _ (t : List ℕ) (d : Cursor) (file file′ out : List ℕ) (r : Written) (a : Answer) where
   pub none-written : (k p : ℕ) → Sized t → r ≡ written.Refused k p → WritesPlan t file r file′ → a ≡ refusal k p → WritesBoth t d (lent file out) a (lent file′ out)
   none-written k p z e h f =
-      let kept = subst (λ (y : Written). WritesPlan t file y file′) e h .2 in
+      let kept = subst (λ (y : Written). WritesPlan t file y file′) e h .1 in
       inl (record { number = k; at = p; fault = unwritten-room t file file′ r k p z e h; answer = f; kept = ap (λ (x : List ℕ). lent x out) kept })
 
   pub both-written : (n : ℕ) (out′ : List ℕ) → r ≡ written.Bytes n → WritesPlan t file r file′ → a ≡ answered 0 n → out′ ≡ withCursor out d

@@ -1,9 +1,10 @@
 -- The host's refusals in their order (document 01, "Numbered refusals": plan reader, cursor reader, 15, then as a slice; a start and a move likewise). M is the
 -- kind of lent memory, m that memory before the call and m′ after it, and a the answer. Then says what holds where nothing was refused so far.
-use Prim.Native.Nat.{ℕ, _≤_, _<_}
+use Prim.Native.Nat.{ℕ, _≤_}
 use mathlib.Core.Path.{_≡_}
 use mathlib.Core.List.{List}
 use mathlib.Core.Logic.{_⊎_}
+use Rattle.basics.specs.Refusals.{unless}
 use Rattle.numbers.specs.Number.{noRoom}
 use Rattle.table.specs.Layout.{Sized}
 use Rattle.files.specs.Reading.{IsFile}
@@ -26,21 +27,22 @@ pub record RefusedFor (M : Type 0) (Fault : ℕ → ℕ → Type 0) (m : M) (a :
 abbrev pub CursorUnread : List ℕ → ℕ → ℕ → Type 0
 CursorUnread s k p = ReadsCursor s (read.Refused k p)
 
--- 15 at 0: fewer bytes are lent than are needed.
-pub record TooFew (room needed k p : ℕ) : Type 0 where
-  pub number : k ≡ noRoom
-  pub position : p ≡ 0
-  pub fewer : room < needed
+-- A stage: refused for a fault and nothing is written, or what comes next.
+abbrev pub After : (M : Type 0) → (ℕ → ℕ → Type 0) → M → (Answer → M → Type 0) → Answer → M → Type 0
+After M Fault m Next a m′ = RefusedFor M Fault m a m′ ⊎ Next a m′
 
--- The plan reader refuses the file, or it is the file of a table t. The reader's own 15 cannot come: the host has room for every table.
+-- What comes next is clear with a value, and Then speaks of it.
+abbrev pub With : (M Value : Type 0) → (Value → Type 0) → (Value → Answer → M → Type 0) → Answer → M → Type 0
+With M Value Clear Then a m′ = (v : Value) × Clear v × Then v a m′
+
+-- The plan reader refuses the file, or it is the file of a table. The reader's own 15 cannot come: the host has room for every table.
 abbrev pub AfterPlan : (M : Type 0) → List ℕ → M → (List ℕ → Answer → M → Type 0) → Answer → M → Type 0
-AfterPlan M plan m Then a m′ = RefusedFor M (PlanFault plan) m a m′ ⊎ ((t : List ℕ) × IsFile Sized plan t × Then t a m′)
+AfterPlan M plan m Then = After M (PlanFault plan) m (With M (List ℕ) (IsFile Sized plan) Then)
 
--- The cursor reader refuses the saved cursor, or it is that of a cursor c.
+-- The cursor reader refuses the saved cursor, or it is that of a cursor.
 abbrev pub AfterCursor : (M : Type 0) → List ℕ → M → (Cursor → Answer → M → Type 0) → Answer → M → Type 0
-AfterCursor M cursor m Then a m′ =
-    RefusedFor M (CursorUnread cursor) m a m′ ⊎ ((c : Cursor) × ReadsCursor cursor (read.Saved c) × Then c a m′)
+AfterCursor M cursor m Then = After M (CursorUnread cursor) m (With M Cursor (λ (c : Cursor). ReadsCursor cursor (read.Saved c)) Then)
 
--- 15 where fewer bytes are lent than are needed, or there is room.
+-- 15 unless as many bytes are lent as are needed.
 abbrev pub AfterRoom : (M : Type 0) → ℕ → ℕ → M → (Answer → M → Type 0) → Answer → M → Type 0
-AfterRoom M room needed m Then a m′ = RefusedFor M (TooFew room needed) m a m′ ⊎ ((needed ≤ room) × Then a m′)
+AfterRoom M room needed m Then = After M (unless noRoom (needed ≤ room) .Fault) m (λ a m′. (needed ≤ room) × Then a m′)

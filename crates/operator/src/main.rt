@@ -156,7 +156,7 @@ fn main() {
         Order::Slice(budget) => {
             on_files(order);
         }
-        Order::Move(leg, offset) => {
+        Order::Move(mv) => {
             on_files(order);
         }
         Order::Wrong => {}

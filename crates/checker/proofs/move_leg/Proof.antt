@@ -7,10 +7,10 @@ use Rattle.table.specs.Layout.{revisionOf}
 use Rattle.table.specs.Records.{moved}
 use Rattle.table.specs.declared.Move.{Move}
 use Rattle.files.specs.declared.Cursor.{Cursor}
-use Rattle.shape.specs.declared.Shape.{Shape}
-use Rattle.shape.specs.declared.Shape.the-variants.{Right, Wrong}
-use Rattle.checker.specs.Moves.{MoveRight, MoveFault}
-use Rattle.checker.specs.Steps.{PulledBack, MoveAllowed, MoveTold}
+use Rattle.basics.specs.declared.Checked.{Checked}
+use Rattle.basics.specs.declared.Checked.the-variants.{Clear, Refused}
+use Rattle.checker.specs.Moves.{MoveAllowed, MoveRight, MoveFault}
+use Rattle.checker.specs.Steps.{PulledBack, MoveTold}
 use Rattle.checker.proofs.LookLaws.{pulled-to-lesser}
 use borrow.Author.Needs.{needs}
 use Rattle.checker.proofs.move_leg.Statement.{statement}
@@ -18,7 +18,7 @@ use Rattle.checker.proofs.move_leg.Tie as tie
 
 -- The move, and what was told of it.
 record Told : Type 0 where
-  told : Shape
+  told : Checked
   t : List ℕ
   cursor : Cursor
   mv : Move
@@ -32,13 +32,13 @@ here c =
 module _ (s : Told) where
   open Told s using (t, cursor, mv, told, is)
 
-  allowed : told ≡ Right → MoveAllowed t cursor mv
+  allowed : told ≡ Clear → MoveAllowed t cursor mv
   allowed e = subst (MoveTold t cursor mv) e is
 
-  refused : {k p : ℕ} → told ≡ Wrong k p → MoveFault t cursor mv k p
+  refused : {k p : ℕ} → told ≡ Refused k p → MoveFault t cursor mv k p
   refused e = subst (MoveTold t cursor mv) e is
 
-  granted : {d : Cursor} {u : List ℕ} → told ≡ Right → u ≡ moved t mv → PulledBack cursor (revisionOf t + 1) (mv .leg) d → MoveRight t cursor mv d u
+  granted : {d : Cursor} {u : List ℕ} → told ≡ Clear → u ≡ moved t mv → PulledBack cursor (revisionOf t + 1) (mv .leg) d → MoveRight t cursor mv d u
   granted e f b =
       let m = allowed e in
       record { cursor = m .cursor; below = m .below; rises = m .rises; table = f; revision = b .revision; lesser = pulled-to-lesser (m .cursor .stands) (m .below) b }

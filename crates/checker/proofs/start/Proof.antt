@@ -16,7 +16,10 @@ enum-told : tie.Need-enum-told
 enum-told c = search needs
 
 shared-slice-read-t8 : tie.Need-shared-slice-read-t8
-shared-slice-read-t8 c = omega (arith, subst (ShapeTold _) (c .before .enum-told .given .1) (c .before .before .before .judged-shape .ensures) .sized .head)
+shared-slice-read-t8 c =
+    let entry : tie.Start = search in
+    let w = subst (ShapeTold (entry .args .t .now)) (c .before .enum-told .given .1) (c .before .before .before .judged-shape .ensures) in
+    omega (arith, w .sized .head)
 
 returns : tie.Need-returns
 returns c = (subst (ShapeTold _) (c .before .told .given .1) (c .before .before .before .judged-shape .ensures), refl)

@@ -1,5 +1,6 @@
 -- `decimal::read_decimal` meets its contract: each case of what the first other byte is, is a case of the answer. Assumes nothing.
 use borrow.Author.Needs.{needs}
+use Rattle.decimal.proofs.Laws.{told-other, told-digits}
 use Rattle.decimal.proofs.read_decimal.Statement.{statement}
 use Rattle.decimal.proofs.read_decimal.Tie as tie
 
@@ -16,10 +17,10 @@ enum-told : tie.Need-enum-told
 enum-told c = search needs
 
 worth-requires : tie.Need-worth-requires
-worth-requires c κs = record { some = search needs; digits = rw (c .enum-told .given .1) at (c .before .before .first-other .ensures) }
+worth-requires c κs = record { some = search needs; digits = search told-digits }
 
 returns-2 : tie.Need-returns-2
-returns-2 c = rw (c .before .other .given .1) at (c .before .before .before .first-other .ensures)
+returns-2 c = search told-other
 
 returns-3 : tie.Need-returns-3
 returns-3 c = search needs

@@ -27,9 +27,10 @@ enum-told-2 c = search needs
 
 returns : tie.Need-returns
 returns c =
-    let a = c .before .before .before .before .before .before .args in
-    let first = rw (c .before .enum-told2 .given .1) at (c .before .before .before .is-plan .ensures) in
-    (rw (front (a .plans .now) (a .at)) at first, inl (drop-of-length-le (a .plans .now) {i = a .at} (omega arith)))
+    let told : tie.After-is-plan = search in
+    let entry : tie.Start = search in
+    let a = entry .args in
+    (rw (front (a .plans .now) (a .at)) at (rw (c .before .enum-told2 .given .1) at (told .is-plan .ensures)), inl (drop-of-length-le (a .plans .now) {i = a .at} (omega arith)))
 
 sub-is-plan-2 : tie.Need-sub-is-plan-2
 sub-is-plan-2 c = search needs
@@ -44,17 +45,19 @@ is-plan-requires-2 : tie.Need-is-plan-requires-2
 is-plan-requires-2 c κs = search needs
 
 returns-2 : tie.Need-returns-2
-returns-2 c = λ x.
-    let a = c .before .before .before .before .before .args in
-    let none = rw (c .enum-told .given .1) at (c .before .before .is-plan .ensures) in
-    none (rw (front (a .plans .now) (a .at)) (x .0))
+returns-2 c =
+    let told : tie.After-is-plan = search in
+    let entry : tie.Start = search in
+    let none = rw (c .enum-told .given .1) at (told .is-plan .ensures) in
+    λ x. none (rw (front (entry .args .plans .now) (entry .args .at)) (x .0))
 
 returns-3 : tie.Need-returns-3
 returns-3 c =
-    let other = c .before .before in
-    let a = other .before .before .before .before .before .before .args in
-    let first = rw (other .before .enum-told2 .given .1) at (other .before .before .before .is-plan .ensures) in
-    told-plans (a .plans .now) (a .at) (c .is-plan2 .result) (omega arith) (λ e. omega arith) first (c .is-plan2 .ensures)
+    let first : tie.After-enum-told2 = search in
+    let told : tie.After-is-plan = search in
+    let entry : tie.Start = search in
+    told-plans (entry .args .plans .now) (entry .args .at) (c .is-plan2 .result) (omega arith) (λ e. omega arith)
+    (rw (first .enum-told2 .given .1) at (told .is-plan .ensures)) (c .is-plan2 .ensures)
 
 pub are-plans-spec : {M : Type 1} → statement M
 are-plans-spec =

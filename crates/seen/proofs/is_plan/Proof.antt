@@ -18,11 +18,12 @@ enum-told-2 : tie.Need-enum-told-2
 enum-told-2 c = search needs
 
 returns : tie.Need-returns
-returns c = let r = rw (c .enum-told .given .1) at (c .before .before .before .read-plan .ensures) in (r .0, r .1)
+returns c = let told : tie.After-read-plan = search in let r = rw (c .enum-told .given .1) at (told .read-plan .ensures) in (r .0, r .1)
 
 returns-2 : tie.Need-returns-2
 returns-2 c =
-    let r = rw (c .enum-told2 .given .1) at (c .before .before .before .read-plan .ensures) in
+    let told : tie.After-read-plan = search in
+    let r = rw (c .enum-told2 .given .1) at (told .read-plan .ensures) in
     refused-no-plan _ _ _ _ (omega arith) (r .0)
 
 pub is-plan-spec : {M : Type 1} → statement M

@@ -3,7 +3,7 @@ use mathlib.Core.Path.{_≡_, _∙_, sym}
 use mathlib.Core.Logic.{_⊎_, inl, inr}
 use native.Mathlib.Omega.{arith}
 use borrow.Author.Needs.{needs}
-use Rattle.seen.proofs.Laws.{front, behind, told-either}
+use Rattle.seen.proofs.Laws.{front, told-either}
 use Rattle.seen.proofs.known_part.Statement.{statement}
 use Rattle.seen.proofs.known_part.Tie as tie
 
@@ -39,14 +39,17 @@ same-requires-2 c κs = search needs
 
 returns : tie.Need-returns
 returns c =
-    let a = c .before .before .before .before .before .before .args in
-    inl (sym (front (a .plans .now) (a .at)) ∙ rw (c .enum-told .given .1) at (c .before .before .same .ensures))
+    let told : tie.After-same = search in
+    let entry : tie.Start = search in
+    inl (sym (front (entry .args .plans .now) (entry .args .at)) ∙ rw (c .enum-told .given .1) at (told .same .ensures))
 
 returns-2 : tie.Need-returns-2
 returns-2 c =
-    let a = c .before .before .before .before .before .before .before .before .args in
-    let first = rw (c .before .before .enum-told2 .given .1) at (c .before .before .before .before .same .ensures) in
-    told-either (a .plans .now) (a .at) (a .plan .now) (c .same2 .result) (omega arith) first (c .same2 .ensures)
+    let other : tie.After-enum-told2 = search in
+    let told : tie.After-same = search in
+    let entry : tie.Start = search in
+    let a = entry .args in
+    told-either (a .plans .now) (a .at) (a .plan .now) (c .same2 .result) (omega arith) (rw (other .enum-told2 .given .1) at (told .same .ensures)) (c .same2 .ensures)
 
 pub known-part-spec : {M : Type 1} → statement M
 known-part-spec =

@@ -1,6 +1,7 @@
 -- `checker::cursors::allowed_told` meets its contract. Assumes nothing.
 use mathlib.Core.Logic.{inl, inr}
 use mathlib.Core.Path.{refl}
+use native.Mathlib.Omega.{arith}
 use borrow.Author.Needs.{needs}
 use Rattle.checker.proofs.cursors.allowed_told.Statement.{statement}
 use Rattle.checker.proofs.cursors.allowed_told.Tie as tie
@@ -9,13 +10,13 @@ shared-slice-read-if1 : tie.Need-shared-slice-read-if1
 shared-slice-read-if1 c = search needs
 
 returns : tie.Need-returns
-returns c = inr (record { cursor = search; at = refl; cause = inl (record { number = refl; not-below = search needs }) })
+returns c = inr (search, inl (refl, refl, λ h. omega arith))
 
 shared-slice-read-if2 : tie.Need-shared-slice-read-if2
 shared-slice-read-if2 c = search needs
 
 returns-2 : tie.Need-returns-2
-returns-2 c = inr (record { cursor = search; at = refl; cause = inr (record { number = refl; below = search needs; last = search needs }) })
+returns-2 c = inr (search, inr (search needs, (refl, refl, λ h. omega arith)))
 
 returns-3 : tie.Need-returns-3
 returns-3 c = search needs

@@ -10,7 +10,7 @@ shared-slice-read-if1 : tie.Need-shared-slice-read-if1
 shared-slice-read-if1 c = search needs
 
 returns : tie.Need-returns
-returns c = inr (record { shape = c .before .before .before .before .pre; at = refl; cause = inl (record { number = refl; other = c .if1 .taken }) })
+returns c = inr (c .before .before .before .before .pre, inl (refl, refl, c .if1 .taken))
 
 place-or-end-told-requires : tie.Need-place-or-end-told-requires
 place-or-end-told-requires c κs = search needs
@@ -25,11 +25,11 @@ returns-2 : tie.Need-returns-2
 returns-2 c = record { shape = c .before .before .before .before .before .before .before .pre; revision = c .before .before .before .if1 .left; stands = subst (Tells _) (c .enum-told .given .1) (c .before .before .place-or-end-told .ensures) }
 
 returns-3 : tie.Need-returns-3
-returns-3 c = inr (record {
-  shape = c .before .before .before .before .before .before .before .pre;
-  at = refl;
-  cause = inr (record { number = refl; revision = c .before .before .before .if1 .left; nowhere = subst (Tells _) (c .enum-told2 .given .1) (c .before .before .place-or-end-told .ensures) });
-})
+returns-3 c =
+    inr (
+      c .before .before .before .before .before .before .before .pre,
+      inr (c .before .before .before .if1 .left, (refl, refl, subst (Tells _) (c .enum-told2 .given .1) (c .before .before .place-or-end-told .ensures))),
+    )
 
 pub placed-told-spec : {M : Type 1} → statement M
 placed-told-spec =

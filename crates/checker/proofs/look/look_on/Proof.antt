@@ -98,7 +98,7 @@ cast-t20 : tie.Need-cast-t20 Inv-loop μ-loop
 cast-t20 c = omega (arith, below (c .before .before .before .before .before .before), few (c .before .before .before .before))
 
 cast-t21 : tie.Need-cast-t21 Inv-loop μ-loop
-cast-t21 c = omega (arith, broken (c .before .before) _ _ (c .before .told .given .1) .below, limit-is (c .before .before .before .before), few (c .before .before .before .before))
+cast-t21 c = omega (arith, broken (c .before .before) _ _ (c .before .told .given .1) .first .inside, limit-is (c .before .before .before .before), few (c .before .before .before .before))
 
 wide-requires-5 : tie.Need-wide-requires-5 Inv-loop μ-loop
 wide-requires-5 c κs = search needs
@@ -107,16 +107,16 @@ sub-t24 : tie.Need-sub-t24 Inv-loop μ-loop
 sub-t24 c = omega (arith, c .before .before .before .before .before .before .before .before .loop .inv .1 .within, c .wide5 .ensures)
 
 sub-t25 : tie.Need-sub-t25 Inv-loop μ-loop
-sub-t25 c = omega (arith, broken (c .before .before .before) _ _ (c .before .before .told .given .1) .from)
+sub-t25 c = omega (arith, broken (c .before .before .before) _ _ (c .before .before .told .given .1) .first .above)
 
 add-t26 : tie.Need-add-t26 Inv-loop μ-loop
-add-t26 c = omega (arith, used (c .before .before .before .before .before), broken (c .before .before .before) _ _ (c .before .before .told .given .1) .below, broken (c .before .before .before) _ _ (c .before .before .told .given .1) .from, c .before .before .before .before .before .before .before .before .loop .inv .1 .within, c .wide5 .ensures, c .before .before .before .before .before .before .before .before .before .before .before .before .before .before .before .before .before .fits)
+add-t26 c = omega (arith, used (c .before .before .before .before .before), broken (c .before .before .before) _ _ (c .before .before .told .given .1) .first .inside, broken (c .before .before .before) _ _ (c .before .before .told .given .1) .first .above, c .before .before .before .before .before .before .before .before .loop .inv .1 .within, c .wide5 .ensures, c .before .before .before .before .before .before .before .before .before .before .before .before .before .before .before .before .before .fits)
 
 add-t27 : tie.Need-add-t27 Inv-loop μ-loop
-add-t27 c = omega (arith, used (c .before .before .before .before .before), broken (c .before .before .before) _ _ (c .before .before .told .given .1) .below, broken (c .before .before .before) _ _ (c .before .before .told .given .1) .from, c .before .before .before .before .before .before .before .before .loop .inv .1 .within, c .wide5 .ensures)
+add-t27 c = omega (arith, used (c .before .before .before .before .before), broken (c .before .before .before) _ _ (c .before .before .told .given .1) .first .inside, broken (c .before .before .before) _ _ (c .before .before .told .given .1) .first .above, c .before .before .before .before .before .before .before .before .loop .inv .1 .within, c .wide5 .ensures)
 
 cast-t28 : tie.Need-cast-t28 Inv-loop μ-loop
-cast-t28 c = omega (arith, used (c .before .before .before .before .before), broken (c .before .before .before) _ _ (c .before .before .told .given .1) .below, broken (c .before .before .before) _ _ (c .before .before .told .given .1) .from, c .before .before .before .before .before .before .before .before .loop .inv .1 .within, c .wide5 .ensures)
+cast-t28 c = omega (arith, used (c .before .before .before .before .before), broken (c .before .before .before) _ _ (c .before .before .told .given .1) .first .inside, broken (c .before .before .before) _ _ (c .before .before .told .given .1) .first .above, c .before .before .before .before .before .before .before .before .loop .inv .1 .within, c .wide5 .ensures)
 
 returns : tie.Need-returns Inv-loop μ-loop
 returns c =

@@ -2,6 +2,7 @@
 use mathlib.Core.Logic.{inl, inr}
 use mathlib.Core.Path.{refl}
 use Rattle.host.proofs.Steps.{slice-small, slice-made, with-result}
+use native.Mathlib.Omega.{arith}
 use borrow.Author.Needs.{needs}
 use Rattle.host.proofs.tables.slice_table.Statement.{statement}
 use Rattle.host.proofs.tables.slice_table.Tie as tie
@@ -10,7 +11,7 @@ refused-requires : tie.Need-refused-requires
 refused-requires c κs = search needs
 
 returns : tie.Need-returns
-returns c = inl (record { number = _; at = _; fault = record { number = refl; position = refl; fewer = c .before .if1 .taken }; answer = c .refused .ensures; kept = refl })
+returns c = inl (record { number = _; at = _; fault = (refl, refl, λ h. omega (arith, c .before .if1 .taken)); answer = c .refused .ensures; kept = refl })
 
 slice-requires : tie.Need-slice-requires
 slice-requires c κs = search needs

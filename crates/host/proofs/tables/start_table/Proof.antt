@@ -16,7 +16,7 @@ refused-requires : tie.Need-refused-requires
 refused-requires c κs = search needs
 
 returns : tie.Need-returns
-returns c = inl (record { number = _; at = _; fault = record { number = refl; position = refl; fewer = c .before .if1 .taken }; answer = c .refused .ensures; kept = refl })
+returns c = inl (record { number = _; at = _; fault = (refl, refl, λ h. omega (arith, c .before .if1 .taken)); answer = c .refused .ensures; kept = refl })
 
 start-requires : tie.Need-start-requires
 start-requires c κs = search needs

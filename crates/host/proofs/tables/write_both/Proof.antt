@@ -16,7 +16,7 @@ enum-known-written c = search needs
 refused-requires : tie.Need-refused-requires
 refused-requires c κs =
     let x = unwritten-room _ _ _ _ _ _ (c .before .before .before .before .before .before .before .before .before .before .pre .0) (c .before .written .given .1) (c .before .before .before .before .before .write-plan .ensures) in
-    record { number = omega (arith, x .number); position = omega (arith, x .position) }
+    record { number = omega (arith, x .0); position = omega (arith, x .1) }
 
 enum-known-written-2 : tie.Need-enum-known-written-2
 enum-known-written-2 c = search needs

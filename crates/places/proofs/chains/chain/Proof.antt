@@ -11,7 +11,7 @@ abbrev μ-loop : tie.MeasureT-loop
 μ-loop t first₀ next₀ legs n₀ first next n = n
 
 leg-part-requires : tie.Need-leg-part-requires Inv-loop μ-loop
-leg-part-requires c κs = search needs
+leg-part-requires c κs = search
 
 shared-slice-read-wide : tie.Need-shared-slice-read-wide Inv-loop μ-loop
 shared-slice-read-wide c = search needs
@@ -56,10 +56,10 @@ loop-again : tie.Need-loop-again Inv-loop μ-loop
 loop-again c = search turn-more
 
 same-length : tie.Need-same-length Inv-loop μ-loop
-same-length c = search needs
+same-length c = search
 
 same-length-2 : tie.Need-same-length-2 Inv-loop μ-loop
-same-length-2 c = search needs
+same-length-2 c = search
 
 returns : tie.Need-returns Inv-loop μ-loop
 returns c = (search all-begun, search all-chained)

@@ -15,7 +15,7 @@ loop-holds : tie.Need-loop-holds Inv-loop μ-loop
 loop-holds c = passed-none
 
 judged-place-requires : tie.Need-judged-place-requires Inv-loop μ-loop
-judged-place-requires c κs = search needs
+judged-place-requires c κs = (search, (search, search needs))
 
 enum-known-told : tie.Need-enum-known-told Inv-loop μ-loop
 enum-known-told c = search needs

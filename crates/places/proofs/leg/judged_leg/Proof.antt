@@ -12,7 +12,7 @@ lesser-requires : tie.Need-lesser-requires
 lesser-requires c κs = search needs
 
 each-told-requires : tie.Need-each-told-requires
-each-told-requires c κs = search needs
+each-told-requires c κs = (search, (search, search needs))
 
 enum-known-told : tie.Need-enum-known-told
 enum-known-told c = search needs

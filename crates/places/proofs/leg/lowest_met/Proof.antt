@@ -21,10 +21,10 @@ slot-at-requires : tie.Need-slot-at-requires Inv-loop μ-loop
 slot-at-requires c κs = search turn-leg
 
 known-with-requires : tie.Need-known-with-requires Inv-loop μ-loop
-known-with-requires c κs = search needs
+known-with-requires c κs = search
 
 apart-requires : tie.Need-apart-requires Inv-loop μ-loop
-apart-requires c κs = search needs
+apart-requires c κs = (search, (search, search))
 
 enum-told : tie.Need-enum-told Inv-loop μ-loop
 enum-told c = search needs
