@@ -114,10 +114,10 @@ fn shape_line(t: &[u32]) {
 }
 
 // How many places so many legs have.
-fn places_line(legs: u32) {
-    if legs <= 2048 {
+fn places_line(legs: usize) {
+    if legs <= table::MAX_LEGS {
         show::text(b"places ");
-        show::number(places::place_count(legs as usize) as u64);
+        show::number(places::place_count(legs) as u64);
         show::end_line();
     }
 }
@@ -128,7 +128,7 @@ pub(crate) fn asked(verb: &[u8], numbers: [u32; 4], t: &[u32]) -> bool {
         return true;
     }
     if text::is(verb, b"places") {
-        places_line(numbers[0]);
+        places_line(numbers[0] as usize);
         return true;
     }
     false
