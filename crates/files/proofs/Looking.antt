@@ -67,23 +67,22 @@ module _ {e : Edition} {s h : List ℕ} {next : ℕ} {told : Limits} (d : Header
   front : (r : List ℕ) → SameHeader h (h ++ r)
   front r = header-in-front h r (omega (arith, d .five))
 
-  module _ {p : ℕ} (r : List ℕ) (row : Row s next r p) where
-    -- All records stand: the table is whole.
-    table-whole : length r ≡ size - headWords → SizedIn e (h ++ r)
-    table-whole n =
-        let l = length-append h r in
-        let w = words-same e (front r) in
-        record { head = omega (arith, d .five); limits = limits-same e (front r) (within .0); exact = omega (arith, d .five, within .1) }
+  -- All records stand: the table is whole.
+  table-whole : (r : List ℕ) → length r ≡ size - headWords → SizedIn e (h ++ r)
+  table-whole r n =
+      let l = length-append h r in
+      let k = words-same e (front r) in
+      record { head = omega (arith, d .five); limits = limits-same e (front r) (within .0); exact = omega (arith, d .five, within .1) }
 
   module _ {p : ℕ} (n : Numbers s next (size - headWords) p) where
     pub table-over : p < length s → Over (SizedIn e) s p
-    table-over z = record { ws = h ++ n .ws; row = row-append h (n .ws) (d .row) (n .row); complete = table-whole (n .ws) (n .row) (n .count); left-over = z }
+    table-over z = record { ws = h ++ n .ws; row = row-append h (n .ws) (d .row) (n .row); complete = table-whole (n .ws) (n .count); left-over = z }
 
     pub table-file : length s ≤ p → PlanTold e s (Words size)
     table-file z =
         let t = row-append h (n .ws) (d .row) (n .row) in (
           h ++ n .ws,
-          record { complete = table-whole (n .ws) (n .row) (n .count); words = t .words; bytes = row-whole (h ++ n .ws) t z },
+          record { complete = table-whole (n .ws) (n .count); words = t .words; bytes = row-whole (h ++ n .ws) t z },
           omega (arith, length-append h (n .ws), d .five, n .count, within .1),
         )
 
@@ -91,7 +90,7 @@ module _ {e : Edition} {s h : List ℕ} {next : ℕ} {told : Limits} (d : Header
   pub table-cut : {k p : ℕ} → Stopped s next (size - headWords) k p → Cut (PlanDueIn e) s k p
   table-cut x =
       let l = length-append h (x .ws) in
-      let w = words-same e (front (x .ws)) in
+      let k = words-same e (front (x .ws)) in
       record {
         ws = h ++ x .ws;
         row = row-append h (x .ws) (d .row) (x .row);
