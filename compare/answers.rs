@@ -1,7 +1,7 @@
 //! What the program of cases prints for a list that is spelled out, a call in each line.
 
 use crate::check::{begin, host_move, host_slice, host_start, Checker, Plain};
-use crate::format::{encoded, table, table_words, write_cursor, write_plan, Cursor, Outcome, Refusal};
+use crate::format::{encoded, table, table_words, write_cursor, write_plan, Cursor, Move, Outcome, Refusal};
 use crate::list::{bytes, hex, joined, numbers};
 use crate::paper::{LIMITS, NOTHING_VIOLATED, NUMBER_BYTES, PAUSED};
 use crate::told::{refusal, rule_named, words};
@@ -25,7 +25,11 @@ fn cursor_told(cursor: Cursor) -> String {
 
 /// Words of a lent buffer on one line.
 fn row(words: &[u32]) -> String {
-    if words.is_empty() { "none\n".to_string() } else { joined(words) + "\n" }
+    if words.is_empty() {
+        "none\n".to_string()
+    } else {
+        joined(words) + "\n"
+    }
 }
 
 /// What was written into a marked buffer of this length.
@@ -84,11 +88,11 @@ impl Calls {
         format!("{}: {} steps {}{}\n", kind, cursor_told(sliced.cursor), sliced.steps, rule)
     }
 
-    fn move_leg(&mut self, leg: u32, offset: u32) -> String {
+    fn move_leg(&mut self, wanted: Move) -> String {
         let moved = table(&Plain, &self.table).and_then(|mut plan| {
             Plain.judge(&plan)?;
             Plain.fits(&plan, self.cursor)?;
-            let cursor = Plain.moved(&mut plan, self.cursor, leg, offset)?;
+            let cursor = Plain.moved(&mut plan, self.cursor, wanted)?;
             Ok((plan.words(), cursor))
         });
         if let Ok((words, _)) = &moved {
@@ -163,9 +167,9 @@ impl Calls {
         format!("slice {}{}\nalone {}\n{}\n", both(given), lent, given as u32, lent)
     }
 
-    fn host_move(&self, leg: u32, offset: u32, file_room: usize, room: usize) -> String {
+    fn host_move(&self, wanted: Move, file_room: usize, room: usize) -> String {
         let (mut file, mut out) = (vec![MARK; file_room], vec![MARK; room]);
-        let given = host_move(&Plain, &self.plan, &self.saved, leg, offset, &mut file, &mut out);
+        let given = host_move(&Plain, &self.plan, &self.saved, wanted, &mut file, &mut out);
         format!("move {}{}\n{}\n", both(given), hex(&file), hex(&out))
     }
 
@@ -194,7 +198,7 @@ impl Calls {
                 .map_or_else(refusal, |_| "well-formed\n".to_string()),
             ("start", []) => self.start(),
             ("slice", [budget]) => self.slice(*budget),
-            ("move", [leg, offset]) => self.move_leg(*leg, *offset),
+            ("move", [leg, offset]) => self.move_leg(Move { leg: *leg, offset: *offset }),
             ("places", [legs]) => format!("places {}\n", Plain.places(u64::from(*legs))),
             ("read-plan", [_]) => self.read_plan(room(0)),
             ("write-plan", [_]) => written(write_plan(&Plain, &self.table, room(0)), 0, room(0)),
@@ -206,10 +210,12 @@ impl Calls {
             ("write-cursor", [_]) => self.write_cursor(room(0)),
             ("host-start", [_]) => self.host_start(room(0)),
             ("host-slice", [budget, _]) => self.host_slice(*budget, room(1)),
-            ("host-move", [leg, offset, _, _]) => self.host_move(*leg, *offset, room(2), room(3)),
+            ("host-move", [leg, offset, _, _]) => self.host_move(Move { leg: *leg, offset: *offset }, room(2), room(3)),
             ("digits", []) => digits(&self.saved),
             ("same", []) => yes(self.plan == self.saved),
-            ("known", []) => yes(seen(&self.saved).map_or(false, |(first, other)| first == self.plan || other == self.plan)),
+            ("known", []) => {
+                yes(seen(&self.saved).map_or(false, |(first, other)| first == self.plan || other == self.plan))
+            }
             ("copy", []) => yes(seen(&self.saved).map_or(false, |(first, other)| {
                 let is_plan = |file: &[u8]| Plain.read_plan(file).is_ok();
                 is_plan(first) && (other.is_empty() || is_plan(other))
@@ -220,7 +226,11 @@ impl Calls {
 }
 
 fn yes(holds: bool) -> String {
-    if holds { "yes\n".to_string() } else { "no\n".to_string() }
+    if holds {
+        "yes\n".to_string()
+    } else {
+        "no\n".to_string()
+    }
 }
 
 /// A number as a person types it: digits and nothing else.
@@ -231,7 +241,8 @@ fn digits(text: &[u8]) -> String {
     if let Some(at) = text.iter().position(|byte| !byte.is_ascii_digit()) {
         return format!("no digit at {}\n", at);
     }
-    let value = text.iter().fold(0u128, |value, digit| (value * 10 + u128::from(digit - b'0')).min(u128::from(u64::MAX)));
+    let value =
+        text.iter().fold(0u128, |value, digit| (value * 10 + u128::from(digit - b'0')).min(u128::from(u64::MAX)));
     match u32::try_from(value) {
         Ok(value) => format!("value {}\n", value),
         Err(_) => "too large\n".to_string(),
@@ -242,7 +253,11 @@ fn digits(text: &[u8]) -> String {
 fn seen(bytes: &[u8]) -> Option<(&[u8], &[u8])> {
     let (size, next) = Plain.number(bytes, 0).ok()?;
     let plans = &bytes[next..];
-    if plans.len() < size as usize { None } else { Some(plans.split_at(size as usize)) }
+    if plans.len() < size as usize {
+        None
+    } else {
+        Some(plans.split_at(size as usize))
+    }
 }
 
 /// What the program prints for these lines.

@@ -1,6 +1,7 @@
 //! A call for C with all that it is lent, and what it gives.
 
 use crate::check::{host_move, host_slice, host_start, Checker};
+use crate::format::Move;
 use std::io::{self, Read, Write};
 use std::sync::Arc;
 
@@ -31,6 +32,12 @@ pub struct Call {
     pub out: Vec<u8>,
 }
 
+impl Call {
+    fn wanted(&self) -> Move {
+        Move { leg: self.number, offset: self.offset }
+    }
+}
+
 #[derive(Clone, Debug, PartialEq, Eq)]
 pub struct Answer {
     pub result: u64,
@@ -45,7 +52,7 @@ pub fn answer<C: Checker>(c: &C, call: &Call) -> Answer {
         Kind::Slice => host_slice(c, &call.plan, &call.cursor, call.number, &mut out) & u64::from(u32::MAX),
         Kind::SliceFull => host_slice(c, &call.plan, &call.cursor, call.number, &mut out),
         Kind::Start => host_start(c, &call.plan, &mut out),
-        Kind::Move => host_move(c, &call.plan, &call.cursor, call.number, call.offset, &mut new_plan, &mut out),
+        Kind::Move => host_move(c, &call.plan, &call.cursor, call.wanted(), &mut new_plan, &mut out),
     };
     Answer { result, new_plan, out }
 }

@@ -5,7 +5,7 @@ use crate::chance::Chance;
 use crate::check::{begin, next, places_before, places_of, Checker, Plain};
 use crate::damage::{any_bytes, bend_route, damage_bytes, damage_table, double_links, routes, shift_legs};
 use crate::drafts::{beyond, large, medium, one_link, plan_a, row, small, to_an_edge};
-use crate::format::{cursor_bytes, encoded, is_whole, plan_bytes, Cursor, Plan};
+use crate::format::{cursor_bytes, encoded, is_whole, plan_bytes, Cursor, Move, Plan};
 use crate::paper::{CURSOR_BYTES, GRANTED, MORE, NOTHING_VIOLATED, REFUSED, VIOLATED};
 use std::sync::Arc;
 
@@ -103,7 +103,7 @@ impl Batch {
     }
 
     /// Moves a leg. The room for the new plan is a little more or less than what it needs, or just that.
-    fn move_leg(&mut self, plan: &Arc<[u8]>, cursor: Vec<u8>, leg: u32, offset: u32, needed: usize) -> &Answer {
+    fn move_leg(&mut self, plan: &Arc<[u8]>, cursor: Vec<u8>, wanted: Move, needed: usize) -> &Answer {
         let length = match self.chance.below(10) {
             0 => self.chance.below(needed + 1),
             1 => needed - 1,
@@ -113,6 +113,7 @@ impl Batch {
             _ => needed,
         };
         let (new_plan, out) = (self.lent(length), self.lent_out());
+        let Move { leg, offset } = wanted;
         self.make(Call { kind: Kind::Move, plan: plan.clone(), cursor, number: leg, offset, new_plan, out })
     }
 
@@ -121,7 +122,7 @@ impl Batch {
         let number = self.chance.any_size();
         match self.chance.below(4) {
             0 => self.start(plan),
-            1 => self.move_leg(plan, cursor, number % 8, number, plan.len() + 3),
+            1 => self.move_leg(plan, cursor, Move { leg: number % 8, offset: number }, plan.len() + 3),
             _ => self.slice(plan, cursor, number),
         };
     }
@@ -185,10 +186,10 @@ impl Batch {
         for (leg, place) in [(0, 0), (1, 2), (2, 3)] {
             self.slice(&bytes, cursor(0, leg, place), 5);
         }
-        for (leg, offset) in [(2, 576), (0, 600)] {
-            self.move_leg(&bytes, cursor(0, 2, 3), leg, offset, bytes.len() + 1);
+        for wanted in [Move { leg: 2, offset: 576 }, Move { leg: 0, offset: 600 }] {
+            self.move_leg(&bytes, cursor(0, 2, 3), wanted, bytes.len() + 1);
             let mut after = plan.clone();
-            let moved = Plain.moved(&mut after, Cursor { revision: 0, leg: 2, place: 3 }, leg, offset);
+            let moved = Plain.moved(&mut after, Cursor { revision: 0, leg: 2, place: 3 }, wanted);
             let from = moved.expect("Plan A has this leg");
             self.slice(&plan_bytes(&after).into(), cursor_bytes(from), 5);
         }
@@ -261,11 +262,12 @@ impl Batch {
             }
         };
         let mut after = plan.clone();
-        let needed = match Plain.moved(&mut after, cursor, leg, offset) {
+        let wanted = Move { leg, offset };
+        let needed = match Plain.moved(&mut after, cursor, wanted) {
             Ok(_) => plan_bytes(&after).len(),
             Err(_) => bytes.len(),
         };
-        let answered = self.move_leg(bytes, cursor_bytes(cursor), leg, offset, needed);
+        let answered = self.move_leg(bytes, cursor_bytes(cursor), wanted, needed);
         let from = if low(answered.result) == GRANTED { Some(given(&answered.out)) } else { None };
         (after, from)
     }

@@ -1,6 +1,6 @@
 //! Start, slice and move, and the four calls for C. Plain code: one loop over the places in order.
 
-use crate::format::{self, cursor_bytes, plan_bytes, refused, Cursor, Leg, Link, Outcome, Plan, Refusal, Stream};
+use crate::format::{self, cursor_bytes, plan_bytes, refused, Cursor, Leg, Link, Move, Outcome, Plan, Refusal, Stream};
 use crate::paper::{
     Limits, Rule, CURSOR_BYTES, DEADLINE, GRANTED, HOP, LAST_REVISION, LIMITS, NOTHING_VIOLATED, NO_LEG, NO_PLACE,
     OVERLAP, OVERLAPS, PAUSED, REFUSED, RULES, STALE, WINDOW,
@@ -86,7 +86,7 @@ decisions! {
     holds(plan: &Plan, leg: usize, place: u32) -> bool = holds;
     slice(plan: &Plan, from: Cursor, budget: u32) -> Sliced = slice;
     fits(plan: &Plan, cursor: Cursor) -> Outcome<()> = fits;
-    moved(plan: &mut Plan, cursor: Cursor, leg: u32, offset: u32) -> Outcome<Cursor> = moved;
+    moved(plan: &mut Plan, cursor: Cursor, wanted: Move) -> Outcome<Cursor> = moved;
     // The calls for C.
     room(least: usize, lent: usize) -> Outcome<()> = format::room;
     opened(plan: &[u8], cursor: &[u8], lent: usize) -> Outcome<(Plan, Cursor)> = opened;
@@ -194,16 +194,16 @@ pub fn fits<C: Checker>(_: &C, plan: &Plan, cursor: Cursor) -> Outcome<()> {
 }
 
 /// Sets one leg's offset. The cursor goes back to that leg where it had passed it.
-pub fn moved<C: Checker>(_: &C, plan: &mut Plan, cursor: Cursor, leg: u32, offset: u32) -> Outcome<Cursor> {
-    if leg as usize >= plan.legs.len() {
+pub fn moved<C: Checker>(_: &C, plan: &mut Plan, cursor: Cursor, wanted: Move) -> Outcome<Cursor> {
+    if wanted.leg as usize >= plan.legs.len() {
         return refused(NO_LEG, 0);
     }
     if plan.revision == u32::MAX {
         return refused(LAST_REVISION, 0);
     }
     plan.revision += 1;
-    plan.legs[leg as usize].offset = offset;
-    let (leg, place) = (cursor.leg, cursor.place).min((leg, 0));
+    plan.legs[wanted.leg as usize].offset = wanted.offset;
+    let (leg, place) = (cursor.leg, cursor.place).min((wanted.leg, 0));
     Ok(Cursor { revision: plan.revision, leg, place })
 }
 
@@ -263,14 +263,13 @@ pub fn host_move<C: Checker>(
     c: &C,
     plan: &[u8],
     cursor: &[u8],
-    leg: u32,
-    offset: u32,
+    wanted: Move,
     new_plan: &mut [u8],
     out: &mut [u8],
 ) -> u64 {
     let moved = || {
         let (mut plan, cursor) = c.opened(plan, cursor, out.len())?;
-        let cursor = c.moved(&mut plan, cursor, leg, offset)?;
+        let cursor = c.moved(&mut plan, cursor, wanted)?;
         let bytes = plan_bytes(&plan);
         c.room(bytes.len(), new_plan.len())?;
         Ok((bytes, cursor))

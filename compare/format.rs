@@ -59,6 +59,13 @@ pub struct Cursor {
     pub place: u32,
 }
 
+/// A move: the leg, and what it is set to.
+#[derive(Clone, Copy, Debug, PartialEq, Eq)]
+pub struct Move {
+    pub leg: u32,
+    pub offset: u32,
+}
+
 // ---- The order of the words
 
 impl Link {

@@ -42,9 +42,9 @@ mod wrong;
 
 use chance::Chance;
 use check::{begin, Checker, Plain};
-use format::{encoded, index_of, table, write_cursor, write_plan, Cursor, Outcome, Plan, HEADER};
+use format::{encoded, index_of, table, write_cursor, write_plan, Cursor, Move, Outcome, Plan, HEADER};
 use paper::{CURSOR_WORDS, NOTHING_VIOLATED, PAUSED};
-use std::io::{BufRead, Write};
+use std::io::{BufRead, Read, Write};
 use told::{joined, printed, rule_named, Verb};
 
 /// What is wrong with a question.
@@ -138,8 +138,8 @@ fn slice(plan: &Plan, cursor: Cursor, budget: u32) -> String {
     format!("{} {} steps {}{}\n", kind, told(sliced.cursor), sliced.steps, rule)
 }
 
-fn moved(mut plan: Plan, cursor: Cursor, leg: u32, offset: u32) -> Outcome<String> {
-    let cursor = Plain.moved(&mut plan, cursor, leg, offset)?;
+fn moved(mut plan: Plan, cursor: Cursor, wanted: Move) -> Outcome<String> {
+    let cursor = Plain.moved(&mut plan, cursor, wanted)?;
     Ok(format!("granted {}\nw{}\n", told(cursor), joined(&plan.words(), ",")))
 }
 
@@ -175,8 +175,8 @@ fn answer(question: &[&str]) -> Asked<String> {
             opened(&given(1)?, &given(2)?)?.map(|(plan, cursor)| slice(&plan, cursor, budget))
         }
         ["move", _, _, leg, offset] => {
-            let (leg, offset) = (number(leg)?, number(offset)?);
-            opened(&given(1)?, &given(2)?)?.and_then(|(plan, cursor)| moved(plan, cursor, leg, offset))
+            let wanted = Move { leg: number(leg)?, offset: number(offset)? };
+            opened(&given(1)?, &given(2)?)?.and_then(|(plan, cursor)| moved(plan, cursor, wanted))
         }
         ["word", _, name @ ..] => match given(1)?.plan() {
             Ok(plan) => Ok(index(&plan, name)?),
@@ -224,7 +224,9 @@ fn inputs(verb: Verb, seed: u64, most: usize) -> bool {
 }
 
 fn input() -> Asked<String> {
-    std::io::read_to_string(std::io::stdin()).map_err(|fault| fault.to_string())
+    let mut text = String::new();
+    std::io::stdin().read_to_string(&mut text).map_err(|fault| fault.to_string())?;
+    Ok(text)
 }
 
 fn shown_all(told: String) -> bool {

@@ -56,7 +56,8 @@ impl Written {
     }
 
     fn file(&self) -> Vec<u8> {
-        let mut bytes = self.words.iter().flat_map(|(_, bytes)| bytes.clone()).chain(self.after.clone()).collect::<Vec<_>>();
+        let mut bytes =
+            self.words.iter().flat_map(|(_, bytes)| bytes.clone()).chain(self.after.clone()).collect::<Vec<_>>();
         bytes.truncate(self.cut.unwrap_or(bytes.len()));
         bytes
     }

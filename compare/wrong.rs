@@ -2,7 +2,9 @@
 //! groups have to be caught by what the programs print, too.
 
 use crate::check::{self, begin, next, packed, places_before, places_of, rule_at, Bent, Checker, Plain, Sliced, RIGHT};
-use crate::format::{self, plan_bytes, refused, table_words, Cursor, Link, Numbers, Outcome, Plan, Refusal, Stream};
+use crate::format::{
+    self, plan_bytes, refused, table_words, Cursor, Link, Move, Numbers, Outcome, Plan, Refusal, Stream,
+};
 use crate::paper::{
     Limits, ABOVE_LIMIT, BAD_FORM, CURSOR_BYTES, DEADLINE, ENDS_EARLY, GROUP_BITS, HEADER_WORDS, HOP, LAST_REVISION,
     LEFT_OVER, LEG_WRONG, LIMITS, LINK_RANGE, LINK_TWICE, MORE, NOTHING_VIOLATED, NO_PLACE, NO_ROOM, NUMBER_BYTES,
@@ -709,47 +711,47 @@ fn of_slices() -> Vec<Wrong> {
 }
 
 fn of_moves() -> Vec<Wrong> {
-    let revision_kept = |c: &Bent, plan: &mut Plan, cursor: Cursor, leg: u32, offset: u32| {
+    let revision_kept = |c: &Bent, plan: &mut Plan, cursor: Cursor, wanted: Move| {
         let revision = plan.revision;
-        let after = check::moved(c, plan, cursor, leg, offset)?;
+        let after = check::moved(c, plan, cursor, wanted)?;
         plan.revision = revision;
         Ok(Cursor { revision, ..after })
     };
-    let same_value_no_move = |c: &Bent, plan: &mut Plan, cursor: Cursor, leg: u32, offset: u32| {
+    let same_value_no_move = |c: &Bent, plan: &mut Plan, cursor: Cursor, wanted: Move| {
         let before = plan.clone();
-        let after = check::moved(c, plan, cursor, leg, offset)?;
-        if before.legs[leg as usize].offset != offset {
+        let after = check::moved(c, plan, cursor, wanted)?;
+        if before.legs[wanted.leg as usize].offset != wanted.offset {
             return Ok(after);
         }
         *plan = before;
         Ok(Cursor { revision: plan.revision, ..after })
     };
-    let revision_wraps = |c: &Bent, plan: &mut Plan, cursor: Cursor, leg: u32, offset: u32| {
+    let revision_wraps = |c: &Bent, plan: &mut Plan, cursor: Cursor, wanted: Move| {
         let last = plan.revision == u32::MAX;
         plan.revision -= u32::from(last);
-        let after = check::moved(c, plan, cursor, leg, offset)?;
+        let after = check::moved(c, plan, cursor, wanted)?;
         plan.revision = if last { 0 } else { plan.revision };
         Ok(Cursor { revision: plan.revision, ..after })
     };
     vec![
         wrong("the cursor kept after a move", |c| {
-            c.moved = |c, plan, cursor, leg, offset| {
-                check::moved(c, plan, cursor, leg, offset).map(|after| Cursor { revision: after.revision, ..cursor })
+            c.moved = |c, plan, cursor, wanted| {
+                check::moved(c, plan, cursor, wanted).map(|after| Cursor { revision: after.revision, ..cursor })
             }
         }),
         wrong("the cursor always at the moved leg", |c| {
-            c.moved = |c, plan, cursor, leg, offset| {
-                check::moved(c, plan, cursor, leg, offset).map(|after| Cursor { leg, place: 0, ..after })
+            c.moved = |c, plan, cursor, wanted| {
+                check::moved(c, plan, cursor, wanted).map(|after| Cursor { leg: wanted.leg, place: 0, ..after })
             }
         }),
         wrong("the revision not raised", |c| c.moved = revision_kept),
         wrong("the revision not raised where the offset stays", |c| c.moved = same_value_no_move),
         wrong("11 before 10", |c| {
-            c.moved = |c, plan, cursor, leg, offset| {
+            c.moved = |c, plan, cursor, wanted| {
                 if plan.revision == u32::MAX {
                     return refused(LAST_REVISION, 0);
                 }
-                check::moved(c, plan, cursor, leg, offset)
+                check::moved(c, plan, cursor, wanted)
             }
         }),
         wrong("the last revision followed by 0", |c| c.moved = revision_wraps),
@@ -768,9 +770,9 @@ fn of_lent_memory() -> Vec<Wrong> {
         c.fits(&plan, cursor)?;
         Ok((plan, cursor))
     };
-    let room_of_the_old_plan = |c: &Bent, plan: &mut Plan, cursor: Cursor, leg: u32, offset: u32| {
+    let room_of_the_old_plan = |c: &Bent, plan: &mut Plan, cursor: Cursor, wanted: Move| {
         let old = plan_bytes(plan).len();
-        let after = check::moved(c, plan, cursor, leg, offset)?;
+        let after = check::moved(c, plan, cursor, wanted)?;
         if plan_bytes(plan).len() > old {
             refused(NO_ROOM, 0)
         } else {

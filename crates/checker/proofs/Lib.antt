@@ -1,3 +1,4 @@
 pub mod LookLaws
 pub mod OneAnswer
+pub mod Refused
 pub mod RefusalsAtNumbers

@@ -62,14 +62,14 @@ module _ {t : List ℕ} {c : Cursor} (right : CursorRight t c) where
       passed = budget - left + (q - p);
       went = record {
         revision = right .revision;
-        steps = omega (arith, i .steps, i .within, b .from);
-        held = held-on (cursorRank c) a p q (i .held) (b .before) (omega (arith, b .below));
+        steps = omega (arith, i .steps, i .within, b .first .above);
+        held = held-on (cursorRank c) a p q (i .held) (b .first .before) (omega (arith, b .first .inside));
       };
       steps = refl;
-      place = record { leg = h; place = omega (arith, b .below) };
-      broken = b .broken;
+      place = record { leg = h; place = omega (arith, b .first .inside) };
+      broken = b .first .bad;
       rule = b .rule;
-      within = omega (arith, i .within, b .from, b .below);
+      within = omega (arith, i .within, b .first .above, b .first .inside);
     }
 
     pub looking-paused : (limit : ℕ) → a < legCount t → limit ≡ p + left → limit < placesOf a → LegHolds t a p limit
@@ -208,7 +208,7 @@ module _ (s : AtLeg) where
 
   -- A place that is told is one of those looked at.
   abbrev pub turn-found : {q : ℕ} {r : Rule} → told ≡ Broken q r → FoundWithin
-  turn-found {q} {r} is = let b : FirstBroken t a p (p + step) q r = subst (ToldOfLeg t a p (p + step)) is m in record { from = p; limit = p + step; at = q; not-before = b .from; below = b .below }
+  turn-found {q} {r} is = let b : FirstBroken t a p (p + step) q r = subst (ToldOfLeg t a p (p + step)) is m in record { from = p; limit = p + step; at = q; not-before = b .first .above; below = b .first .inside }
 
 -- A cursor pulled back to a leg of the table is at the lesser of its place and the leg's first.
 pub pulled-to-lesser : {t : List ℕ} {c d : Cursor} {rev leg : ℕ} → PlaceOrEnd t (c .leg) (c .place) → leg < legCount t → PulledBack c rev leg d → AtTheLesser c leg d

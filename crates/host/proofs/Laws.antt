@@ -1,6 +1,5 @@
 -- The numbers and positions of refusals are small, since every table and every file is, and no file is refused for room. Assumes nothing.
 use Prim.Native.Nat.{ℕ, _≤_}
-use mathlib.Core.Path.{_≡_}
 use mathlib.Core.List.{List}
 use mathlib.Core.Logic.{inl, inr, ⊎-elim}
 use native.Mathlib.Omega.{arith}
@@ -9,24 +8,14 @@ use Rattle.numbers.specs.Number.{NoNumber}
 use Rattle.numbers.specs.Series.{Row}
 use Rattle.numbers.proofs.Rows.{file-length}
 use Rattle.table.specs.Layout.{maxTableWords, Sized}
-use Rattle.table.specs.Size.{sizeRefusals}
-use Rattle.table.specs.declared.Move.{Move}
 use Rattle.table.proofs.Sizes.{table-words-at-most}
-use Rattle.shape.specs.Shape.{badLink, ShapeFault}
-use Rattle.shape.proofs.Refused.{sized-refused}
+use Rattle.shape.specs.OfTables.{maxRefusal, OfTable}
 use Rattle.files.specs.Plan.{PlanDue, PlanFault, PlanUnread}
 use Rattle.files.specs.Theorems.{maxFileBytes}
-use Rattle.files.specs.declared.Cursor.{Cursor}
-use Rattle.checker.specs.Cursors.{noPlace, CursorFault}
-use Rattle.checker.specs.Moves.{cannotRise, MoveFault}
 use Rattle.host.specs.Refusals.{CursorUnread}
 use Rattle.host.specs.Steps.{Small}
 
--- Refused with a small number at 0.
-at-0 : (k p : ℕ) → k ≤ 15 → p ≡ 0 → Small k p
-at-0 k p h e = record { number = h; position = omega arith }
-
-no-number-small : (s : List ℕ) (p k : ℕ) → NoNumber s p k → k ≤ 15
+no-number-small : (s : List ℕ) (p k : ℕ) → NoNumber s p k → k ≤ maxRefusal
 no-number-small s p k n = ⊎-elim (λ x. omega (arith, x .0)) (λ x. omega (arith, x .0)) n
 
 -- So many numbers end within the largest file.
@@ -53,36 +42,5 @@ cursor-file-small s k p (inl c) = record { number = no-number-small s p k (c .no
 cursor-file-small s k p (inr x) =
     let o = x .1 in record { number = omega (arith, x .0); position = row-end s (o .ws) p (o .row) (omega (arith, o .complete)) }
 
-size-small : (t : List ℕ) (k p : ℕ) → sizeRefusals t .Fault k p → Small k p
-size-small t k p (inl x) = at-0 k p (omega (arith, x .0)) (x .1)
-size-small t k p (inr (a, inl x)) = at-0 k p (omega (arith, x .0)) (x .1)
-size-small t k p (inr (a, inr (b, x))) = at-0 k p (omega (arith, x .0)) (x .1)
-
-pub shape-small : (t : List ℕ) (k p : ℕ) → ShapeFault t k p → Small k p
-shape-small t k p (inl x) = size-small t k p x
-shape-small t k p (inr (z, inl x)) = record { number = omega (arith, x .0); position = omega (arith, x .1 .inside, z .limits .links) }
-shape-small t k p (inr (z, inr (a, inl x))) = record { number = omega (arith, x .0); position = omega (arith, x .1 .inside, z .limits .links) }
-shape-small t k p (inr (z, inr (a, inr (b, inl x)))) = record { number = omega (arith, x .0); position = omega (arith, x .1 .inside, z .limits .streams) }
-shape-small t k p (inr (z, inr (a, inr (b, inr (c, inl x))))) = record { number = omega (arith, x .0); position = omega (arith, x .1, z .limits .streams) }
-shape-small t k p (inr (z, inr (a, inr (b, inr (c, inr (d, x)))))) = record { number = omega (arith, x .0); position = omega (arith, x .1 .inside, z .limits .legs) }
-
-pub cursor-fault-small : (t : List ℕ) (c : Cursor) (k p : ℕ) → CursorFault t c k p → Small k p
-cursor-fault-small t c k p (inl f) = shape-small t k p f
-cursor-fault-small t c k p (inr (a, inl x)) = at-0 k p (omega (arith, x .0)) (x .1)
-cursor-fault-small t c k p (inr (a, inr (b, x))) = at-0 k p (omega (arith, x .0)) (x .1)
-
-pub move-fault-small : (t : List ℕ) (c : Cursor) (mv : Move) (k p : ℕ) → MoveFault t c mv k p → Small k p
-move-fault-small t c mv k p (inl f) = cursor-fault-small t c k p f
-move-fault-small t c mv k p (inr (a, inl x)) = at-0 k p (omega (arith, x .0)) (x .1)
-move-fault-small t c mv k p (inr (a, inr (b, x))) = at-0 k p (omega (arith, x .0)) (x .1)
-
--- With which numbers a table that was read is refused: a slice with 4 to 9, a move with 4 to 11.
-pub slice-refused : (t : List ℕ) (c : Cursor) (k p : ℕ) → Sized t → CursorFault t c k p → (badLink ≤ k) × (k ≤ noPlace)
-slice-refused t c k p z (inl f) = let r = sized-refused t k p z f in (r .0, omega (arith, r .1))
-slice-refused t c k p z (inr (a, inl x)) = (omega (arith, x .0), omega (arith, x .0))
-slice-refused t c k p z (inr (a, inr (b, x))) = (omega (arith, x .0), omega (arith, x .0))
-
-pub move-refused : (t : List ℕ) (c : Cursor) (mv : Move) (k p : ℕ) → Sized t → MoveFault t c mv k p → (badLink ≤ k) × (k ≤ cannotRise)
-move-refused t c mv k p z (inl f) = let r = slice-refused t c k p z f in (r .0, omega (arith, r .1))
-move-refused t c mv k p z (inr (a, inl x)) = (omega (arith, x .0), omega (arith, x .0))
-move-refused t c mv k p z (inr (a, inr (b, x))) = (omega (arith, x .0), omega (arith, x .0))
+pub table-small : {k p : ℕ} → OfTable k p → Small k p
+table-small o = record { number = o .number; position = omega (arith, o .position) }

@@ -24,13 +24,13 @@ use Rattle.files.proofs.Refused.{plan-refused, cursor-refused}
 use Rattle.shape.specs.Shape.{WellFormedTable}
 use Rattle.shape.proofs.Moved.{moves-keep-shape, moved-same}
 use Rattle.checker.specs.Moves.{Moves}
+use Rattle.checker.proofs.Refused.{move-of-table}
 use Rattle.checker.specs.declared.Grant.{Grant}
 use Rattle.checker.specs.declared.Grant.the-variants as grant
 use Rattle.host.specs.declared.Answer.{Answer}
 use Rattle.host.specs.Answers.{refusedResult, refusal, resultAlone}
 use Rattle.host.specs.Calls.{Lent, AfterMove, HostMoves}
 use Rattle.host.specs.Theorems.{moveBytes, MoveRoomIsEnough, FullRoomIsEnough}
-use Rattle.host.proofs.Laws.{move-refused}
 
 moved-file : (t : List ℕ) (mv : Move) → Sized t → mv .leg < legCount t → length (fileOf (moved t mv)) ≤ length (fileOf t) + moveBytes
 moved-file t mv z h =
@@ -53,7 +53,8 @@ made-room : (t : List ℕ) (c : Cursor) (mv : Move) (m : Lent) (g : Grant) (u : 
 made-room t c mv m (grant.Granted d) u a m′ z fits r (inl x) e =
     x .fault .2 (omega (arith, fits (r .cursor .shape) (r .below), ap (λ (l : List ℕ). length (fileOf l)) (r .table)))
 made-room t c mv m (grant.Granted d) u a m′ z fits r (inr x) e = omega (arith, ap resultAlone (x .1 .answer), e)
-made-room t c mv m (grant.Refused k p d) u a m′ z fits r x e = omega (arith, ap resultAlone (x .0), e, move-refused t c mv k p z (r .0) .1)
+made-room t c mv m (grant.Refused k p d) u a m′ z fits r x e =
+    let i = ap resultAlone (x .0) in move-of-table t c mv k p (r .0) .not-of-bytes (omega arith, omega arith)
 
 -- No plan file and no saved cursor is refused with 15, so it is enough that every new plan file fits.
 module _ (plan cursor : List ℕ) (mv : Move) (m : Lent) (a : Answer) (m′ : Lent) (e : a .result ≡ refusedResult noRoom) where

@@ -12,7 +12,7 @@ use Rattle.files.specs.Theorems.{maxCursorBytes}
 use Rattle.files.specs.declared.Cursor.{Cursor}
 use Rattle.files.proofs.OneAnswer.{plan-fault-one, file-no-fault}
 use Rattle.table.specs.Layout.{Sized}
-use Rattle.shape.proofs.Refused.{sized-refused}
+use Rattle.shape.proofs.Refused.{shape-of-table}
 use Rattle.rules.specs.declared.Rule.{Rule}
 use Rattle.rules.specs.declared.Rule.the-variants as rule
 use Rattle.places.specs.Order.{placeCount}
@@ -94,10 +94,11 @@ first-fault M m s Then k p a m′ f (inl x) =
     x .answer ∙ ap (λ (l : ℕ). refusal l (x .at)) (e .0) ∙ ap (refusal k) (e .1)
 first-fault M m s Then k p a m′ f (inr (t, g, x)) = absurd (file-no-fault g f)
 
--- After the plan reader a start is refused with 15 or with 4 to 7.
-not-granted : (t : List ℕ) (n k p : ℕ) (g : Grant) → Sized t → 12 ≤ k → Starts t g → refusal k p ≡ startAnswered n g → ⊥
-not-granted t n k p (grant.Granted d) z h s e = omega (arith, ap resultAlone e)
-not-granted t n k p (grant.Refused l q d) z h s e = omega (arith, ap resultAlone e, sized-refused t l q z (s .0) .1)
+-- After the plan reader a start is refused with 15 or as a table is, which is with none of 12 to 14.
+not-granted : (t : List ℕ) (n k p : ℕ) (g : Grant) → 12 ≤ k → k ≤ 14 → Starts t g → refusal k p ≡ startAnswered n g → ⊥
+not-granted t n k p (grant.Granted d) h l s e = omega (arith, ap resultAlone e)
+not-granted t n k p (grant.Refused j q d) h l s e =
+    let i = ap resultAlone e in shape-of-table t j q (s .0) .not-of-bytes (omega arith, omega arith)
 
 of-the-plan : (plan out : List ℕ) (k p : ℕ) (out′ : List ℕ) → 12 ≤ k → k ≤ 14 → HostStarts plan out (refusal k p) out′ → PlanFault plan k p
 of-the-plan plan out k p out′ h l (inl x) =
@@ -105,7 +106,7 @@ of-the-plan plan out k p out′ h l (inl x) =
     let f : x .at ≡ p = sym (ap (λ (a : Answer). a .beside) (x .answer)) in
     subst (λ (q : ℕ). PlanFault plan k q) f (subst (λ (j : ℕ). PlanFault plan j (x .at)) e (x .fault))
 of-the-plan plan out k p out′ h l (inr (t, g, inl x)) = absurd (omega (arith, ap resultAlone (x .answer), x .fault .0))
-of-the-plan plan out k p out′ h l (inr (t, g, inr x)) = absurd (not-granted t (placeCount t) k p (x .1 .given) (g .complete) h (x .1 .starts) (x .1 .answer))
+of-the-plan plan out k p out′ h l (inr (t, g, inr x)) = absurd (not-granted t (placeCount t) k p (x .1 .given) h l (x .1 .starts) (x .1 .answer))
 
 pub plan-faults-come-first : PlanFaultsComeFirst
 plan-faults-come-first = record {

@@ -12,7 +12,10 @@ use Rattle.table.specs.declared.Move.{Move}
 use Rattle.files.specs.Reading.{leftOver}
 use Rattle.files.specs.declared.Cursor.{Cursor}
 use Rattle.files.proofs.Refused.{plan-refused, cursor-refused}
-use Rattle.shape.proofs.Refused.{sized-refused}
+use Rattle.shape.specs.Shape.{badLink}
+use Rattle.shape.specs.OfTables.{maxRefusal}
+use Rattle.shape.proofs.Refused.{shape-of-table, sized-refused}
+use Rattle.checker.proofs.Refused.{cursor-of-table, move-of-table, slice-refused, move-refused}
 use Rattle.rules.specs.declared.Rule.{Rule}
 use Rattle.rules.specs.declared.Rule.the-variants as rule
 use Rattle.checker.specs.Slices.{Starts, Slices}
@@ -26,10 +29,9 @@ use Rattle.host.specs.declared.Answer.{Answer}
 use Rattle.host.specs.Answers.{ruleResult, refusal, sliceAnswered, startAnswered, resultAlone}
 use Rattle.host.specs.Calls.{Lent, AfterMove, HostStarts, HostSlices, HostMoves}
 use Rattle.host.specs.Theorems.{IsRefusal, ResultsAreThese}
-use Rattle.host.proofs.Laws.{slice-refused, move-refused}
 
--- A refusal 4 to 15, one for room, and one of the plan file.
-refused : (a : Answer) (k p : ℕ) → a ≡ refusal k p → 4 ≤ k → k ≤ 15 → IsRefusal (a .result)
+-- A refusal from 4 on, one for room, and one of the plan file.
+refused : (a : Answer) (k p : ℕ) → a ≡ refusal k p → badLink ≤ k → k ≤ maxRefusal → IsRefusal (a .result)
 refused a k p e l h = inr (omega (arith, ap resultAlone e, l), omega (arith, ap resultAlone e, h))
 
 for-room : (a : Answer) (k p : ℕ) → a ≡ refusal k p → k ≡ noRoom → IsRefusal (a .result)
@@ -42,7 +44,7 @@ of-the-plan a k p e (inr x) = refused a k p e (omega (arith, x .0)) (omega (arit
 -- The calls on a table that was read.
 start-results : (t : List ℕ) (n : ℕ) (g : Grant) (a : Answer) → Sized t → Starts t g → a ≡ startAnswered n g → (a .result ≡ 0) ⊎ IsRefusal (a .result)
 start-results t n (grant.Granted d) a z s e = inl (ap resultAlone e)
-start-results t n (grant.Refused k p d) a z s e = let r = sized-refused t k p z (s .0) in inr (refused a k p e (r .0) (omega (arith, r .1)))
+start-results t n (grant.Refused k p d) a z s e = inr (refused a k p e (sized-refused t k p z (s .0)) (shape-of-table t k p (s .0) .number))
 
 rule-results : (x : Rule) → ruleResult x ≤ 5
 rule-results rule.Window = omega arith
@@ -56,14 +58,14 @@ slice-results t c budget (answer.Violated d n r) a z s e = inl (omega (arith, ap
 slice-results t c budget (answer.NothingViolated d n) a z s e = inl (omega (arith, ap resultAlone e))
 slice-results t c budget (answer.Paused d n) a z s e = inl (omega (arith, ap resultAlone e))
 slice-results t c budget (answer.Refused k p d) a z s e =
-    let r = slice-refused t c k p z (s .0) in inr (refused a k p e (r .0) (omega (arith, r .1)))
+    inr (refused a k p e (slice-refused t c k p z (s .0)) (cursor-of-table t c k p (s .0) .number))
 
 move-results : (t : List ℕ) (c : Cursor) (mv : Move) (g : Grant) (u : List ℕ) (m : Lent) (a : Answer) (m′ : Lent)
     → Sized t → Moves t c mv g u → AfterMove g u m a m′ → (a .result ≡ 0) ⊎ IsRefusal (a .result)
 move-results t c mv (grant.Granted d) u m a m′ z s (inl r) = inr (for-room a (r .number) (r .at) (r .answer) (r .fault .0))
 move-results t c mv (grant.Granted d) u m a m′ z s (inr x) = inl (ap resultAlone (x .1 .answer))
 move-results t c mv (grant.Refused k p d) u m a m′ z s x =
-    let r = move-refused t c mv k p z (s .0) in inr (refused a k p (x .0) (r .0) (omega (arith, r .1)))
+    inr (refused a k p (x .0) (move-refused t c mv k p z (s .0)) (move-of-table t c mv k p (s .0) .number))
 
 -- The calls on bytes.
 start-these : (plan out : List ℕ) (a : Answer) (out′ : List ℕ) → HostStarts plan out a out′ → (a .result ≡ 0) ⊎ IsRefusal (a .result)

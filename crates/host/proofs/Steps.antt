@@ -24,6 +24,8 @@ use Rattle.files.specs.declared.CursorRead.the-variants as read
 use Rattle.places.specs.Order.{placeCount}
 use Rattle.shape.specs.Shape.{WellFormedTable}
 use Rattle.shape.proofs.Moved.{moves-keep-shape, moved-same}
+use Rattle.shape.proofs.Refused.{shape-of-table}
+use Rattle.checker.proofs.Refused.{cursor-of-table, move-of-table}
 use Rattle.checker.specs.Slices.{Starts, Slices}
 use Rattle.checker.specs.Moves.{Moves, MoveRight}
 use Rattle.checker.specs.declared.Grant.{Grant}
@@ -37,7 +39,7 @@ use Rattle.host.specs.Answers.{answered, refusal, sliceAnswered, startAn
 use Rattle.host.specs.Refusals.{CursorUnread, AfterPlan, AfterCursor}
 use Rattle.host.specs.Calls.{Lent, lent, WritesBoth, MovedLeg, Started, Sliced, SlicesTable, MovesTable, HostSlices, HostMoves}
 use Rattle.host.specs.Steps.{Small, InFront, Opens}
-use Rattle.host.proofs.Laws.{plan-fault, plan-fault-small, cursor-file-small, shape-small, cursor-fault-small, move-fault-small}
+use Rattle.host.proofs.Laws.{plan-fault, plan-fault-small, cursor-file-small, table-small}
 
 -- A plan file was read: a table, which lies in the first words; or a fault of the file.
 pub read-front : (s w w′ : List ℕ) (r : PlanRead) (n : ℕ) → r ≡ plan.Words n → ReadsPlan s w r w′ → InFront s n w′
@@ -98,7 +100,7 @@ pub started-shape : (t : List ℕ) (g : Grant) (d : Cursor) → g ≡ grant.Gran
 started-shape t g d e h = subst (Starts t) e h .0
 
 pub start-small : (t : List ℕ) (g : Grant) (k p : ℕ) (d : Cursor) → g ≡ grant.Refused k p d → Starts t g → Small k p
-start-small t g k p d e h = shape-small t k p (subst (Starts t) e h .0)
+start-small t g k p d e h = table-small (shape-of-table t k p (subst (Starts t) e h .0))
 
 pub start-made : (t out out′ : List ℕ) (g h : Grant) (a : Answer) → g ≡ h → Starts t g → a ≡ startAnswered (placeCount t) h → out′ ≡ bytesAfterStart out h
     → Started t out a out′
@@ -106,7 +108,7 @@ start-made t out out′ g h a e x f k = record { given = h; starts = subst (Star
 
 -- A slice was made, or is refused.
 pub slice-small : (t : List ℕ) (c : Cursor) (b : ℕ) (x : SliceAnswer) (k p : ℕ) (d : Cursor) → x ≡ answer.Refused k p d → Slices t c b x → Small k p
-slice-small t c b x k p d e h = cursor-fault-small t c k p (subst (Slices t c b) e h .0)
+slice-small t c b x k p d e h = table-small (cursor-of-table t c k p (subst (Slices t c b) e h .0))
 
 pub slice-made : (t : List ℕ) (c : Cursor) (b : ℕ) (out out′ : List ℕ) (x y : SliceAnswer) (a : Answer) → x ≡ y → Slices t c b x → a ≡ sliceAnswered y
     → out′ ≡ bytesAfterSlice out y → Sliced t c b out a out′
@@ -118,7 +120,7 @@ with-result r s n e = ap (λ (x : ℕ). answered x n) e
 -- A move was granted, or is refused.
 module _ (t : List ℕ) (c : Cursor) (mv : Move) (g : Grant) (u : List ℕ) where
   pub move-small : (k p : ℕ) (d : Cursor) → g ≡ grant.Refused k p d → Moves t c mv g u → Small k p
-  move-small k p d e h = move-fault-small t c mv k p (subst (λ (x : Grant). Moves t c mv x u) e h .0)
+  move-small k p d e h = table-small (move-of-table t c mv k p (subst (λ (x : Grant). Moves t c mv x u) e h .0))
 
   pub moved-sized : (d : Cursor) → g ≡ grant.Granted d → Moves t c mv g u → Sized u
   moved-sized d e h =

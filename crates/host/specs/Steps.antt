@@ -5,6 +5,7 @@ use mathlib.Core.List.{List}
 use mathlib.Core.Logic.{_⊎_}
 use lib.ListN.{length, take}
 use Rattle.table.specs.Layout.{Sized}
+use Rattle.shape.specs.OfTables.{maxRefusal}
 use Rattle.files.specs.Reading.{IsFile}
 use Rattle.files.specs.Plan.{PlanFault}
 use Rattle.files.specs.Cursors.{ReadsCursor}
@@ -16,7 +17,7 @@ use Rattle.host.specs.Refusals.{CursorUnread}
 
 -- A refusal's number and position are small enough to be told.
 pub record Small (k p : ℕ) : Type 0 where
-  pub number : k ≤ 15
+  pub number : k ≤ maxRefusal
   pub position : p ≤ maxFileBytes
 
 -- The first n words are a table whose file is the plan.

@@ -8,6 +8,7 @@ use native.Mathlib.Omega.{arith}
 use Rattle.basics.proofs.Splits.{lt-or-ge}
 use Rattle.table.specs.Layout.{maxLegs}
 use Rattle.rules.specs.Places.{ownPlaces, overlapPlace, placesOf, PlaceHolds, JudgedTold}
+use Rattle.rules.specs.Rules.{Overlap}
 use Rattle.rules.specs.Steps.{LegIn}
 use Rattle.rules.specs.declared.Asked.the-variants as asked
 use Rattle.rules.specs.declared.Judged.{Judged}
@@ -15,9 +16,10 @@ use Rattle.rules.specs.declared.Judged.the-variants as judged
 use Rattle.rules.specs.declared.Rule.{Rule}
 use Rattle.rules.specs.declared.Rule.the-variants as rule
 use Rattle.rules.proofs.Placing.{place-holds, asked-holds, place-rule}
+use Rattle.basics.specs.Lowest.{AllFrom, Lowest}
 use Rattle.basics.specs.declared.Found.{Found}
 use Rattle.basics.specs.declared.Found.the-variants as found
-use Rattle.places.specs.Told.{LegHolds, FirstBroken, ToldOfLeg, Clear, FirstMet, ToldOfMeeting, IsLesser}
+use Rattle.places.specs.Told.{LegHolds, FirstBroken, ToldOfLeg, ToldOfMeeting, IsLesser}
 use Rattle.places.specs.declared.LegTold.{LegTold}
 use Rattle.places.specs.declared.LegTold.the-variants.{Broken, Kept}
 
@@ -44,7 +46,7 @@ module _ {t : List ℕ} {a p : ℕ} where
         }
 
     pub passed-broken : {limit : ℕ} {r : Rule} → told ≡ judged.Broken r → JudgedTold t a q told → Passed t a p q → q < limit → FirstBroken t a p limit q r
-    passed-broken e j i h = let k = subst (JudgedTold t a q) e j in record { from = i .from; below = h; before = i .held; broken = k .0; rule = k .1 }
+    passed-broken e j i h = let k = subst (JudgedTold t a q) e j in record { first = record { above = i .from; inside = h; bad = k .0; before = i .held }; rule = k .1 }
 
   pub passed-all : {q limit : ℕ} → Passed t a p q → limit ≤ q → LegHolds t a p limit
   passed-all i h s l b = i .held s l (omega arith)
@@ -63,13 +65,14 @@ module _ {t : List ℕ} {a p own limit : ℕ} {told : LegTold} where
   pub own-broken : {q : ℕ} {r : Rule} → told ≡ Broken q r → IsLesser limit ownPlaces own → ToldOfLeg t a p own told → FirstBroken t a p limit q r
   own-broken {q} {r} e l m =
       let x : FirstBroken t a p own q r = subst (ToldOfLeg t a p own) e m in
-      record { from = x .from; below = omega (arith, x .below, l .left); before = x .before; broken = x .broken; rule = x .rule }
+      let y = x .first in
+      record { first = record { above = y .above; inside = omega (arith, y .inside, l .left); bad = y .bad; before = y .before }; rule = x .rule }
 
   pub own-kept : told ≡ Kept → IsLesser limit ownPlaces own → ownPlaces < limit → ToldOfLeg t a p own told → OwnKept t a p limit
   own-kept e l h m = record { more = h; held = subst (LegHolds t a p) (l .is-right (omega arith)) (subst (ToldOfLeg t a p own) e m) }
 
 -- The places of the leg alone, and those of its overlaps from the leg on that p stands for.
-own-and-overlaps : {t : List ℕ} {a p n m limit : ℕ} → n ≡ p - ownPlaces → OwnKept t a p limit → Clear t a n m → LegHolds t a p (overlapPlace m)
+own-and-overlaps : {t : List ℕ} {a p n m limit : ℕ} → n ≡ p - ownPlaces → OwnKept t a p limit → AllFrom (Overlap t a) n m → LegHolds t a p (overlapPlace m)
 own-and-overlaps {t} {a} d own clear s l h =
     ⊎-elim
     (λ (k : s < ownPlaces). own .held s l k)
@@ -84,13 +87,15 @@ module _ {t : List ℕ} {a p n limit : ℕ} {met : Found} (d : n ≡ p - ownPlac
 
   pub met-is-broken : {b q : ℕ} → met ≡ found.At b → ToldOfMeeting t a n (limit - ownPlaces) met → q ≡ overlapPlace b → FirstBroken t a p limit q rule.Overlap
   met-is-broken {b} e m at =
-      let x : FirstMet t a n (limit - ownPlaces) b = subst (ToldOfMeeting t a n (limit - ownPlaces)) e m in
+      let x : Lowest (Overlap t a) n (limit - ownPlaces) b = subst (ToldOfMeeting t a n (limit - ownPlaces)) e m in
       rw at
       (record {
-        from = omega (arith, x .from);
-        below = omega (arith, x .below, own .more);
-        before = own-and-overlaps d own (x .before);
-        broken = λ h. x .meets (asked-holds t a (asked.Overlap b) h);
+        first = record {
+          above = omega (arith, x .above);
+          inside = omega (arith, x .inside, own .more);
+          bad = λ h. x .bad (asked-holds t a (asked.Overlap b) h);
+          before = own-and-overlaps d own (x .before);
+        };
         rule = place-rule (asked.Overlap b);
       })
 
@@ -104,5 +109,5 @@ pub record Met : Type 0 where
 abbrev pub met-below : {t : List ℕ} {a p n limit b : ℕ} {met : Found} → met ≡ found.At b → LegIn t a → p ≤ limit → limit ≤ placesOf a
     → n ≡ p - ownPlaces → ToldOfMeeting t a n (limit - ownPlaces) met → Met
 met-below {t} {a} {n = n} {limit = limit} {b = b} e leg h k d m =
-    let x : FirstMet t a n (limit - ownPlaces) b = subst (ToldOfMeeting t a n (limit - ownPlaces)) e m in
-    record { a = a; b = b; below = omega (arith, x .below); small = omega (arith, leg .leg, leg .table .sized .limits .legs) }
+    let x : Lowest (Overlap t a) n (limit - ownPlaces) b = subst (ToldOfMeeting t a n (limit - ownPlaces)) e m in
+    record { a = a; b = b; below = omega (arith, x .inside); small = omega (arith, leg .leg, leg .table .sized .limits .legs) }

@@ -9,6 +9,7 @@ use native.Mathlib.Omega.{arith}
 use Rattle.basics.specs.Tells.{Tells}
 use Rattle.basics.specs.declared.Holds.{Holds}
 use Rattle.basics.specs.declared.Holds.the-variants.{Yes, No}
+use Rattle.basics.specs.Lowest.{AllFrom, Lowest}
 use Rattle.basics.proofs.Splits.{lt-or-ge}
 use Rattle.table.specs.Layout.{linkCount, legCount}
 use Rattle.table.specs.Records.{legAt}
@@ -22,7 +23,7 @@ use Rattle.rules.specs.Steps.{LegIn, SlotOf}
 use Rattle.rules.specs.declared.Frame.{Frame}
 use Rattle.rules.proofs.Judging.{other-links, slots-told}
 use Rattle.places.specs.Chains.{NextOn, Begun, Chained}
-use Rattle.places.specs.Told.{LegLooked, Clear, FirstMet}
+use Rattle.places.specs.Told.{LegLooked}
 
 -- Leg b is the next of the link of leg a, and leg a is clear of all from n on that come before b.
 pub record Along (t : List ℕ) (a n b : ℕ) : Type 0 where
@@ -83,7 +84,7 @@ pub turn-starts : {t next : List ℕ} {a n m b : ℕ} {f : Frame} {mine : Slot} 
 turn-starts looked h from x slot = record { leg = looked .leg; limit = h; chained = looked .chained; slot = slot; gcd = gcd-same _; along = along-start from x }
 
 module _ {t next : List ℕ} {a n m b : ℕ} {mine : Slot} {known : Known} (i : Turn t next a n m mine known b) where
-  pub turn-ends : m ≤ b → Clear t a n m
+  pub turn-ends : m ≤ b → AllFrom (Overlap t a) n m
   turn-ends h d from below = i .along .clear d from (omega arith) (omega (arith, i .limit, i .leg .leg))
 
   module _ (h : b < m) where
@@ -101,12 +102,12 @@ module _ {t next : List ℕ} {a n m b : ℕ} {mine : Slot} {known : Known} (i : 
       turn-told : {r : Holds} → told ≡ r → Tells (NeverMeet mine other) told → Tells (Overlap t a b) r
       turn-told {r} e n = slots-told t a b mine other (i .slot) so (sym (i .along .on (turn-leg .leg))) r (subst (Tells (NeverMeet mine other)) e n)
 
-      pub turn-meets : told ≡ No → Tells (NeverMeet mine other) told → FirstMet t a n m b
+      pub turn-meets : told ≡ No → Tells (NeverMeet mine other) told → Lowest (Overlap t a) n m b
       turn-meets e x = record {
-        from = i .along .from;
-        below = h;
+        above = i .along .from;
+        inside = h;
+        bad = turn-told e x;
         before = λ d from below. i .along .clear d from below (omega (arith, turn-leg .leg));
-        meets = turn-told e x;
       }
 
       pub turn-on : {next-known : Known} → told ≡ Yes → Tells (NeverMeet mine other) told → next-known .period ≡ other .period

@@ -2,8 +2,8 @@
 use Prim.Native.Nat.{ℕ, _≤_, _<_}
 use mathlib.Core.Path.{_≡_}
 use mathlib.Core.List.{List}
+use Rattle.basics.specs.Lowest.{AllFrom, Lowest, Finds}
 use Rattle.basics.specs.declared.Found.{Found}
-use Rattle.basics.specs.declared.Found.the-variants as found
 use Rattle.rules.specs.Places.{ruleAt, PlaceHolds}
 use Rattle.rules.specs.Rules.{Overlap}
 use Rattle.rules.specs.Steps.{LegIn, FrameOf}
@@ -15,14 +15,11 @@ use Rattle.places.specs.declared.LegTold.the-variants.{Broken, Kept}
 
 -- The places of leg a from p on and below q hold.
 abbrev pub LegHolds : List ℕ → ℕ → ℕ → ℕ → Type 0
-LegHolds t a p q = (s : ℕ) → p ≤ s → s < q → PlaceHolds t a s
+LegHolds t a p q = AllFrom (PlaceHolds t a) p q
 
 -- Place q of leg a, from p on and below the limit, is the lowest that does not hold, and r is its rule.
 pub record FirstBroken (t : List ℕ) (a p limit q : ℕ) (r : Rule) : Type 0 where
-  pub from : p ≤ q
-  pub below : q < limit
-  pub before : LegHolds t a p q
-  pub broken : PlaceHolds t a q → ⊥
+  pub first : Lowest (PlaceHolds t a) p limit q
   pub rule : r ≡ ruleAt q
 
 -- What is told of the places of leg a from p on and below the limit.
@@ -30,20 +27,9 @@ abbrev pub ToldOfLeg : List ℕ → ℕ → ℕ → ℕ → LegTold → Type 0
 ToldOfLeg t a p limit (Broken q r) = FirstBroken t a p limit q r
 ToldOfLeg t a p limit Kept = LegHolds t a p limit
 
--- Leg a and each leg from n on and below m, if they share a link, never meet.
-abbrev pub Clear : List ℕ → ℕ → ℕ → ℕ → Type 0
-Clear t a n m = (b : ℕ) → n ≤ b → b < m → Overlap t a b
-
--- Leg b, from n on and below m, is the lowest that leg a meets.
-pub record FirstMet (t : List ℕ) (a n m b : ℕ) : Type 0 where
-  pub from : n ≤ b
-  pub below : b < m
-  pub before : Clear t a n b
-  pub meets : Overlap t a b → ⊥
-
+-- Of the legs from n on and below m the lowest that leg a meets, or that it meets none of them.
 abbrev pub ToldOfMeeting : List ℕ → ℕ → ℕ → ℕ → Found → Type 0
-ToldOfMeeting t a n m (found.At b) = FirstMet t a n m b
-ToldOfMeeting t a n m found.Nowhere = Clear t a n m
+ToldOfMeeting t a n m r = Finds (Overlap t a) n m r
 
 -- Leg a of a table, its frame, and the chains of all legs.
 pub record LegLooked (t next : List ℕ) (a : ℕ) (f : Frame) : Type 0 where

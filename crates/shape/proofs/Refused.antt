@@ -1,16 +1,36 @@
--- With which numbers a table of the right size is refused: 4 to 7, since 1 to 3 are of its size. Assumes nothing.
+-- With which numbers and at which positions a table is refused. Assumes nothing.
 use Prim.Native.Nat.{ℕ, _≤_}
+use mathlib.Core.Path.{_≡_}
 use mathlib.Core.List.{List}
 use mathlib.Core.Logic.{inl, inr}
 use native.Mathlib.Omega.{arith}
-use Rattle.table.specs.Layout.{Sized}
+use Rattle.table.specs.Layout.{maxTableWords, Sized}
+use Rattle.table.specs.Size.{noHeader, aboveLimit, wrongLength}
 use Rattle.table.proofs.Sizes.{size-one}
-use Rattle.shape.specs.Shape.{badLink, badLeg, ShapeFault}
+use Rattle.shape.specs.Shape.{badLink, doubleLink, badStream, badLeg, ShapeFault}
+use Rattle.shape.specs.OfTables.{maxRefusal, OfBytes, OfTable}
 
-pub sized-refused : (t : List ℕ) (k p : ℕ) → Sized t → ShapeFault t k p → (badLink ≤ k) × (k ≤ badLeg)
+pub of-table : (n : ℕ) {k p : ℕ} → n ≤ maxRefusal → (OfBytes n → ⊥) → k ≡ n → p ≤ maxTableWords → OfTable k p
+of-table n l b e h = record { number = omega arith; position = h; not-of-bytes = λ x. b (omega (arith, x .0), omega (arith, x .1)) }
+
+pub shape-of-table : (t : List ℕ) (k p : ℕ) → ShapeFault t k p → OfTable k p
+shape-of-table t k p (inl (inl x)) = of-table noHeader (omega arith) (λ b. omega (arith, b)) (x .0) (omega (arith, x .1))
+shape-of-table t k p (inl (inr (a, inl x))) = of-table aboveLimit (omega arith) (λ b. omega (arith, b)) (x .0) (omega (arith, x .1))
+shape-of-table t k p (inl (inr (a, inr (b, x)))) = of-table wrongLength (omega arith) (λ h. omega (arith, h)) (x .0) (omega (arith, x .1))
+shape-of-table t k p (inr (z, inl x)) = of-table badLink (omega arith) (λ b. omega (arith, b)) (x .0) (omega (arith, x .1 .inside, z .limits .links))
+shape-of-table t k p (inr (z, inr (a, inl x))) = of-table doubleLink (omega arith) (λ b. omega (arith, b)) (x .0) (omega (arith, x .1 .inside, z .limits .links))
+shape-of-table t k p (inr (z, inr (a, inr (b, inl x)))) =
+    of-table badStream (omega arith) (λ h. omega (arith, h)) (x .0) (omega (arith, x .1 .inside, z .limits .streams))
+shape-of-table t k p (inr (z, inr (a, inr (b, inr (c, inl x))))) =
+    of-table badStream (omega arith) (λ h. omega (arith, h)) (x .0) (omega (arith, x .1, z .limits .streams))
+shape-of-table t k p (inr (z, inr (a, inr (b, inr (c, inr (d, x)))))) =
+    of-table badLeg (omega arith) (λ h. omega (arith, h)) (x .0) (omega (arith, x .1 .inside, z .limits .legs))
+
+-- A table of the right size is refused with 4 or a number above it, since 1 to 3 are of its size.
+pub sized-refused : (t : List ℕ) (k p : ℕ) → Sized t → ShapeFault t k p → badLink ≤ k
 sized-refused t k p z (inl x) = absurd (size-one t .none z x)
-sized-refused t k p z (inr (a, inl x)) = (omega (arith, x .0), omega (arith, x .0))
-sized-refused t k p z (inr (a, inr (b, inl x))) = (omega (arith, x .0), omega (arith, x .0))
-sized-refused t k p z (inr (a, inr (b, inr (c, inl x)))) = (omega (arith, x .0), omega (arith, x .0))
-sized-refused t k p z (inr (a, inr (b, inr (c, inr (d, inl x))))) = (omega (arith, x .0), omega (arith, x .0))
-sized-refused t k p z (inr (a, inr (b, inr (c, inr (d, inr (e, x)))))) = (omega (arith, x .0), omega (arith, x .0))
+sized-refused t k p z (inr (a, inl x)) = omega (arith, x .0)
+sized-refused t k p z (inr (a, inr (b, inl x))) = omega (arith, x .0)
+sized-refused t k p z (inr (a, inr (b, inr (c, inl x)))) = omega (arith, x .0)
+sized-refused t k p z (inr (a, inr (b, inr (c, inr (d, inl x))))) = omega (arith, x .0)
+sized-refused t k p z (inr (a, inr (b, inr (c, inr (d, inr (e, x)))))) = omega (arith, x .0)

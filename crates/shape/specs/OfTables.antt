@@ -1,0 +1,18 @@
+-- What the refusals of tables have in common, whatever their numbers.
+use Prim.Native.Nat.{ℕ, _≤_}
+use Rattle.numbers.specs.Number.{bytesEnd, noRoom}
+use Rattle.table.specs.Layout.{maxTableWords}
+
+-- The largest number of a refusal.
+abbrev pub maxRefusal : ℕ
+maxRefusal = 15
+
+-- 12 to 15 are of bytes.
+abbrev pub OfBytes : ℕ → Type 0
+OfBytes k = (bytesEnd ≤ k) × (k ≤ noRoom)
+
+-- A refusal of a table is none of bytes, and its number and its position are small.
+pub record OfTable (k p : ℕ) : Type 0 where
+  pub number : k ≤ maxRefusal
+  pub position : p ≤ maxTableWords
+  pub not-of-bytes : OfBytes k → ⊥
