@@ -18,7 +18,7 @@ looked-requires : tie.Need-looked-requires
 looked-requires c κs = subst (CursorTold _ _) (c .enum-told .given .1) (c .before .before .judged-cursor .ensures)
 
 returns : tie.Need-returns
-returns c = (subst (CursorTold _ _) (c .before .told .given .1) (c .before .before .before .judged-cursor .ensures), refl)
+returns c = let first : tie.After-judged-cursor = search in (subst (CursorTold _ _) (c .before .told .given .1) (first .judged-cursor .ensures), refl)
 
 returns-2 : tie.Need-returns-2
 returns-2 c = search needs

@@ -17,15 +17,16 @@ enum-told c = search needs
 
 shared-slice-read-t8 : tie.Need-shared-slice-read-t8
 shared-slice-read-t8 c =
+    let first : tie.After-judged-shape = search in
     let entry : tie.Start = search in
-    let w = subst (ShapeTold (entry .args .t .now)) (c .before .enum-told .given .1) (c .before .before .before .judged-shape .ensures) in
+    let w = subst (ShapeTold (entry .args .t .now)) (c .before .enum-told .given .1) (first .judged-shape .ensures) in
     omega (arith, w .sized .head)
 
 returns : tie.Need-returns
-returns c = (subst (ShapeTold _) (c .before .told .given .1) (c .before .before .before .judged-shape .ensures), refl)
+returns c = let first : tie.After-judged-shape = search in (subst (ShapeTold _) (c .before .told .given .1) (first .judged-shape .ensures), refl)
 
 returns-2 : tie.Need-returns-2
-returns-2 c = (subst (ShapeTold _) (c .before .enum-told .given .1) (c .before .before .before .judged-shape .ensures), refl)
+returns-2 c = let first : tie.After-judged-shape = search in (subst (ShapeTold _) (c .before .enum-told .given .1) (first .judged-shape .ensures), refl)
 
 pub start-spec : {M : Type 1} → statement M
 start-spec =

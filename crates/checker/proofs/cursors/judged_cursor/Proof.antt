@@ -19,7 +19,7 @@ placed-told-requires : tie.Need-placed-told-requires
 placed-told-requires c κs = subst (ShapeTold _) (c .enum-told .given .1) (c .before .before .judged-shape .ensures)
 
 returns : tie.Need-returns
-returns c = inl (subst (ShapeTold _) (c .before .told .given .1) (c .before .before .before .judged-shape .ensures))
+returns c = let first : tie.After-judged-shape = search in inl (subst (ShapeTold _) (c .before .told .given .1) (first .judged-shape .ensures))
 
 returns-2 : tie.Need-returns-2
 returns-2 c = search needs

@@ -19,7 +19,7 @@ allowed-told-requires : tie.Need-allowed-told-requires
 allowed-told-requires c κs = subst (CursorTold _ _) (c .enum-told .given .1) (c .before .before .judged-cursor .ensures)
 
 returns : tie.Need-returns
-returns c = inl (subst (CursorTold _ _) (c .before .told .given .1) (c .before .before .before .judged-cursor .ensures))
+returns c = let first : tie.After-judged-cursor = search in inl (subst (CursorTold _ _) (c .before .told .given .1) (first .judged-cursor .ensures))
 
 returns-2 : tie.Need-returns-2
 returns-2 c = search needs

@@ -19,22 +19,22 @@ places-of-requires : tie.Need-places-of-requires
 places-of-requires c κs = search needs
 
 returns : tie.Need-returns
-returns c = inl (record { leg = c .before .before .before .before .if1 .taken; place = omega (arith, c .if2 .taken, c .before .before .before .wide .ensures, c .before .before .wide2 .ensures, c .before .places-of .ensures) })
+returns c = inl (record { leg = search; place = omega arith })
 
 returns-2 : tie.Need-returns-2
-returns-2 c = not-standing _ _ _ (λ h. omega (arith, c .if2 .left, c .before .before .before .wide .ensures, c .before .before .wide2 .ensures, c .before .places-of .ensures)) (λ e. absurd (omega (arith, e, c .before .before .before .before .if1 .taken)))
+returns-2 c = not-standing _ _ _ (λ h. omega arith) (λ e. absurd (omega arith))
 
 shared-slice-read-if3 : tie.Need-shared-slice-read-if3
 shared-slice-read-if3 c = search needs
 
 returns-3 : tie.Need-returns-3
-returns-3 c = not-standing _ _ _ (λ h. absurd (omega (arith, h, c .before .before .if1 .left))) (λ e. absurd (omega (arith, e, c .if3 .taken)))
+returns-3 c = not-standing _ _ _ (λ h. absurd (omega arith)) (λ e. absurd (omega arith))
 
 returns-4 : tie.Need-returns-4
-returns-4 c = not-standing _ _ _ (λ h. absurd (omega (arith, h, c .before .before .before .if1 .left))) (λ e. c .if4 .taken)
+returns-4 c = not-standing _ _ _ (λ h. absurd (omega arith)) (λ e. c .if4 .taken)
 
 returns-5 : tie.Need-returns-5
-returns-5 c = inr (record { leg = omega (arith, c .before .before .before .if1 .left, c .before .if3 .left); place = omega (arith, c .if4 .left) })
+returns-5 c = inr (record { leg = omega arith; place = omega arith })
 
 pub place-or-end-told-spec : {M : Type 1} → statement M
 place-or-end-told-spec =

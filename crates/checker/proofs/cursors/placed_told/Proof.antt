@@ -10,7 +10,7 @@ shared-slice-read-if1 : tie.Need-shared-slice-read-if1
 shared-slice-read-if1 c = search needs
 
 returns : tie.Need-returns
-returns c = inr (c .before .before .before .before .pre, inl (refl, refl, c .if1 .taken))
+returns c = inr (search, inl (refl, refl, c .if1 .taken))
 
 place-or-end-told-requires : tie.Need-place-or-end-told-requires
 place-or-end-told-requires c κs = search needs
@@ -22,13 +22,13 @@ enum-told-2 : tie.Need-enum-told-2
 enum-told-2 c = search needs
 
 returns-2 : tie.Need-returns-2
-returns-2 c = record { shape = c .before .before .before .before .before .before .before .pre; revision = c .before .before .before .if1 .left; stands = subst (Tells _) (c .enum-told .given .1) (c .before .before .place-or-end-told .ensures) }
+returns-2 c = record { shape = search; revision = search; stands = subst (Tells _) (c .enum-told .given .1) (c .before .before .place-or-end-told .ensures) }
 
 returns-3 : tie.Need-returns-3
 returns-3 c =
     inr (
-      c .before .before .before .before .before .before .before .pre,
-      inr (c .before .before .before .if1 .left, (refl, refl, subst (Tells _) (c .enum-told2 .given .1) (c .before .before .place-or-end-told .ensures))),
+      search,
+      inr (search, (refl, refl, subst (Tells _) (c .enum-told2 .given .1) (c .before .before .place-or-end-told .ensures))),
     )
 
 pub placed-told-spec : {M : Type 1} → statement M

@@ -5,10 +5,13 @@ use Rattle.checker.proofs.look.look_in.Statement.{statement}
 use Rattle.checker.proofs.look.look_in.Tie as tie
 
 chain-requires : tie.Need-chain-requires
-chain-requires c κs = (well-formed-guarantees _ (c .before .before .before .before .before .pre .0 .shape), c .before .before .before .before .before .pre .1)
+chain-requires c κs = let entry : tie.Start = search in (well-formed-guarantees _ (entry .pre .0 .shape), entry .pre .1)
 
 look-on-requires : tie.Need-look-on-requires
-look-on-requires c κs = (c .before .before .before .before .before .before .before .before .before .before .before .before .pre .0, record { table = well-formed-guarantees _ (c .before .before .before .before .before .before .before .before .before .before .before .before .pre .0 .shape); begun = c .before .before .before .before .before .before .chain .ensures .0; chained = c .before .before .before .before .before .before .chain .ensures .1 })
+look-on-requires c κs =
+    let all : tie.After-chain = search in
+    let entry : tie.Start = search in
+    (entry .pre .0, record { table = well-formed-guarantees _ (entry .pre .0 .shape); begun = all .chain .ensures .0; chained = all .chain .ensures .1 })
 
 same-length : tie.Need-same-length
 same-length c = search needs

@@ -15,7 +15,7 @@ slice-aggregate-look-in-2 : tie.Need-slice-aggregate-look-in-2
 slice-aggregate-look-in-2 c = search needs
 
 look-in-requires : tie.Need-look-in-requires
-look-in-requires c κs = (c .before .before .before .pre, (none-begun, omega (arith, length-replicate {A = ℕ} maxLegs 0)))
+look-in-requires c κs = let entry : tie.Start = search in (entry .pre, (none-begun, omega (arith, length-replicate {A = ℕ} maxLegs 0)))
 
 returns : tie.Need-returns
 returns c = search needs
