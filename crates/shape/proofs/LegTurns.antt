@@ -1,9 +1,8 @@
 -- Turn by turn over the earlier legs of a route, the legs of a stream, and the streams: what was passed. Assumes nothing.
-use Prim.Native.Nat.{ℕ, suc, _+_, _*_, _≤_, _<_}
+use Prim.Native.Nat.{ℕ, suc, _+_, _≤_, _<_}
 use mathlib.Core.Path.{_≡_, _∙_, sym, ap, subst}
 use mathlib.Core.List.{List}
 use mathlib.Core.Logic.{⊎-elim}
-use lib.ListN.{length}
 use native.Mathlib.Nat.{eq-or-lt-of-le}
 use native.Mathlib.Omega.{arith}
 use borrow.Author.Count.{below-none}
@@ -15,15 +14,14 @@ use Rattle.basics.specs.declared.Holds.{Holds}
 use Rattle.basics.specs.declared.Holds.the-variants.{Yes, No}
 use Rattle.basics.proofs.Splits.{lt-or-ge}
 use Rattle.basics.proofs.Lowest.{lowest-of-all}
-use Rattle.table.specs.Layout.{maxStreams, maxLegs, streamWords, linkCount, streamCount, legCount}
+use Rattle.table.specs.Layout.{maxLegs, linkCount, streamCount, legCount}
 use Rattle.table.specs.Records.{streamPart, streamIn, streamAt, legAt}
 use Rattle.table.specs.declared.Link.{Link}
 use Rattle.table.specs.declared.Stream.{Stream}
-use Rattle.table.proofs.PartLaws.{stream-inside, stream-of-part}
 use Rattle.shape.specs.Streams.{legsBefore}
 use Rattle.shape.specs.Legs.{linkOf, LegRight}
 use Rattle.shape.specs.Routes.{BeforeLegs, AtLeg, NoEndAt}
-use Rattle.shape.proofs.StreamLaws.{LegsSoFar, legs-none, legs-more}
+use Rattle.shape.proofs.StreamLaws.{StreamsRead, LegsSoFar, streams-read, stream-there, stream-is, legs-none, legs-more}
 use Rattle.shape.proofs.LegLaws.{within-legs, at-inside, earlier-inside, earlier-link}
 
 -- One leg more that does not end at the node.
@@ -144,9 +142,7 @@ module _ {t : List ℕ} {s first end a : ℕ} (turn : StreamLegs t s first end a
 -- Each turn over the streams: next is the first leg of stream s, and the legs below it are right.
 pub record LegTurn (t streams : List ℕ) (count next s : ℕ) : Type 0 where
   pub known : BeforeLegs t
-  pub streams-are : streams ≡ streamPart t
-  pub count-is : count ≡ streamCount t
-  pub limit : count ≤ maxStreams
+  pub read : StreamsRead t streams count
   pub passed : s ≤ count
   pub next-is : next ≡ legsBefore t s
   pub right : All (LegRight t) next
@@ -155,9 +151,7 @@ module _ {t streams : List ℕ} {count : ℕ} where
   pub legs-begin : BeforeLegs t → streams ≡ streamPart t → count ≡ streamCount t → LegTurn t streams count 0 0
   legs-begin b e n = record {
     known = b;
-    streams-are = e;
-    count-is = n;
-    limit = omega (arith, b .sized .limits .streams);
+    read = streams-read (b .sized) e n;
     passed = omega arith;
     next-is = sym (legs-none t);
     right = below-none _;
@@ -166,49 +160,38 @@ module _ {t streams : List ℕ} {count : ℕ} where
   module _ {next s : ℕ} (turn : LegTurn t streams count next s) where
     pub legs-end : count ≤ s → AllFrom (LegRight t) 0 (legCount t)
     legs-end h a z l =
-        let e : s ≡ streamCount t = omega (arith, turn .passed, turn .count-is) in
+        let e : s ≡ streamCount t = omega (arith, turn .passed, turn .read .many) in
         let n = turn .next-is ∙ ap (legsBefore t) e ∙ turn .known .counts in
         turn .right a (omega arith)
 
-    module _ (below : s < count) where
-      pub stream-there : s < streamCount t
-      stream-there = omega (arith, turn .count-is)
+    module _ (below : s < count) {stream : Stream} {many : ℕ} (is : stream ≡ streamIn streams s) (n : many ≡ stream .count) where
+      pub many-is : many ≡ streamAt t s .count
+      many-is = n ∙ ap (λ (z : Stream). z .count) (stream-is (turn .read) below is)
 
-      pub stream-lies : streamWords * s + streamWords ≤ length streams
-      stream-lies = rw (turn .streams-are) (stream-inside t (turn .known .sized) s stream-there)
+      pub its-end : next + many ≡ next + streamAt t s .count
+      its-end = ap (λ (m : ℕ). next + m) many-is
 
-      module _ {stream : Stream} {many : ℕ} (is : stream ≡ streamIn streams s) (n : many ≡ stream .count) where
-        pub many-is : many ≡ streamAt t s .count
-        many-is =
-            let e : stream ≡ streamAt t s = is ∙ rw (turn .streams-are) (stream-of-part t s) in
-            n ∙ ap (λ (z : Stream). z .count) e
+      abbrev pub its-legs : LegsSoFar
+      its-legs = record {
+        next = next;
+        many = many;
+        within = omega (arith, many-is, turn .next-is, within-legs t (turn .known) s (stream-there (turn .read) below), turn .known .sized .limits .legs);
+      }
 
-        pub its-end : next + many ≡ next + streamAt t s .count
-        its-end = ap (λ (m : ℕ). next + m) many-is
+      module _ {found : Found} where
+        pub stream-has-wrong : {p : ℕ} → found ≡ At p → Finds (LegRight t) next (next + many) found → Lowest (LegRight t) 0 (legCount t) p
+        stream-has-wrong {p} e f =
+            let l : Lowest (LegRight t) next (next + many) p = subst (Finds (LegRight t) next (next + many)) e f in
+            lowest-of-all
+            (omega (arith, l .inside, many-is, turn .next-is, within-legs t (turn .known) s (stream-there (turn .read) below)))
+            (l .bad)
+            (all-join _ _ (turn .right) (l .before))
 
-        abbrev pub its-legs : LegsSoFar
-        its-legs = record {
-          next = next;
-          many = many;
-          within = omega (arith, many-is, turn .next-is, within-legs t (turn .known) s stream-there, turn .known .sized .limits .legs);
+        pub stream-is-right : found ≡ Nowhere → Finds (LegRight t) next (next + many) found → LegTurn t streams count (next + many) (s + 1)
+        stream-is-right e f = record {
+          known = turn .known;
+          read = turn .read;
+          passed = omega arith;
+          next-is = omega (arith, turn .next-is, many-is, legs-more t s);
+          right = all-join _ _ (turn .right) (subst (Finds (LegRight t) next (next + many)) e f);
         }
-
-        module _ {found : Found} where
-          pub stream-has-wrong : {p : ℕ} → found ≡ At p → Finds (LegRight t) next (next + many) found → Lowest (LegRight t) 0 (legCount t) p
-          stream-has-wrong {p} e f =
-              let l : Lowest (LegRight t) next (next + many) p = subst (Finds (LegRight t) next (next + many)) e f in
-              lowest-of-all
-              (omega (arith, l .inside, many-is, turn .next-is, within-legs t (turn .known) s stream-there))
-              (l .bad)
-              (all-join _ _ (turn .right) (l .before))
-
-          pub stream-is-right : found ≡ Nowhere → Finds (LegRight t) next (next + many) found → LegTurn t streams count (next + many) (s + 1)
-          stream-is-right e f = record {
-            known = turn .known;
-            streams-are = turn .streams-are;
-            count-is = turn .count-is;
-            limit = turn .limit;
-            passed = omega arith;
-            next-is = omega (arith, turn .next-is, many-is, legs-more t s);
-            right = all-join _ _ (turn .right) (subst (Finds (LegRight t) next (next + many)) e f);
-          }
