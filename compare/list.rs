@@ -80,8 +80,14 @@ impl Written {
         }
         let words: Vec<&str> = change.split_whitespace().collect();
         match &words[..] {
-            ["words", n] => self.words.truncate(number(n)? as usize),
-            ["bytes", n] => self.cut = Some(number(n)? as usize),
+            ["words", n] => match number(n)? as usize {
+                n if n < self.words.len() => self.words.truncate(n),
+                _ => return Err(format!("'{}' cuts nothing", change)),
+            },
+            ["bytes", n] => match number(n)? as usize {
+                n if n < self.file().len() => self.cut = Some(n),
+                _ => return Err(format!("'{}' cuts nothing", change)),
+            },
             _ => {
                 let plan = table(&Plain, before).map_err(|_| format!("'{}' is of no plan", change))?;
                 let (names, value, bytes) = match words.iter().position(|word| *word == "as") {
