@@ -36,9 +36,9 @@ cursor-refusals-at-numbers = record {
 
 pub move-refusals-at-numbers : MoveRefusalsAtNumbers
 move-refusals-at-numbers = record {
-  table = inl (cursor-refusals-at-numbers .table);
-  stale = inl (stale 4294967295 6 0 3 (λ e. omega (arith, e)));
-  no-place = inl (lost 4294967295 0 3 (λ h. omega arith) (λ e. omega (arith, e)));
-  no-leg = inr (right 4294967295 0 2 (inl (record { leg = omega arith; place = omega arith })), inl (refl, refl, λ h. omega (arith, h)));
-  cannot-rise = inr (right 4294967295 3 0 (inr (record { leg = refl; place = refl })), inr (omega arith, (refl, refl, λ h. omega (arith, h))));
+  table = λ offset. inl (cursor-refusals-at-numbers .table);
+  stale = λ offset. inl (stale 4294967295 6 0 3 (λ e. omega (arith, e)));
+  no-place = λ offset. inl (lost 4294967295 0 3 (λ h. omega arith) (λ e. omega (arith, e)));
+  no-leg = λ offset. inr (right 4294967295 0 2 (inl (record { leg = omega arith; place = omega arith })), inl (refl, refl, λ h. omega (arith, h)));
+  cannot-rise = λ offset. inr (right 4294967295 3 0 (inr (record { leg = refl; place = refl })), inr (omega arith, (refl, refl, λ h. omega (arith, h))));
 }

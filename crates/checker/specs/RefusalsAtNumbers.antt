@@ -18,10 +18,10 @@ pub record CursorRefusalsAtNumbers : Type 0 where
   pub past-the-end : CursorFault (planAOf 7) (cursorAt 7 3 1) 9 0
   pub past-the-legs : CursorFault (planAOf 7) (cursorAt 7 4 0) 9 0
 
--- A move: 8 and 9 before 10, 10 before 11, and 11 for a leg that is there.
+-- A move, to any offset: 8 and 9 before 10, 10 before 11, and 11 for a leg that is there.
 pub record MoveRefusalsAtNumbers : Type 0 where
-  pub table : MoveFault wrongLeg (cursorAt 6 0 3) (moveTo 3 0) 7 1
-  pub stale : MoveFault (planAOf 4294967295) (cursorAt 6 0 3) (moveTo 3 0) 8 0
-  pub no-place : MoveFault (planAOf 4294967295) (cursorAt 4294967295 0 3) (moveTo 3 0) 9 0
-  pub no-leg : MoveFault (planAOf 4294967295) (cursorAt 4294967295 0 2) (moveTo 3 0) 10 0
-  pub cannot-rise : MoveFault (planAOf 4294967295) (cursorAt 4294967295 3 0) (moveTo 2 0) 11 0
+  pub table : (offset : ℕ) → MoveFault wrongLeg (cursorAt 6 0 3) (moveTo 3 offset) 7 1
+  pub stale : (offset : ℕ) → MoveFault (planAOf 4294967295) (cursorAt 6 0 3) (moveTo 3 offset) 8 0
+  pub no-place : (offset : ℕ) → MoveFault (planAOf 4294967295) (cursorAt 4294967295 0 3) (moveTo 3 offset) 9 0
+  pub no-leg : (offset : ℕ) → MoveFault (planAOf 4294967295) (cursorAt 4294967295 0 2) (moveTo 3 offset) 10 0
+  pub cannot-rise : (offset : ℕ) → MoveFault (planAOf 4294967295) (cursorAt 4294967295 3 0) (moveTo 2 offset) 11 0

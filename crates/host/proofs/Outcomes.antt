@@ -130,4 +130,5 @@ results-of-the-paper = record {
   started = λ n d. refl;
   not-started = λ n k p d. refl;
   room = refl;
+  largest = refl;
 }

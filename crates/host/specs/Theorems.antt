@@ -94,7 +94,7 @@ pub record ResultsAreThese : Type 0 where
       → HostMoves plan cursor mv m a m′ → (a .result ≡ 0) ⊎ IsRefusal (a .result)
 
 -- The answers at the paper's numbers: 0 nothing violated, 1 paused, 2 to 5 violated (window, hop, deadline, overlap), each with the steps; a start, 0 with the
--- places; 100 plus the refusal number, with the position. And 15, the fewest bytes that are taken for the cursor.
+-- places; 100 plus the refusal number, with the position. And 15: the fewest bytes that are taken for the cursor, and the largest refusal.
 pub record ResultsOfThePaper : Type 0 where
   pub nothing-violated : (d : Cursor) (n : ℕ) → sliceAnswered (answer.NothingViolated d n) ≡ answered 0 n
   pub paused : (d : Cursor) (n : ℕ) → sliceAnswered (answer.Paused d n) ≡ answered 1 n
@@ -106,3 +106,4 @@ pub record ResultsOfThePaper : Type 0 where
   pub started : (n : ℕ) (d : Cursor) → startAnswered n (grant.Granted d) ≡ answered 0 n
   pub not-started : (n k p : ℕ) (d : Cursor) → startAnswered n (grant.Refused k p d) ≡ answered (100 + k) p
   pub room : maxCursorBytes ≡ 15
+  pub largest : maxRefusal ≡ 15

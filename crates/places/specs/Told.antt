@@ -1,5 +1,5 @@
 -- What is told of the places of one leg.
-use Prim.Native.Nat.{ℕ, _≤_, _<_}
+use Prim.Native.Nat.{ℕ, _≤_}
 use mathlib.Core.Path.{_≡_}
 use mathlib.Core.List.{List}
 use Rattle.basics.specs.Lowest.{AllFrom, Lowest, Finds}

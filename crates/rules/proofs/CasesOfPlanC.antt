@@ -2,7 +2,7 @@
 use Prim.Native.Nat.{ℕ, zero, suc, _+_, _*_, _≤_, _<_}
 use mathlib.Core.Path.{_≡_, refl, _∙_, sym, ap}
 use mathlib.Core.List.{List}
-use mathlib.Core.Logic.{inr, ⊎-elim}
+use mathlib.Core.Logic.{inl, inr, ⊎-elim}
 use native.Mathlib.Omega.{arith}
 use Rattle.basics.specs.declared.Holds.the-variants.{No}
 use Rattle.table.specs.Records.{legAt}
@@ -19,7 +19,6 @@ use Rattle.rules.specs.Times.{preambleOctets, holdOctets}
 use Rattle.rules.specs.Rules.{Hop, Deadline, Overlap}
 use Rattle.rules.specs.Steps.{FrameOf, ReadyOf}
 use Rattle.rules.specs.Places.{askedAt}
-use Rattle.rules.specs.Reads.{ReadsBeside, Reads}
 use Rattle.rules.specs.CasesOfPlanC.{CasesOfPlanC, ReadsOfPlanC, CasesOfPlanCArePlans}
 use Rattle.rules.specs.declared.Frame.{Frame}
 use Rattle.rules.proofs.Judging.{hop-kept, hop-broken, not-last-has-no-deadline, deadline-kept, late-last-leg, other-links, same-link-told}
@@ -134,23 +133,15 @@ first-is a = ap (λ (s : Stream). s .first) (stream-on c a)
 end-is : (a : ℕ) → endOf c a ≡ streamOn c a .first + streamOn c a .count
 end-is a = omega (arith, first-is a, ap (λ (s : Stream). s .count) (stream-on c a))
 
--- Another leg is read beside the leg itself.
-beside : (a p b : ℕ) → (b ≡ a → ⊥) → (ReadsBeside c a (askedAt p) b → ⊥) → Reads c a p b → ⊥
-beside a p b n k r = ⊎-elim n k r
-
 pub reads-of-plan-c : ReadsOfPlanC
 unfolding askedAt
 reads-of-plan-c = record {
-  hop-first = beside 4 1 3 (λ e. omega (arith, e)) (λ r. omega (arith, r .0, first-is 4));
-  hop-last = (inr (omega (arith, first-is 3), omega arith), beside 3 1 1 (λ e. omega (arith, e)) (λ r. omega (arith, r .1)));
-  deadline-last = (
-    inr (omega (arith, end-is 3), omega (arith, first-is 3)),
-    beside 3 2 0 (λ e. omega (arith, e)) (λ r. omega (arith, r .1, first-is 3)),
-    beside 3 2 2 (λ e. omega (arith, e)) (λ r. omega (arith, r .1, first-is 3)),
-  );
-  deadline-middle = beside 2 2 1 (λ e. omega (arith, e)) (λ r. omega (arith, r .0, end-is 2));
-  window = beside 3 0 2 (λ e. omega (arith, e)) (λ r. r);
-  overlap = (inr refl, beside 3 5 1 (λ e. omega (arith, e)) (λ r. omega (arith, r)));
+  hop-first = λ b. ⊎-elim (λ e. e) (λ r. omega (arith, r .0, r .1, first-is 4));
+  hop-last = (inr (omega (arith, first-is 3), omega arith), λ b. ⊎-elim (λ e. inl e) (λ r. inr (omega (arith, r .1))));
+  deadline-last = (inr (omega (arith, end-is 3), omega (arith, first-is 3)), λ b. ⊎-elim (λ e. inl e) (λ r. inr (omega (arith, r .1, first-is 3))));
+  deadline-middle = λ b. ⊎-elim (λ e. e) (λ r. omega (arith, r .0, end-is 2));
+  window = λ b. ⊎-elim (λ e. e) (λ r. absurd r);
+  overlap = (inr refl, λ b. ⊎-elim (λ e. inl e) (λ r. inr r));
 }
 
 pub cases-of-plan-c-are-plans : CasesOfPlanCArePlans

@@ -1,5 +1,7 @@
 -- The rules at numbers with Plan C, where stream 1 has three legs, and streams 2 and 3 have one each.
-use Prim.Native.Nat.{_≤_}
+use Prim.Native.Nat.{ℕ, _≤_}
+use mathlib.Core.Path.{_≡_}
+use mathlib.Core.Logic.{_⊎_}
 use Rattle.table.specs.PlanC.{PlanCNumbers, planC, deadlinesC, offsetsC}
 use Rattle.shape.specs.Shape.{WellFormedTable}
 use Rattle.rules.specs.Rules.{Hop, Deadline, Overlap}
@@ -24,15 +26,15 @@ pub record CasesOfPlanC : Type 0 where
   -- Legs 4 and 5 both hold link 4 at the instant 1,300: overlap is of any two legs, and not of leg 0 with another.
   pub same-link : Overlap (planC (offsetsC 2014 3128)) 5 4 → ⊥
 
--- Which legs are read: leg 4 is a first leg, and so its hop reads no other; the hop of leg 3 reads leg 2, and not the first leg of its route; its deadline reads that
--- first leg, leg 1, and neither leg 0 nor leg 2; leg 2 is not the last, and its deadline reads no other; a window reads no other; place 5 reads leg 2 alone.
+-- Which legs are read, and no others: leg 4 is a first leg, and its hop reads itself alone; the hop of leg 3 reads leg 2, and not the first leg of its route; its deadline
+-- reads that first leg, leg 1; leg 2 is not the last, and its deadline reads itself alone, as the window of leg 3 does; place 7 of leg 5 reads leg 4, with which it shares a link.
 pub record ReadsOfPlanC : Type 0 where
-  pub hop-first : Reads (planC (offsetsC 2014 3128)) 4 1 3 → ⊥
-  pub hop-last : Reads (planC (offsetsC 2014 3128)) 3 1 2 × (Reads (planC (offsetsC 2014 3128)) 3 1 1 → ⊥)
-  pub deadline-last : Reads (planC (offsetsC 2014 3128)) 3 2 1 × (Reads (planC (offsetsC 2014 3128)) 3 2 0 → ⊥) × (Reads (planC (offsetsC 2014 3128)) 3 2 2 → ⊥)
-  pub deadline-middle : Reads (planC (offsetsC 2014 3128)) 2 2 1 → ⊥
-  pub window : Reads (planC (offsetsC 2014 3128)) 3 0 2 → ⊥
-  pub overlap : Reads (planC (offsetsC 2014 3128)) 3 5 2 × (Reads (planC (offsetsC 2014 3128)) 3 5 1 → ⊥)
+  pub hop-first : (b : ℕ) → Reads (planC (offsetsC 2014 3128)) 4 1 b → b ≡ 4
+  pub hop-last : Reads (planC (offsetsC 2014 3128)) 3 1 2 × ((b : ℕ) → Reads (planC (offsetsC 2014 3128)) 3 1 b → (b ≡ 3) ⊎ (b ≡ 2))
+  pub deadline-last : Reads (planC (offsetsC 2014 3128)) 3 2 1 × ((b : ℕ) → Reads (planC (offsetsC 2014 3128)) 3 2 b → (b ≡ 3) ⊎ (b ≡ 1))
+  pub deadline-middle : (b : ℕ) → Reads (planC (offsetsC 2014 3128)) 2 2 b → b ≡ 2
+  pub window : (b : ℕ) → Reads (planC (offsetsC 2014 3128)) 3 0 b → b ≡ 3
+  pub overlap : Reads (planC (offsetsC 2014 3128)) 5 7 4 × ((b : ℕ) → Reads (planC (offsetsC 2014 3128)) 5 7 b → (b ≡ 5) ⊎ (b ≡ 4))
 
 -- These tables are well-formed, whatever their offsets, with deadlines of 1 ns to the period: they are plans.
 abbrev pub CasesOfPlanCArePlans : Type 0
