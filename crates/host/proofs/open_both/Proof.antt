@@ -27,19 +27,34 @@ same-length : tie.Need-same-length
 same-length c = search needs
 
 returns : tie.Need-returns
-returns c = inl (read-fault _ _ _ _ _ _ (c .before .read .given .1) (c .before .before .before .before .before .before .before .before .before .before .pre) (c .before .before .before .before .before .read-plan .ensures))
+returns c =
+    let refused : tie.After-read = search in
+    let plan : tie.After-read-plan = search in
+    let entry : tie.Start = search in
+    inl (read-fault _ _ _ (refused .read .given .1) (entry .pre) (plan .read-plan .ensures))
 
 same-length-2 : tie.Need-same-length-2
 same-length-2 c = search needs
 
 returns-2 : tie.Need-returns-2
-returns-2 c = let f = read-front _ _ _ _ _ (c .before .before .before .before .before .read2 .given .1) (c .before .before .before .before .before .before .before .before .before .read-plan .ensures) in inr (f .table, f .file, cursor-unread _ _ _ _ (c .before .saved .given .1) (c .before .before .before .read-cursor .ensures))
+returns-2 c =
+    let refused : tie.After-saved = search in
+    let cursor : tie.After-read-cursor = search in
+    let words : tie.After-read2 = search in
+    let plan : tie.After-read-plan = search in
+    let front = read-front _ _ _ (words .read2 .given .1) (plan .read-plan .ensures) in
+    inr (front .table, front .file, cursor-unread (refused .saved .given .1) (cursor .read-cursor .ensures))
 
 same-length-3 : tie.Need-same-length-3
 same-length-3 c = search needs
 
 returns-3 : tie.Need-returns-3
-returns-3 c = (read-front _ _ _ _ _ (c .before .before .before .before .before .read2 .given .1) (c .before .before .before .before .before .before .before .before .before .read-plan .ensures), cursor-saved _ _ _ (c .before .saved2 .given .1) (c .before .before .before .read-cursor .ensures))
+returns-3 c =
+    let saved : tie.After-saved2 = search in
+    let cursor : tie.After-read-cursor = search in
+    let words : tie.After-read2 = search in
+    let plan : tie.After-read-plan = search in
+    (read-front _ _ _ (words .read2 .given .1) (plan .read-plan .ensures), cursor-saved (saved .saved2 .given .1) (cursor .read-cursor .ensures))
 
 pub open-both-spec : {M : Type 1} → statement M
 open-both-spec =

@@ -1,8 +1,5 @@
 -- `host::slice_plan` meets its contract: the words that were read are the table of the file. Assumes nothing.
-use mathlib.Core.Logic.{inr}
-use mathlib.Core.Path.{sym}
-use lib.Seq.{length-take-le}
-use Rattle.host.proofs.Steps.{both-opened, opened-small, slice-unopened}
+use Rattle.host.proofs.Steps.{both-opened, front-length, opened-small, slice-unopened, slice-on}
 use borrow.Author.Needs.{needs}
 use Rattle.host.proofs.slice_plan.Statement.{statement}
 use Rattle.host.proofs.slice_plan.Tie as tie
@@ -14,16 +11,25 @@ enum-known-read : tie.Need-enum-known-read
 enum-known-read c = search needs
 
 refused-requires : tie.Need-refused-requires
-refused-requires c κs = opened-small _ _ _ _ _ _ (c .before .read .given .1) (c .before .before .before .before .before .open-both .ensures)
+refused-requires c κs =
+    let refused : tie.After-read = search in
+    let both : tie.After-open-both = search in
+    opened-small _ _ _ (refused .read .given .1) (both .open-both .ensures)
 
 enum-known-read-2 : tie.Need-enum-known-read-2
 enum-known-read-2 c = search needs
 
 slice-reshare-prefix-slice-table : tie.Need-slice-reshare-prefix-slice-table
-slice-reshare-prefix-slice-table c = both-opened _ _ _ _ _ _ (c .before .read2 .given .1) (c .before .before .before .before .before .open-both .ensures) .0 .inside
+slice-reshare-prefix-slice-table c =
+    let words : tie.After-read2 = search in
+    let both : tie.After-open-both = search in
+    both-opened _ _ _ (words .read2 .given .1) (both .open-both .ensures) .0 .inside
 
 slice-aggregate-slice-table : tie.Need-slice-aggregate-slice-table
-slice-aggregate-slice-table c = sym (length-take-le _ _ (both-opened _ _ _ _ _ _ (c .before .before .read2 .given .1) (c .before .before .before .before .before .before .open-both .ensures) .0 .inside))
+slice-aggregate-slice-table c =
+    let words : tie.After-read2 = search in
+    let both : tie.After-open-both = search in
+    front-length (both-opened _ _ _ (words .read2 .given .1) (both .open-both .ensures) .0)
 
 slice-table-requires : tie.Need-slice-table-requires
 slice-table-requires c κs = search needs
@@ -32,7 +38,10 @@ same-length : tie.Need-same-length
 same-length c = search needs
 
 returns : tie.Need-returns
-returns c = slice-unopened _ _ _ _ _ _ _ _ _ (c .before .before .read .given .1) (c .before .before .before .before .before .before .open-both .ensures) (c .refused .ensures)
+returns c =
+    let refused : tie.After-read = search in
+    let both : tie.After-open-both = search in
+    slice-unopened _ _ _ (refused .read .given .1) (both .open-both .ensures) (c .refused .ensures)
 
 same-length-2 : tie.Need-same-length-2
 same-length-2 c = search needs
@@ -42,10 +51,10 @@ same-length-3 c = search needs
 
 returns-2 : tie.Need-returns-2
 returns-2 c =
-    let x = both-opened _ _ _ _ _ _ (c .before .before .before .before .before .before .read2 .given .1) (c .before .before .before .before .before .before .before .before .before .before .open-both .ensures) in
-    let f = x .0 in
-    let s = c .before .before .slice-table .ensures in
-    inr (f .table, f .file, inr (_, x .1, rw (f .is) at s))
+    let table : tie.After-slice-table = search in
+    let words : tie.After-read2 = search in
+    let both : tie.After-open-both = search in
+    slice-on _ _ _ (words .read2 .given .1) (both .open-both .ensures) (table .slice-table .ensures)
 
 pub slice-plan-spec : {M : Type 1} → statement M
 slice-plan-spec =

@@ -26,7 +26,10 @@ same-length : tie.Need-same-length
 same-length c = search needs
 
 returns : tie.Need-returns
-returns c = written _ _ _ (c .before .before .write-cursor .result) (c .before .before .before .before .before .pre) (c .before .before .write-cursor .ensures)
+returns c =
+    let cursor : tie.After-write-cursor = search in
+    let entry : tie.Start = search in
+    written _ _ _ (cursor .write-cursor .result) (entry .pre) (cursor .write-cursor .ensures)
 
 pub put-back-spec : {M : Type 1} → statement M
 put-back-spec = tie.close (tie.spec write-cursor-requires same-length returns)

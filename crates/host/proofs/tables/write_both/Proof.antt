@@ -1,8 +1,6 @@
 -- `host::tables::write_both` meets its contract: a table of the right size is refused for room alone, and its file is small. Assumes nothing.
-use mathlib.Core.Path.{refl}
 use native.Mathlib.Omega.{arith}
-use Rattle.files.proofs.ComeBack.{file-bytes-at-most}
-use Rattle.host.proofs.Steps.{unwritten-room, none-written, file-size, both-written}
+use Rattle.host.proofs.Steps.{unwritten-small, file-small, none-written, both-written}
 use borrow.Author.Needs.{needs}
 use Rattle.host.proofs.tables.write_both.Statement.{statement}
 use Rattle.host.proofs.tables.write_both.Tie as tie
@@ -15,8 +13,10 @@ enum-known-written c = search needs
 
 refused-requires : tie.Need-refused-requires
 refused-requires c κs =
-    let x = unwritten-room _ _ _ _ _ _ (c .before .before .before .before .before .before .before .before .before .before .pre .0) (c .before .written .given .1) (c .before .before .before .before .before .write-plan .ensures) in
-    record { number = omega (arith, x .0); position = omega (arith, x .1) }
+    let refused : tie.After-written = search in
+    let plan : tie.After-write-plan = search in
+    let entry : tie.Start = search in
+    unwritten-small _ _ (entry .pre .0) (refused .written .given .1) (plan .write-plan .ensures)
 
 enum-known-written-2 : tie.Need-enum-known-written-2
 enum-known-written-2 c = search needs
@@ -26,14 +26,16 @@ put-back-requires c κs = search needs
 
 cast-t15 : tie.Need-cast-t15
 cast-t15 c =
-    let e = file-size _ _ _ _ _ (c .before .before .before .before .before .written2 .given .1) (c .before .before .before .before .before .before .before .before .before .write-plan .ensures) in
-    omega (arith, e, file-bytes-at-most .1 _ (c .before .before .before .before .before .before .before .before .before .before .before .before .before .before .pre .0))
+    let bytes : tie.After-written2 = search in
+    let plan : tie.After-write-plan = search in
+    let entry : tie.Start = search in
+    omega (arith, file-small _ _ (entry .pre .0) (bytes .written2 .given .1) (plan .write-plan .ensures))
 
 same-length : tie.Need-same-length
 same-length c = search needs
 
 returns : tie.Need-returns
-returns c = none-written _ _ _ _ _ _ _ _ _ (c .before .before .before .before .before .before .before .before .before .before .before .pre .0) (c .before .before .written .given .1) (c .before .before .before .before .before .before .write-plan .ensures) (c .refused .ensures)
+returns c = search none-written
 
 same-length-2 : tie.Need-same-length-2
 same-length-2 c = search needs
@@ -42,7 +44,7 @@ same-length-3 : tie.Need-same-length-3
 same-length-3 c = search needs
 
 returns-2 : tie.Need-returns-2
-returns-2 c = both-written _ _ _ _ _ _ _ _ _ (c .before .before .before .before .before .written2 .given .1) (c .before .before .before .before .before .before .before .before .before .write-plan .ensures) refl (c .before .before .put-back .ensures)
+returns-2 c = search both-written
 
 pub write-both-spec : {M : Type 1} → statement M
 write-both-spec =
