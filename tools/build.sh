@@ -11,14 +11,21 @@ lock() {
 }
 unlock() { exec 9>&-; }
 
-# Prints the lines of crates.txt of a crate and of all that it uses. The crates stand there lowest first.
+# Prints the lines of crates.txt of a crate and of all that it uses, as NAME: USED.... They may stand there in any order.
 uses() { # CRATE
-    local lines wanted=" $1 " i
+    local line name word lines wanted=" $1 " before=''
     mapfile -t lines <crates.txt || return 1
-    for ((i = ${#lines[@]} - 1; i >= 0; i--)); do
-        [[ $wanted == *" ${lines[i]%%:*} "* ]] || continue
-        wanted+="${lines[i]#*:} "
-        printf '%s\n' "${lines[i]}"
+    while [[ $wanted != "$before" ]]; do
+        before=$wanted
+        for line in "${lines[@]%%#*}"; do
+            read -r name <<<"${line%%:*}"
+            [[ $line == *:* && $wanted == *" $name "* ]] || continue
+            for word in ${line#*:}; do [[ $wanted == *" $word "* ]] || wanted+="$word "; done
+        done
+    done
+    for line in "${lines[@]%%#*}"; do
+        read -r name <<<"${line%%:*}"
+        [[ $line != *:* || $wanted != *" $name "* ]] || printf '%s:%s\n' "$name" "${line#*:}"
     done
 }
 
@@ -139,27 +146,40 @@ Libs: -L\${libdir} -lconepalhui
 END
 }
 
-# Writes standard input to a file of the folder $to, which it replaces whole.
-put() { # FILE [MODE]
-    local file=$to/$1
-    mkdir -p "${file%/*}" && cat >"$file.new" && chmod "${2-644}" "$file.new" && mv -f "$file.new" "$file" || stop "cannot write $file"
+# Copies a file into the folder $to, where it replaces another whole and lastingly.
+put() { # SOURCE FILE [MODE]
+    local file=$to/$2 new
+    mkdir -p "${file%/*}" && new=$(mktemp "$file.new.XXXXXX") && cp -- "$1" "$new" && chmod "${3-644}" "$new" && sync "$new" && mv -fT "$new" "$file" ||
+        { rm -f -- "${new-}"; stop "cannot write $file: not all is installed"; }
+}
+
+# Makes what is written for the copy alone, in the folder $temp: the command, the flags for pkg-config and the man page.
+write_copy() {
+    local version
+    version=$(sed -n 's/^#define CONEPALHUI_VERSION "\(.*\)"$/\1/p' include/conepalhui.h) && [[ -n $version ]] &&
+        sed 's|^parts=tools .*|parts=../lib/conepalhui|' conepalhui >"$temp/command" && [[ $(<"$temp/command") == *$'\nparts=../lib/conepalhui\n'*$'\nmain "$@"; exit' ]] &&
+        package_config "$version" >"$temp/flags" &&
+        (set -o pipefail && is_installed() { true; } && called=conepalhui && . tools/help.sh && man_page "$version") >"$temp/page"
 }
 
 do_install() {
-    local to=${1-} version name
+    local to=${1-} name
     (($# == 1)) && [[ -n $to && $to != -* ]] || stop "install takes a folder: $(usage install)"
     [[ $to == /* ]] || to=$from/$to
+    # The command finds its parts from where it really stands.
+    [[ ! -L $to/bin && ! -L $to/lib ]] || stop "$to/bin or $to/lib is a link: give the folder that it leads to"
     build timetable
     build operator
     build_library
-    version=$(sed -n 's/^#define CONEPALHUI_VERSION "\(.*\)"$/\1/p' include/conepalhui.h)
-    for name in timetable operator; do put "lib/conepalhui/$name" 755 <".built/$name"; done
-    for name in help run; do put "lib/conepalhui/$name.sh" <"tools/$name.sh"; done
-    sed 's|^parts=tools .*|parts=../lib/conepalhui|' conepalhui | put bin/conepalhui 755
-    put lib/libconepalhui.a <.built/libconepalhui.a
-    package_config "$version" | put lib/pkgconfig/conepalhui.pc
-    put include/conepalhui.h <include/conepalhui.h
-    for name in OPERATIONS REFUSALS; do put "share/doc/conepalhui/$name.md" <"docs/$name.md"; done
-    (is_installed() { true; } && called=conepalhui && . tools/help.sh && man_page "$version") | put share/man/man1/conepalhui.1
+    umask 022
+    make_temp && write_copy || stop "cannot make the copy"
+    for name in timetable operator; do put ".built/$name" "lib/conepalhui/$name" 755; done
+    for name in help run; do put "tools/$name.sh" "lib/conepalhui/$name.sh"; done
+    put .built/libconepalhui.a lib/libconepalhui.a
+    put "$temp/flags" lib/pkgconfig/conepalhui.pc
+    put include/conepalhui.h include/conepalhui.h
+    for name in OPERATIONS REFUSALS; do put "docs/$name.md" "share/doc/conepalhui/$name.md"; done
+    put "$temp/page" share/man/man1/conepalhui.1
+    put "$temp/command" bin/conepalhui 755 # The last: without it nothing is run.
     printf 'installed %s\n' "$to" || stop "cannot write to standard output"
 }

@@ -71,7 +71,7 @@ tell_command() { # NAME
 
 do_help() {
     (($# <= 1)) || stop "help takes one command at most"
-    (($# == 1)) || { list_commands && return; }
+    (($# == 1)) || { list_commands; return; }
     is_command "$1" || stop "unknown command '$1': '$called help' lists them"
     tell_command "$1"
 }

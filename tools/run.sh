@@ -60,11 +60,13 @@ take_status() {
 # Asks a program of the plan on standard input, and passes its answer on.
 answer() { # PROGRAM ARGUMENT...
     local wrote status why
+    # Where it is closed, the program would be given the end of a pipe in its place.
+    [[ -e /dev/fd/0 ]] || stop "standard input is closed: the plan cannot be read"
     prepare "$1"
     wrote=$(run_program "$@" && printf .) || stop "the program $1 ended with status $?"
     [[ $wrote != . ]] || stop "the program $1 printed nothing: the plan cannot be read"
     take_status || stop "the program $1 gave no whole answer"
-    printf '%s' "$wrote" || stop "cannot write to standard output"
+    printf '%s' "$wrote" | cat || stop "cannot write to standard output"
     return $status
 }
 
