@@ -1,4 +1,4 @@
-"""Asks the judge, a plain checker in Rust that was written from document 01 alone (compare/judge.rs says what it answers).
+"""Asks the judge, a plain checker in Rust that was written from document 01 (compare/judge.rs says what it answers).
 
 A table is a list of words, and a cursor (revision, leg, place). An answer is a tuple; a refusal is ("refused", number, at).
 """
