@@ -56,18 +56,49 @@ make_temp() {
     trap 'rm -rf -- "$temp"' EXIT
 }
 
-# Runs one named test. What it says is shown only where it fails.
-try() { # NAME COMMAND...
-    local name=$1 began=$SECONDS line
+# Runs a test, and leaves what it said, its status and how long it took in $temp, under its number.
+run_apart() { # NUMBER COMMAND...
+    local number=$1 began=$SECONDS status=0
     shift
-    if "$@" >"$temp/said" 2>&1; then
+    "$@" >"$temp/$number.said" 2>&1 || status=$?
+    echo "$status $((SECONDS - began))" >"$temp/$number.ended"
+}
+
+# Tells of a test that has run. What it said is shown only where it failed.
+tell() { # NUMBER NAME
+    local status seconds line
+    if [[ -e $temp/$1.ended ]] && read -r status seconds <"$temp/$1.ended" && ((status == 0)); then
         passed=$((passed + 1))
-        printf 'ok %s (%d s)\n' "$name" $((SECONDS - began))
+        printf 'ok %s (%d s)\n' "$2" "$seconds"
     else
         failed=$((failed + 1))
-        printf 'FAILED %s\n' "$name"
-        while IFS= read -r line || [[ -n $line ]]; do printf '    %s\n' "$line"; done <"$temp/said"
+        printf 'FAILED %s\n' "$2"
+        while IFS= read -r line || [[ -n $line ]]; do printf '    %s\n' "$line"; done <"$temp/$1.said"
     fi
+}
+
+try() { # NAME COMMAND...
+    run_apart 0 "${@:2}"
+    tell 0 "$1"
+}
+
+# Runs tests, two at a time. Each is told of once it and those before it have ended.
+try_all() { # FILE...
+    local files=("$@") started=0 running=0 told=0
+    trap 'trap - INT; kill 0' INT # A test in the background does not hear an interrupt.
+    while ((told < $#)); do
+        if ((started < $# && running < 2)); then
+            run_apart $((started + 1)) "./${files[started]}" &
+            started=$((started + 1)) running=$((running + 1))
+            continue
+        fi
+        wait -n
+        running=$((running - 1))
+        while ((told < started)) && [[ -e $temp/$((told + 1)).ended || $running == 0 ]]; do
+            tell $((told + 1)) "${files[told]}"
+            told=$((told + 1))
+        done
+    done
 }
 
 # Runs rt ci and adds its counts. Where rt fails and counts no failure, or counts nothing, that is one failure.
@@ -101,13 +132,13 @@ prove() {
 
 about_test() {
     cat <<'END'
-Checks the layout of the sources, proves every crate from nothing with 'rt ci', and runs each tests/*.test.
+Checks the layout of the sources, proves every crate from nothing with 'rt ci', and runs each tests/*.test, two at a time.
 The last line is 'N passed, M failed'. The exit status is 0 only where something passed and nothing failed.
 END
 }
 
 do_test() {
-    local passed=0 failed=0 file
+    local passed=0 failed=0 file files=()
     (($# == 0)) || stop "test takes no argument"
     exec </dev/null
     if ! has_rt || ! make_temp; then
@@ -117,10 +148,13 @@ do_test() {
     install_missing
     try format rt fmt --check
     prove
+    # Two tests may want a program at once. Where one cannot be built, the tests that run it fail.
+    ((failed > 0)) || (build timetable && build operator) >/dev/null 2>&1
     for file in tests/*.test; do
         # Where there is no test the pattern stands for itself.
-        [[ ! -e $file && ! -L $file ]] || try "$file" "./$file"
+        [[ ! -e $file && ! -L $file ]] || files+=("$file")
     done
+    try_all "${files[@]}"
     printf '%d passed, %d failed\n' "$passed" "$failed"
     ((failed == 0 && passed > 0))
 }
