@@ -114,9 +114,9 @@ def build():
 
 
 @functools.lru_cache
-def program(name="operator"):
+def program(name="operator", folder=".built"):
     """Gives the words that run a built program directly, as the command runs it on this processor."""
-    built = str(HOME / ".built" / name)
+    built = str(HOME / folder / name)
     if platform.machine() == "x86_64":
         return [built]
     page = subprocess.run(["rt", "doc"], stdout=subprocess.PIPE, text=True, check=True).stdout.strip()
