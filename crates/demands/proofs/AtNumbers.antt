@@ -7,8 +7,7 @@ use native.Mathlib.Omega.{arith}
 use Rattle.table.specs.Records.{moved, moveTo}
 use Rattle.table.specs.PlanA.{offsetsA, planA, holdA}
 use Rattle.table.proofs.MovedPlans.{moved-0, moved-2}
-use Rattle.shape.specs.Shape.{WellFormedTable}
-use Rattle.shape.proofs.StreamLaws.{legs-none}
+use Rattle.shape.proofs.AtNumbers.{no-records}
 use Rattle.files.specs.declared.Cursor.{Cursor}
 use Rattle.rules.specs.declared.Rule.the-variants as rule
 use Rattle.rules.specs.Places.{placesOf}
@@ -24,7 +23,7 @@ use Rattle.checker.specs.declared.SliceAnswer.the-variants.{Violated, NothingVi
 use Rattle.checker.specs.declared.SliceAnswer.the-variants as answer
 use Rattle.demands.specs.Verdicts.{nothing-violated}
 use Rattle.demands.specs.Runs.{slice, move-leg, Run}
-use Rattle.demands.specs.AtNumbers.{good, none, at, begun, RunsAtNumbers}
+use Rattle.demands.specs.AtNumbers.{good, at, begun, RunsAtNumbers}
 use Rattle.demands.specs.CasesAsRuns.{pausedTwice, case11, case12, case13, CasesAsRuns}
 use Rattle.demands.proofs.PlanTables.{planTable, ranks, shape, here, right, granted, stays-at-end, pause, end, violate, on, accepted, before-2-3, before-1-1}
 
@@ -70,21 +69,6 @@ stale-cursor : Slices (moved good (moveTo 2 700)) (at 0 1 2) 5 (answer.Refused 8
 stale-cursor =
     on (at 0 1 2) 5 (answer.Refused 8 0 (at 0 1 2)) (moved-2 (offsetsA 0 1176 holdA) 700)
     (inr (shape 1 0 1176 700, inl (refl, refl, λ e. absurd (omega (arith, e)))), refl)
-
--- A table with no record at all.
-no-records : WellFormedTable none
-no-records = record {
-  sized = record {
-    head = omega arith;
-    limits = record { links = omega arith; streams = omega arith; legs = omega arith; precision = omega arith };
-    exact = refl;
-  };
-  links = λ i h. absurd (omega arith);
-  new-links = λ i h. absurd (omega arith);
-  streams = λ i h. absurd (omega arith);
-  counts = legs-none none;
-  legs = λ i h. absurd (omega arith);
-}
 
 pub runs-at-numbers : RunsAtNumbers
 runs-at-numbers = record {
@@ -134,10 +118,10 @@ runs-at-numbers = record {
       (λ h. ⊎-elim (λ e. let z : _≡_ {A = ℕ} 3 0 = ap (λ (c : Cursor). c .leg) e in absurd (omega arith)) (λ z. absurd z) h)
       (r .1);
   no-legs = (
-    (no-records, refl),
+    (no-records 0, refl),
     inl refl,
     (
-      record { shape = no-records; revision = refl; stands = inr (record { leg = refl; place = refl }) },
+      record { shape = no-records 0; revision = refl; stands = inr (record { leg = refl; place = refl }) },
       record {
         went = record { revision = refl; steps = omega arith; held = λ a p i from below. absurd (omega (arith, i .leg)) };
         end = record { leg = refl; place = refl };
