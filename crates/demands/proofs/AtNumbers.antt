@@ -5,10 +5,9 @@ use mathlib.Core.List.{List, _∷_}
 use mathlib.Core.Logic.{inl, inr, ⊎-elim}
 use native.Mathlib.Omega.{arith}
 use Rattle.table.specs.Records.{moved, moveTo}
-use Rattle.table.specs.PlanA.{offsetsA, planA}
+use Rattle.table.specs.PlanA.{offsetsA, planA, holdA}
 use Rattle.table.proofs.MovedPlans.{moved-0, moved-2}
-use Rattle.shape.specs.Shape.{WellFormedTable}
-use Rattle.shape.proofs.StreamLaws.{legs-none}
+use Rattle.shape.proofs.AtNumbers.{no-records}
 use Rattle.files.specs.declared.Cursor.{Cursor}
 use Rattle.rules.specs.declared.Rule.the-variants as rule
 use Rattle.rules.specs.Places.{placesOf}
@@ -24,12 +23,12 @@ use Rattle.checker.specs.declared.SliceAnswer.the-variants.{Violated, NothingVi
 use Rattle.checker.specs.declared.SliceAnswer.the-variants as answer
 use Rattle.demands.specs.Verdicts.{nothing-violated}
 use Rattle.demands.specs.Runs.{slice, move-leg, Run}
-use Rattle.demands.specs.AtNumbers.{good, none, at, begun, RunsAtNumbers}
+use Rattle.demands.specs.AtNumbers.{good, at, begun, RunsAtNumbers}
 use Rattle.demands.specs.CasesAsRuns.{pausedTwice, case11, case12, case13, CasesAsRuns}
 use Rattle.demands.proofs.PlanTables.{planTable, ranks, shape, here, right, granted, stays-at-end, pause, end, violate, on, accepted, before-2-3, before-1-1}
 
 -- The first slice of 5, wherever leg 2 is.
-begins : (o2 : ℕ) → o2 + 576 ≤ 150000 → Run begun (planTable 0 0 1176 o2)
+begins : (o2 : ℕ) → o2 ≤ 100000 → Run begun (planTable 0 0 1176 o2)
 begins o2 w = (
   (shape 0 0 1176 o2, refl),
   inl refl,
@@ -39,19 +38,19 @@ begins o2 w = (
 
 -- Slices of the accepted table that pause and that end, by the places between two cursors.
 pauses : (a p b q n : ℕ) → a < 3 → p < placesOf a → b < 3 → q < placesOf b → rank a p + n ≡ rank b q → rank b q ≤ 12 → Slices good (at 0 a p) n (Paused (at 0 b q) n)
-pauses a p b q n l k m h e le = pause 0 0 1176 576 12 (accepted 0) a p b q n (here 0 0 1176 576 a p l k) m h e le
+pauses a p b q n l k m h e le = pause 0 0 1176 holdA 12 (accepted 0) a p b q n (here 0 0 1176 holdA a p l k) m h e le
 
 ends : (a p n : ℕ) → PlaceOrEnd good a p → rank a p + n ≡ rank 3 0 → Slices good (at 0 a p) n (NothingViolated (at 0 3 0) n)
-ends a p n s e = end 0 0 1176 576 12 (accepted 0) a p n s e (omega (arith, ranks .3))
+ends a p n s e = end 0 0 1176 holdA 12 (accepted 0) a p n s e (omega (arith, ranks .3))
 
 at-1-2 : (o2 : ℕ) → PlaceOrEnd (planTable 0 0 1176 o2) 1 2
 at-1-2 o2 = here 0 0 1176 o2 1 2 (omega arith) (omega arith)
 
 on-good : Run begun good
-on-good = begins 576 (omega arith)
+on-good = begins holdA (omega arith)
 
 to-the-end : Run (slice (at 0 1 2) 7 (NothingViolated (at 0 3 0) 7) ∷ begun) good
-to-the-end = (on-good, inl refl, ends 1 2 7 (at-1-2 576) (omega (arith, ranks .1, ranks .3)))
+to-the-end = (on-good, inl refl, ends 1 2 7 (at-1-2 holdA) (omega (arith, ranks .1, ranks .3)))
 
 -- A leg ahead is moved, to 700. A slice from the new cursor goes on, and the old one is refused.
 move-ahead : Run (move-leg (at 0 1 2) (moveTo 2 700) (Granted (at 1 1 2)) ∷ begun) (moved good (moveTo 2 700))
@@ -59,32 +58,17 @@ move-ahead = (
   good,
   on-good,
   inl refl,
-  granted 0 0 1176 576 1 2 (moveTo 2 700) 1 2 (omega arith) (at-1-2 576) (omega arith) (inl (refl, refl)) (omega arith) (omega (arith, ranks .1, ranks .2)),
+  granted 0 0 1176 holdA 1 2 (moveTo 2 700) 1 2 (omega arith) (at-1-2 holdA) (omega arith) (inl (refl, refl)) (omega arith) (omega (arith, ranks .1, ranks .2)),
 )
 
 goes-on-ahead : (p b q : ℕ) → p < 4 → b < 3 → q < placesOf b → rank 1 p + 1 ≡ rank b q → rank b q ≤ 10 → Slices (moved good (moveTo 2 700)) (at 1 1 p) 1 (Paused (at 1 b q) 1)
 goes-on-ahead p b q k l h e le =
-    on (at 1 1 p) 1 (Paused (at 1 b q) 1) (moved-2 (offsetsA 0 1176 576) 700) (pause 1 0 1176 700 10 (before-2-3 1 700 (omega arith)) 1 p b q 1 (here 1 0 1176 700 1 p (omega arith) k) l h e le)
+    on (at 1 1 p) 1 (Paused (at 1 b q) 1) (moved-2 (offsetsA 0 1176 holdA) 700) (pause 1 0 1176 700 10 (before-2-3 1 700 (omega arith)) 1 p b q 1 (here 1 0 1176 700 1 p (omega arith) k) l h e le)
 
 stale-cursor : Slices (moved good (moveTo 2 700)) (at 0 1 2) 5 (answer.Refused 8 0 (at 0 1 2))
 stale-cursor =
-    on (at 0 1 2) 5 (answer.Refused 8 0 (at 0 1 2)) (moved-2 (offsetsA 0 1176 576) 700)
+    on (at 0 1 2) 5 (answer.Refused 8 0 (at 0 1 2)) (moved-2 (offsetsA 0 1176 holdA) 700)
     (inr (shape 1 0 1176 700, inl (refl, refl, λ e. absurd (omega (arith, e)))), refl)
-
--- A table with no record at all.
-no-records : WellFormedTable none
-no-records = record {
-  sized = record {
-    head = omega arith;
-    limits = record { links = omega arith; streams = omega arith; legs = omega arith; precision = omega arith };
-    exact = refl;
-  };
-  links = λ i h. absurd (omega arith);
-  new-links = λ i h. absurd (omega arith);
-  streams = λ i h. absurd (omega arith);
-  counts = legs-none none;
-  legs = λ i h. absurd (omega arith);
-}
 
 pub runs-at-numbers : RunsAtNumbers
 runs-at-numbers = record {
@@ -102,7 +86,7 @@ runs-at-numbers = record {
     good,
     on-good,
     inl refl,
-    granted 0 0 1176 576 1 2 (moveTo 0 600) 0 0 (omega arith) (at-1-2 576) (omega arith) (inr (refl, refl)) (omega (arith, ranks .0, ranks .1)) (omega arith),
+    granted 0 0 1176 holdA 1 2 (moveTo 0 600) 0 0 (omega arith) (at-1-2 holdA) (omega arith) (inr (refl, refl)) (omega (arith, ranks .0, ranks .1)) (omega arith),
   );
   ahead = move-ahead;
   stale = (move-ahead, inr (inl refl), stale-cursor);
@@ -110,7 +94,7 @@ runs-at-numbers = record {
     good,
     on-good,
     inl refl,
-    (inr (right 0 0 1176 576 1 2 (at-1-2 576), inl (refl, refl, λ h. omega (arith, h))), refl, refl),
+    (inr (right 0 0 1176 holdA 1 2 (at-1-2 holdA), inl (refl, refl, λ h. omega (arith, h))), refl, refl),
   );
   goes-on = (refl, tt);
   over-stale = (
@@ -126,18 +110,18 @@ runs-at-numbers = record {
   not-counted = refl;
   older = (on-good, inr (inl refl), pauses 0 0 2 0 7 (omega arith) (omega arith) (omega arith) (omega arith) (omega (arith, ranks .0, ranks .2)) (omega (arith, ranks .2)));
   not-newest = λ s. let e : _≡_ {A = ℕ} 0 1 = ap (λ (c : Cursor). c .leg) (s .0) in omega arith;
-  altered = (stays-at-end 0 0 1176 575, λ h. starred-cases .case-5 .1 (h .overlap 2 0 (omega arith) (omega arith) (λ e. omega (arith, e))));
-  begun-on-bad = begins 575 (omega arith);
+  altered = (stays-at-end _ _ _ _, λ h. starred-cases .case-5 .1 (h .overlap 2 0 (omega arith) (omega arith) (λ e. omega (arith, e))));
+  begun-on-bad = begins _ (omega arith);
   not-handed-out = λ r.
       ⊎-elim
       (λ e. let z : _≡_ {A = ℕ} 3 1 = ap (λ (c : Cursor). c .leg) e in absurd (omega arith))
       (λ h. ⊎-elim (λ e. let z : _≡_ {A = ℕ} 3 0 = ap (λ (c : Cursor). c .leg) e in absurd (omega arith)) (λ z. absurd z) h)
       (r .1);
   no-legs = (
-    (no-records, refl),
+    (no-records 0, refl),
     inl refl,
     (
-      record { shape = no-records; revision = refl; stands = inr (record { leg = refl; place = refl }) },
+      record { shape = no-records 0; revision = refl; stands = inr (record { leg = refl; place = refl }) },
       record {
         went = record { revision = refl; steps = omega arith; held = λ a p i from below. absurd (omega (arith, i .leg)) };
         end = record { leg = refl; place = refl };
@@ -163,17 +147,17 @@ run-11 = (
   violate 0 0 1176 0 10 (before-2-3 0 0 (omega arith)) 2 3 2 3 0 5 rule.Overlap (here 0 0 1176 0 2 3 (omega arith) (omega arith)) (omega arith) (omega arith) (meets-at-2-3 0) (place-rule (asked.Overlap 0)) (omega arith) (omega (arith, ranks .2)) (omega arith),
 )
 
-run-12 : Run case12 (moved planA (moveTo 2 576))
+run-12 : Run case12 (moved planA (moveTo 2 holdA))
 run-12 = (
   (
     planA,
     run-11,
     inl refl,
-    granted 0 0 1176 0 2 3 (moveTo 2 576) 2 0 (omega arith) (here 0 0 1176 0 2 3 (omega arith) (omega arith)) (omega arith) (inr (refl, refl)) (omega arith) (omega arith),
+    granted 0 0 1176 0 2 3 (moveTo 2 holdA) 2 0 (omega arith) (here 0 0 1176 0 2 3 (omega arith) (omega arith)) (omega arith) (inr (refl, refl)) (omega arith) (omega arith),
   ),
   inl refl,
-  on (at 1 2 0) 5 (NothingViolated (at 1 3 0) 5) (moved-2 (offsetsA 0 1176 0) 576)
-      (end 1 0 1176 576 12 (accepted 1) 2 0 5 (here 1 0 1176 576 2 0 (omega arith) (omega arith)) (omega (arith, ranks .2, ranks .3)) (omega (arith, ranks .3))),
+  on (at 1 2 0) 5 (NothingViolated (at 1 3 0) 5) (moved-2 (offsetsA 0 1176 0) holdA)
+      (end 1 0 1176 holdA 12 (accepted 1) 2 0 5 (here 1 0 1176 holdA 2 0 (omega arith) (omega arith)) (omega (arith, ranks .2, ranks .3)) (omega (arith, ranks .3))),
 )
 
 run-13 : Run case13 (moved planA (moveTo 0 600))
@@ -200,12 +184,12 @@ cases-as-runs = record {
     good,
     on-good,
     inl refl,
-    granted 0 0 1176 576 1 2 (moveTo 1 1200) 1 0 (omega arith) (at-1-2 576) (omega arith) (inr (refl, refl)) (omega arith) (omega arith),
+    granted 0 0 1176 holdA 1 2 (moveTo 1 1200) 1 0 (omega arith) (at-1-2 holdA) (omega arith) (inr (refl, refl)) (omega arith) (omega arith),
   );
   started-again = (
-    (run-12, subst (λ (t : List ℕ). Starts t (Granted (at 1 0 0))) (sym (moved-2 (offsetsA 0 1176 0) 576)) (shape 1 0 1176 576, refl)),
+    (run-12, subst (λ (t : List ℕ). Starts t (Granted (at 1 0 0))) (sym (moved-2 (offsetsA 0 1176 0) holdA)) (shape 1 0 1176 holdA, refl)),
     inl refl,
-    on (at 1 0 0) 12 (NothingViolated (at 1 3 0) 12) (moved-2 (offsetsA 0 1176 0) 576)
-        (end 1 0 1176 576 12 (accepted 1) 0 0 12 (here 1 0 1176 576 0 0 (omega arith) (omega arith)) (omega (arith, ranks .0, ranks .3)) (omega (arith, ranks .3))),
+    on (at 1 0 0) 12 (NothingViolated (at 1 3 0) 12) (moved-2 (offsetsA 0 1176 0) holdA)
+        (end 1 0 1176 holdA 12 (accepted 1) 0 0 12 (here 1 0 1176 holdA 0 0 (omega arith) (omega arith)) (omega (arith, ranks .0, ranks .3)) (omega (arith, ranks .3))),
   );
 }

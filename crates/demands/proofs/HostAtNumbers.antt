@@ -11,7 +11,7 @@ use Rattle.numbers.proofs.Computed.{fileBytes, file-is, small-words}
 use Rattle.numbers.proofs.Overlay.{overlaid-front}
 use Rattle.table.specs.Layout.{Sized}
 use Rattle.table.specs.Records.{moved, moveTo}
-use Rattle.table.specs.PlanA.{offsetsA, planA}
+use Rattle.table.specs.PlanA.{offsetsA, planA, holdA}
 use Rattle.table.proofs.MovedPlans.{moved-2}
 use Rattle.files.specs.Reading.{IsFile}
 use Rattle.files.specs.Cursors.{ReadsCursor}
@@ -40,17 +40,17 @@ use Rattle.demands.proofs.PlanTables.{planTable, ranks, shape, here, gr
 file-a : IsFile Sized planAFile planA
 file-a = record { complete = shape 0 0 1176 0 .sized; words = small-words planA (omega arith); bytes = sym plan-a-file }
 
--- Plan A with leg 2 moved to 576.
-move-2 : moved planA (moveTo 2 576) ≡ planTable 1 0 1176 576
-move-2 = moved-2 (offsetsA 0 1176 0) 576
+-- Plan A with leg 2 moved to where leg 0 ends.
+move-2 : moved planA (moveTo 2 holdA) ≡ planTable 1 0 1176 holdA
+move-2 = moved-2 (offsetsA 0 1176 0) holdA
 
-moved-bytes : movedFile ≡ fileOf (moved planA (moveTo 2 576))
-moved-bytes = sym (ap fileOf move-2 ∙ file-is (planTable 1 0 1176 576))
+moved-bytes : movedFile ≡ fileOf (moved planA (moveTo 2 holdA))
+moved-bytes = sym (ap fileOf move-2 ∙ file-is (planTable 1 0 1176 holdA))
 
-file-moved : IsFile Sized movedFile (moved planA (moveTo 2 576))
+file-moved : IsFile Sized movedFile (moved planA (moveTo 2 holdA))
 file-moved = record {
-  complete = subst Sized (sym move-2) (shape 1 0 1176 576 .sized);
-  words = subst AllWords (sym move-2) (small-words (planTable 1 0 1176 576) (omega arith));
+  complete = subst Sized (sym move-2) (shape 1 0 1176 holdA .sized);
+  words = subst AllWords (sym move-2) (small-words (planTable 1 0 1176 holdA) (omega arith));
   bytes = moved-bytes;
 }
 
@@ -130,15 +130,19 @@ violates =
     (meets-at-2-3 0) (place-rule (asked.Overlap 0)) (omega arith) (omega (arith, ranks .2)) (omega arith))
     (omega arith) (at-2-3 .written)
 
-laid : movedFile ++ zeros 4 ≡ overlaid (zeros 46) 0 movedFile
-laid = sym (overlaid-front (zeros 46) movedFile)
+-- What is lent for the new file: four bytes more than it has.
+abbrev lentFile : List ℕ
+lentFile = zeros (length movedFile + 4)
 
-moves : MoveMade planAFile (saved 0 2 3) (moveTo 2 576) (answered 0 42) (lent (movedFile ++ zeros 4) (left 1 2 0)) movedFile
+laid : movedFile ++ zeros 4 ≡ overlaid lentFile 0 movedFile
+laid = sym (overlaid-front lentFile movedFile)
+
+moves : MoveMade planAFile (saved 0 2 3) (moveTo 2 holdA) (answered 0 (length movedFile)) (lent (movedFile ++ zeros 4) (left 1 2 0)) movedFile
 moves =
-    let long : _≡_ {A = ℕ} 42 (length (fileOf (moved planA (moveTo 2 576)))) = ap length moved-bytes in
-    let given : length (zeros 46) ≡ 46 = refl in
+    let long : length movedFile ≡ length (fileOf (moved planA (moveTo 2 holdA))) = ap length moved-bytes in
+    let given : length lentFile ≡ length movedFile + 4 = refl in
     record {
-      m = lent (zeros 46) (zeros 15);
+      m = lent lentFile (zeros 15);
       words = record { leg = omega arith; offset = omega arith };
       moves = inr (
         planA,
@@ -150,15 +154,15 @@ moves =
             room,
             record {
               given = Granted (at 1 2 0);
-              table = moved planA (moveTo 2 576);
-              moves = granted 0 0 1176 0 2 3 (moveTo 2 576) 2 0 (omega arith) (here 0 0 1176 0 2 3 (omega arith) (omega arith)) (omega arith) (inr (refl, refl)) (omega arith) (omega arith);
+              table = moved planA (moveTo 2 holdA);
+              moves = granted 0 0 1176 0 2 3 (moveTo 2 holdA) 2 0 (omega arith) (here 0 0 1176 0 2 3 (omega arith) (omega arith)) (omega arith) (inr (refl, refl)) (omega arith) (omega arith);
               after = inr (
                 omega (arith, long, given),
                 record {
                   answer = ap (answered 0) long;
                   after =
-                      ap (λ (f : List ℕ). lent f (left 1 2 0)) (laid ∙ ap (overlaid (zeros 46) 0) moved-bytes)
-                      ∙ ap (lent (overlaid (zeros 46) 0 (fileOf (moved planA (moveTo 2 576))))) (after-move .written);
+                      ap (λ (f : List ℕ). lent f (left 1 2 0)) (laid ∙ ap (overlaid lentFile 0) moved-bytes)
+                      ∙ ap (lent (overlaid lentFile 0 (fileOf (moved planA (moveTo 2 holdA))))) (after-move .written);
                 },
               );
             },
@@ -171,9 +175,9 @@ moves =
 
 accepts : SliceMade movedFile (saved 1 2 0) 5 (answered 0 5) (left 1 3 0)
 accepts =
-    slice-made movedFile (moved planA (moveTo 2 576)) (saved 1 2 0) (at 1 2 0) 5 (NothingViolated (at 1 3 0) 5) (left 1 3 0) file-moved (after-move .reads)
+    slice-made movedFile (moved planA (moveTo 2 holdA)) (saved 1 2 0) (at 1 2 0) 5 (NothingViolated (at 1 3 0) 5) (left 1 3 0) file-moved (after-move .reads)
     (on (at 1 2 0) 5 (NothingViolated (at 1 3 0) 5) move-2
-    (end 1 0 1176 576 12 (accepted 1) 2 0 5 (here 1 0 1176 576 2 0 (omega arith) (omega arith)) (omega (arith, ranks .2, ranks .3)) (omega (arith, ranks .3))))
+    (end 1 0 1176 holdA 12 (accepted 1) 2 0 5 (here 1 0 1176 holdA 2 0 (omega arith) (omega arith)) (omega (arith, ranks .2, ranks .3)) (omega (arith, ranks .3))))
     (omega arith) (at-new-end .written)
 
 violates-in-c : HostRun violatedInC planAFile

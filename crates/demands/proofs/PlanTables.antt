@@ -8,7 +8,7 @@ use native.Mathlib.Omega.{arith}
 use Rattle.numbers.specs.Number.{maxWord}
 use Rattle.table.specs.Records.{moved}
 use Rattle.table.specs.declared.Move.{Move}
-use Rattle.table.specs.PlanA.{planWith, revisedA}
+use Rattle.table.specs.PlanA.{planWith, revisedA, holdA}
 use Rattle.shape.specs.Shape.{WellFormedTable}
 use Rattle.shape.proofs.AtNumbers.{plan-a-in-range, plans-are-well-formed}
 use Rattle.files.specs.declared.Cursor.{Cursor}
@@ -105,11 +105,11 @@ module _ (revision o0 o1 o2 : ℕ) where
 pub on : {t u : List ℕ} (c : Cursor) (b : ℕ) (r : SliceAnswer) → t ≡ u → Slices u c b r → Slices t c b r
 on c b r e s = subst (λ (v : List ℕ). Slices v c b r) (sym e) s
 
--- With leg 2 at 576 all twelve places hold, wherever it is the ten before (2,3), and with leg 0 at 600 the four before (1,1).
-pub accepted : (revision : ℕ) → HoldFrom (planTable revision 0 1176 576) 0 12
+-- Where leg 2 begins when leg 0 ends all twelve places hold, wherever it is below 100,000 the ten before (2,3), and with leg 0 at 600 the four before (1,1).
+pub accepted : (revision : ℕ) → HoldFrom (planTable revision 0 1176 holdA) 0 12
 accepted revision a p i from below = all-twelve revision a p (i .leg) (i .place)
 
-pub before-2-3 : (revision o2 : ℕ) → o2 + 576 ≤ 150000 → HoldFrom (planTable revision 0 1176 o2) 0 10
+pub before-2-3 : (revision o2 : ℕ) → o2 ≤ 100000 → HoldFrom (planTable revision 0 1176 o2) 0 10
 before-2-3 revision o2 w a p i from below = first-ten revision o2 w a p (i .leg) (i .place) (λ e. omega (arith, ap placesBelow e, below, ranks .2))
 
 pub before-1-1 : (revision : ℕ) → HoldFrom (planTable revision 600 1176 0) 0 4

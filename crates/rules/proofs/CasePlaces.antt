@@ -2,10 +2,10 @@
 use Prim.Native.Nat.{ℕ, zero, suc, _+_, _≤_, _<_}
 use mathlib.Core.Path.{_≡_, refl}
 use native.Mathlib.Omega.{arith}
-use Rattle.table.specs.PlanA.{PlanNumbers, planWith, revisedA}
+use Rattle.table.specs.PlanA.{PlanNumbers, planWith, revisedA, holdA}
 use Rattle.shape.proofs.AtNumbers.{plan-a-in-range}
 use Rattle.overlap.proofs.Law.{shared-instant}
-use Rattle.overlap.proofs.AtNumbers.{overlap-at-numbers}
+use Rattle.overlap.proofs.AtNumbers.{clear-at}
 use Rattle.rules.specs.Times.{maxTime}
 use Rattle.rules.specs.Places.{placesOf, AskedOf, AskedHolds, PlaceHolds}
 use Rattle.rules.specs.declared.Asked.{Asked}
@@ -49,8 +49,8 @@ module _ (n : PlanNumbers) (b : Bounded n) where
 pub bounded-a : (revision o0 o1 o2 : ℕ) → o0 + o1 + o2 ≤ maxTime → Bounded (revisedA revision o0 o1 o2)
 bounded-a revision o0 o1 o2 h = record { in-range = plan-a-in-range revision o0 o1 o2; offsets = h }
 
--- Wherever leg 2 is in its period, the first ten places hold, those before (2,3).
-module _ (revision o2 : ℕ) (w : o2 + 576 ≤ 150000) where
+-- Wherever leg 2 is below 100,000, the first ten places hold, those before (2,3).
+module _ (revision o2 : ℕ) (w : o2 ≤ 100000) where
   bounded : Bounded (revisedA revision 0 1176 o2)
   bounded = bounded-a revision 0 1176 o2 (omega arith)
 
@@ -63,21 +63,21 @@ module _ (revision o2 : ℕ) (w : o2 + 576 ≤ 150000) where
   first-ten (suc (suc zero)) p l h f = places-hold (planWith (revisedA revision 0 1176 o2)) 2 0 alone-2 p (f refl)
   first-ten (suc (suc (suc a))) p l h f = absurd (omega arith)
 
--- With leg 2 at 576 all twelve hold.
+-- Where leg 2 begins when leg 0 ends all twelve hold.
 module _ (revision : ℕ) where
-  beside-2 : (q : Asked) → AskedOf 2 q → AskedHolds (planWith (revisedA revision 0 1176 576)) 2 q
+  beside-2 : (q : Asked) → AskedOf 2 q → AskedHolds (planWith (revisedA revision 0 1176 holdA)) 2 q
   unfolding plan
-  beside-2 asked.Window o = alone-2 revision 576 (omega arith) asked.Window tt
-  beside-2 asked.Hop o = alone-2 revision 576 (omega arith) asked.Hop tt
-  beside-2 asked.Deadline o = alone-2 revision 576 (omega arith) asked.Deadline tt
-  beside-2 (asked.Overlap zero) o = overlap-20 (revisedA revision 0 1176 576) (bounded revision 576 (omega arith)) (overlap-at-numbers .at-576)
-  beside-2 (asked.Overlap (suc zero)) o = overlap-21 (revisedA revision 0 1176 576) (bounded revision 576 (omega arith))
+  beside-2 asked.Window o = alone-2 revision holdA (omega arith) asked.Window tt
+  beside-2 asked.Hop o = alone-2 revision holdA (omega arith) asked.Hop tt
+  beside-2 asked.Deadline o = alone-2 revision holdA (omega arith) asked.Deadline tt
+  beside-2 (asked.Overlap zero) o = overlap-20 (revisedA revision 0 1176 holdA) (bounded revision holdA (omega arith)) (clear-at _ _ _ (omega arith, omega arith) (omega arith) (omega arith, omega arith))
+  beside-2 (asked.Overlap (suc zero)) o = overlap-21 (revisedA revision 0 1176 holdA) (bounded revision holdA (omega arith))
   beside-2 (asked.Overlap (suc (suc c))) o = absurd (omega arith)
 
-  pub all-twelve : (a p : ℕ) → a < 3 → p < placesOf a → PlaceHolds (planWith (revisedA revision 0 1176 576)) a p
-  all-twelve zero p l h = first-ten revision 576 (omega arith) 0 p l h (λ e. absurd (omega (arith, e)))
-  all-twelve (suc zero) p l h = first-ten revision 576 (omega arith) 1 p l h (λ e. absurd (omega (arith, e)))
-  all-twelve (suc (suc zero)) p l h = places-hold (planWith (revisedA revision 0 1176 576)) 2 2 beside-2 p h
+  pub all-twelve : (a p : ℕ) → a < 3 → p < placesOf a → PlaceHolds (planWith (revisedA revision 0 1176 holdA)) a p
+  all-twelve zero p l h = first-ten revision holdA (omega arith) 0 p l h (λ e. absurd (omega (arith, e)))
+  all-twelve (suc zero) p l h = first-ten revision holdA (omega arith) 1 p l h (λ e. absurd (omega (arith, e)))
+  all-twelve (suc (suc zero)) p l h = places-hold (planWith (revisedA revision 0 1176 holdA)) 2 2 beside-2 p h
   all-twelve (suc (suc (suc a))) p l h = absurd (omega arith)
 
   -- At 0 it meets leg 0 at once.

@@ -4,7 +4,7 @@ use mathlib.Core.Path.{_≡_, refl, subst}
 use mathlib.Core.List.{List}
 use mathlib.Core.Logic.{inl, inr}
 use Rattle.basics.specs.Lowest.{Finds}
-use Rattle.basics.specs.Refusals.{Told}
+use Rattle.basics.specs.Refusals.{unlessAt, lowest, _then_, Told}
 use Rattle.basics.specs.declared.Checked.{Checked}
 use Rattle.basics.specs.declared.Checked.the-variants.{Clear, Refused}
 use Rattle.basics.specs.declared.Found.{Found}
@@ -43,11 +43,18 @@ module _ (t : List ℕ) {size : Checked} (s : Told (sizeRefusals t) size) where
           pub links-passed : double ≡ Nowhere → LinksPassed t
           links-passed e = record { sized = sized; links = links; new-links = all-of (subst (Finds (LinkNew t) 0 (linkCount t)) e d) }
 
--- 6 and 7.
+-- 6 and 7: what is due behind the links, and that it is a fault of the table.
+abbrev pub AfterLinks : List ℕ → ℕ → ℕ → Type 0
+AfterLinks t k p =
+    (lowest badStream (StreamRight t) (streamCount t) then unlessAt badStream (streamCount t) (CountsAddUp t) then lowest badLeg (LegRight t) (legCount t)) .Fault k p
+
+pub past-links : (t : List ℕ) (k p : ℕ) → LinksPassed t → AfterLinks t k p → ShapeFault t k p
+past-links t k p b f = inr (b .sized, inr (b .links, inr (b .new-links, f)))
+
 module _ (t : List ℕ) (b : LinksPassed t) where
   streams-wrong : (p : ℕ) → FindsStreams t (At p) → ShapeFault t badStream p
-  streams-wrong p (inl w) = inr (b .sized, inr (b .links, inr (b .new-links, inl (refl, w))))
-  streams-wrong p (inr (a, e, n)) = inr (b .sized, inr (b .links, inr (b .new-links, inr (a, inl (refl, e, n)))))
+  streams-wrong p (inl w) = past-links t badStream p b (inl (refl, w))
+  streams-wrong p (inr (a, e, n)) = past-links t badStream p b (inr (a, inl (refl, e, n)))
 
   module _ {stream : Found} (s : FindsStreams t stream) where
     pub stream-refused : {p : ℕ} → stream ≡ At p → ShapeFault t badStream p
@@ -62,8 +69,7 @@ module _ (t : List ℕ) (b : LinksPassed t) where
 
       module _ {leg : Found} (l : Finds (LegRight t) 0 (legCount t) leg) where
         pub leg-refused : {p : ℕ} → leg ≡ At p → ShapeFault t badLeg p
-        leg-refused e =
-            inr (b .sized, inr (b .links, inr (b .new-links, inr (streams .0, inr (streams .1, (refl, subst (Finds (LegRight t) 0 (legCount t)) e l))))))
+        leg-refused e = past-links t badLeg _ b (inr (streams .0, inr (streams .1, (refl, subst (Finds (LegRight t) 0 (legCount t)) e l))))
 
         pub well-formed : leg ≡ Nowhere → WellFormedTable t
         well-formed e = record {

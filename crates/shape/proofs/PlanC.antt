@@ -1,5 +1,5 @@
 -- Plan C is well-formed: its records compute from its words. Assumes nothing.
-use Prim.Native.Nat.{ℕ, zero, suc, _+_, _*_, _≤_, _<_}
+use Prim.Native.Nat.{ℕ, zero, suc, _+_, _≤_, _<_}
 use mathlib.Core.Path.{_≡_, refl, _∙_, sym, ap, subst}
 use mathlib.Core.List.{List}
 use mathlib.Core.Logic.{inl, inr}
@@ -11,11 +11,12 @@ use Rattle.table.specs.declared.Link.{Link}
 use Rattle.table.specs.declared.Stream.{Stream}
 use Rattle.table.specs.declared.Leg.{Leg}
 use Rattle.table.proofs.PartLaws.{link-of-part, stream-of-part, leg-of-part}
-use Rattle.shape.specs.Links.{IsRate, LinkInRange, LinkNew}
+use Rattle.shape.specs.Links.{IsRate, LinkInRange}
 use Rattle.shape.specs.Streams.{legsBefore, minOctets, maxOctets, maxPeriod, maxRoute, StreamInRange, StreamRight}
 use Rattle.shape.specs.Legs.{linkOf, LegRight}
 use Rattle.shape.specs.Routes.{GoesOn}
 use Rattle.shape.specs.Shape.{LinkRight, WellFormedTable}
+use Rattle.shape.proofs.LinksComputed.{all-new}
 use Rattle.shape.proofs.StreamLaws.{legs-none, legs-more}
 use Rattle.shape.proofs.Reading.{legOn, streamOn, linkOn, stream-on, link-on}
 
@@ -83,25 +84,6 @@ module _ (n : PlanCNumbers) where
   link-right (suc (suc (suc (suc zero)))) h = link-in-range 4 (omega arith) (omega arith) (λ e. absurd (omega (arith, e))) (inl refl) (omega arith)
   link-right (suc (suc (suc (suc (suc i))))) h = absurd (omega arith)
 
-  -- Twice the from node less the to node is 0, 1, 2, 3 and 8: it rises with the number of the link, so that no two links have the same ends.
-  rising : (i : ℕ) → i < 5 → (linkC i .to + i ≤ 2 * linkC i .from) × (i < 4 → 2 * linkC i .from ≤ linkC i .to + i)
-  rising zero h = (omega arith, λ l. omega arith)
-  rising (suc zero) h = (omega arith, λ l. omega arith)
-  rising (suc (suc zero)) h = (omega arith, λ l. omega arith)
-  rising (suc (suc (suc zero))) h = (omega arith, λ l. omega arith)
-  rising (suc (suc (suc (suc zero)))) h = (omega arith, λ l. absurd (omega arith))
-  rising (suc (suc (suc (suc (suc i))))) h = absurd (omega arith)
-
-  link-new : (i : ℕ) → i < 5 → LinkNew (planC n) i
-  link-new i h j l e =
-      let si = link-of-part (planC n) i in
-      let sj = link-of-part (planC n) j in
-      let low = rising i h .0 in
-      let high = rising j (omega arith) .1 (omega arith) in
-      absurd
-      (omega
-      (arith, low, high, e .from-node, e .to-node, ap (λ (k : Link). k .from) si, ap (λ (k : Link). k .to) si, ap (λ (k : Link). k .from) sj, ap (λ (k : Link). k .to) sj))
-
   -- The legs before the next stream are the legs up to this one's end.
   before-next : (i : ℕ) → legsBefore (planC n) i ≡ streamC i .first → legsBefore (planC n) (i + 1) ≡ streamC i .first + streamC i .count
   before-next i e = omega (arith, e, legs-more (planC n) i, ap (λ (s : Stream). s .count) (stream-of-part (planC n) i))
@@ -163,7 +145,7 @@ module _ (n : PlanCNumbers) where
     plan-c-is-well-formed = record {
       sized = sized;
       links = link-right;
-      new-links = link-new;
+      new-links = all-new (planC n) _ refl;
       streams = stream-right;
       counts = before-next 3 before-3;
       legs = leg-right;

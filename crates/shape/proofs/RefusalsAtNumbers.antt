@@ -1,5 +1,5 @@
 -- The refusals 1 to 7 at numbers: the records of a literal table are computed, those in front are right, and one is not. Assumes nothing.
-use Prim.Native.Nat.{ℕ, zero, suc, _+_, _*_, _≤_, _<_}
+use Prim.Native.Nat.{ℕ, _+_, _*_, _≤_, _<_}
 use mathlib.Core.Path.{_≡_, refl, _∙_, sym, ap, subst}
 use mathlib.Core.List.{List, _∷_}
 use mathlib.Core.Logic.{inl, inr}
@@ -8,7 +8,7 @@ use native.Mathlib.Omega.{arith}
 use borrow.Author.Count.{below-none, below-more}
 use Rattle.basics.specs.Lowest.{All}
 use Rattle.basics.proofs.Lowest.{lowest-of-all}
-use Rattle.table.specs.Layout.{linkWords, streamWords, legWords, maxLinks, maxStreams, maxLegs, maxPrecision, legCount, InLimits, Sized}
+use Rattle.table.specs.Layout.{linkWords, streamWords, legWords, maxLinks, maxStreams, maxLegs, maxPrecision, linkCount, legCount, InLimits, Sized}
 use Rattle.table.specs.Records.{linkPart, streamPart, linkIn, streamIn, streamAt}
 use Rattle.table.specs.declared.Link.{Link}
 use Rattle.table.specs.declared.Stream.{Stream}
@@ -17,7 +17,10 @@ use Rattle.shape.specs.Links.{maxNode, maxPropagation, IsRate, LinkInRan
 use Rattle.shape.specs.Streams.{maxRoute, legsBefore, StreamInRange, StreamRight}
 use Rattle.shape.specs.Legs.{LegRight}
 use Rattle.shape.specs.Shape.{LinkRight, ShapeFault}
+use Rattle.shape.specs.Steps.{LinksPassed}
 use Rattle.shape.specs.RefusalsAtNumbers.{TableRefused, headerOf, wrongLink, linkAgain, wrongStream, fewerLegs, wrongLeg, ShapeRefusalsAtNumbers}
+use Rattle.shape.proofs.LinksComputed.{all-new}
+use Rattle.shape.proofs.Judged.{past-links}
 use Rattle.shape.proofs.OneShape.{well-no-fault}
 use Rattle.shape.proofs.StreamLaws.{legs-none, legs-more}
 use Rattle.shape.proofs.Reading.{link-of, stream-of, first-leg-right}
@@ -63,19 +66,9 @@ module _ (t : List ℕ) where
         below-more (LinkRight t) 1 first-link
         (link-right 1 (subst LinkInRange (sym f) (upwards from to 8 500 h k (inl refl) (omega arith))))
 
-  first-new : All (LinkNew t) 1
-  first-new = below-more (LinkNew t) 0 (below-none (LinkNew t)) (λ j l e. absurd (omega arith))
-
-  -- Link 1 begins at a higher node than link 0.
-  second-new : linkIn (linkPart t) 0 .from < linkIn (linkPart t) 1 .from → All (LinkNew t) 2
-  second-new h = below-more (LinkNew t) 1 first-new new
-    where
-      new : LinkNew t 1
-      new zero l e =
-          let f = ap (λ (z : Link). z .from) (link-of-part t 0) in
-          let g = ap (λ (z : Link). z .from) (link-of-part t 1) in
-          omega (arith, e .from-node)
-      new (suc j) l e = absurd (omega arith)
+  -- A table of this link alone.
+  one-link : Sized t → linkCount t ≡ 1 → linkIn (linkPart t) 0 ≡ record { from = 1; to = 2; rate = 8; propagation = 500 } → LinksPassed t
+  one-link z n e = record { sized = z; links = λ i h. first-link e i (omega (arith, n)); new-links = λ i h. all-new t 1 refl i (omega (arith, n)) }
 
   module _ (count : ℕ) (e : streamIn (streamPart t) 0 ≡ record { period = 1000; deadline = 900; octets = 64; first = 0; count = count }) where
     stream-0 : streamAt t 0 ≡ record { period = 1000; deadline = 900; octets = 64; first = 0; count = count }
@@ -113,7 +106,7 @@ link =
         r .different (sym (ap (λ (z : Link). z .from) e) ∙ ap (λ (z : Link). z .to) e)
 
 link-again : ShapeFault linkAgain 5 2
-link-again = inr (sized 3 1 0 _ (omega arith) refl, inr (links, inl (refl, lowest-of-all (omega arith) bad (second-new linkAgain (omega arith)))))
+link-again = inr (sized 3 1 0 _ (omega arith) refl, inr (links, inl (refl, lowest-of-all (omega arith) bad (all-new linkAgain 2 refl))))
   where
     links : All (LinkRight linkAgain) 3
     links =
@@ -137,35 +130,19 @@ link-again = inr (sized 3 1 0 _ (omega arith) refl, inr (links, inl (refl, lowes
 
 stream : ShapeFault wrongStream 6 1
 stream =
-    inr (
-      sized 1 2 2 _ (omega arith) refl,
-      inr (
-        first-link wrongStream refl,
-        inr (
-          first-new wrongStream,
-          inl (refl, lowest-of-all (omega arith) bad (first-stream wrongStream 1 refl (omega arith, omega arith, omega arith))),
-        ),
-      ),
-    )
+    past-links wrongStream 6 1 (one-link wrongStream (sized 1 2 2 _ (omega arith) refl) refl refl)
+    (inl (refl, lowest-of-all (omega arith) bad (first-stream wrongStream 1 refl (omega arith, omega arith, omega arith))))
   where
     bad : StreamRight wrongStream 1 → ⊥
     bad r = omega (arith, r .first, ap (λ (s : Stream). s .first) (stream-of-part wrongStream 1), legs-before-1 wrongStream 1 refl)
 
 fewer-legs : ShapeFault fewerLegs 6 1
 fewer-legs =
-    inr (
-      sized 1 1 2 _ (omega arith) refl,
-      inr (
-        first-link fewerLegs refl,
-        inr (
-          first-new fewerLegs,
-          inr (
-            first-stream fewerLegs 1 refl (omega arith, omega arith, omega arith),
-            inl (refl, refl, λ e. omega (arith, e, legs-before-1 fewerLegs 1 refl)),
-          ),
-        ),
-      ),
-    )
+    past-links fewerLegs 6 1 (one-link fewerLegs (sized 1 1 2 _ (omega arith) refl) refl refl)
+    (inr (
+      first-stream fewerLegs 1 refl (omega arith, omega arith, omega arith),
+      inl (refl, refl, λ e. omega (arith, e, legs-before-1 fewerLegs 1 refl)),
+    ))
 
 leg : ShapeFault wrongLeg 7 1
 leg =
@@ -185,29 +162,28 @@ leg =
     0
     (below-none (LegRight wrongLeg))
     (first-leg-right wrongLeg 0 0 0 _ _ _ (omega arith) (omega arith) leg-0 refl refl its-stream refl (omega arith) link-0 (λ e. omega (arith, e))) in
-    inr (
-      sized 2 1 2 _ (omega arith) refl,
-      inr (
-        second-link wrongLeg refl 3 4 refl (omega arith) (omega arith),
-        inr (
-          second-new wrongLeg (omega arith),
-          inr (
-            first-stream wrongLeg 2 refl (omega arith, omega arith, omega arith),
-            inr (legs-before-1 wrongLeg 2 refl, (refl, lowest-of-all (omega arith) bad before)),
-          ),
-        ),
-      ),
-    )
+    past-links wrongLeg 7 1 links
+    (inr (
+      first-stream wrongLeg 2 refl (omega arith, omega arith, omega arith),
+      inr (legs-before-1 wrongLeg 2 refl, (refl, lowest-of-all (omega arith) bad before)),
+    ))
+  where
+    links : LinksPassed wrongLeg
+    links = record {
+      sized = sized 2 1 2 _ (omega arith) refl;
+      links = second-link wrongLeg refl 3 4 refl (omega arith) (omega arith);
+      new-links = all-new wrongLeg 2 refl;
+    }
 
 pub shape-refusals-at-numbers : ShapeRefusalsAtNumbers
 shape-refusals-at-numbers = record {
   four-words = refused _ 1 0 (inl (inl (refl, refl, λ h. omega arith)));
-  links-above = above 257 512 2048 1000000 (λ h. omega (arith, h .links));
-  streams-above = above 256 513 2048 1000000 (λ h. omega (arith, h .streams));
-  legs-above = above 256 512 2049 1000000 (λ h. omega (arith, h .legs));
-  precision-above = above 256 512 2048 1000001 (λ h. omega (arith, h .precision));
-  at-the-limits = length-differs 256 512 2048 1000000 _ (omega arith, omega arith, omega arith, omega arith) (λ e. omega (arith, e));
-  word-more = length-differs 1 0 0 0 _ (omega arith, omega arith, omega arith, omega arith) (λ e. omega (arith, e));
+  links-above = above _ _ _ _ (λ h. omega (arith, h .links));
+  streams-above = above _ _ _ _ (λ h. omega (arith, h .streams));
+  legs-above = above _ _ _ _ (λ h. omega (arith, h .legs));
+  precision-above = above _ _ _ _ (λ h. omega (arith, h .precision));
+  at-the-limits = length-differs _ _ _ _ _ (omega arith, omega arith, omega arith, omega arith) (λ e. omega (arith, e));
+  word-more = length-differs _ _ _ _ _ (omega arith, omega arith, omega arith, omega arith) (λ e. omega (arith, e));
   link = refused _ 4 2 link;
   link-again = refused _ 5 2 link-again;
   stream = refused _ 6 1 stream;
