@@ -130,15 +130,19 @@ violates =
     (meets-at-2-3 0) (place-rule (asked.Overlap 0)) (omega arith) (omega (arith, ranks .2)) (omega arith))
     (omega arith) (at-2-3 .written)
 
-laid : movedFile ++ zeros 4 ≡ overlaid (zeros 46) 0 movedFile
-laid = sym (overlaid-front (zeros 46) movedFile)
+-- The bytes that are lent for the plan: four more than its file has.
+abbrev before : List ℕ
+before = zeros (length movedFile + 4)
 
-moves : MoveMade planAFile (saved 0 2 3) (moveTo 2 576) (answered 0 42) (lent (movedFile ++ zeros 4) (left 1 2 0)) movedFile
+laid : movedFile ++ zeros 4 ≡ overlaid before 0 movedFile
+laid = sym (overlaid-front before movedFile)
+
+moves : MoveMade planAFile (saved 0 2 3) (moveTo 2 576) (answered 0 (length movedFile)) (lent (movedFile ++ zeros 4) (left 1 2 0)) movedFile
 moves =
-    let long : _≡_ {A = ℕ} 42 (length (fileOf (moved planA (moveTo 2 576)))) = ap length moved-bytes in
-    let given : length (zeros 46) ≡ 46 = refl in
+    let long : length movedFile ≡ length (fileOf (moved planA (moveTo 2 576))) = ap length moved-bytes in
+    let given : length before ≡ length movedFile + 4 = refl in
     record {
-      m = lent (zeros 46) (zeros 15);
+      m = lent before (zeros 15);
       words = record { leg = omega arith; offset = omega arith };
       moves = inr (
         planA,
@@ -157,8 +161,8 @@ moves =
                 record {
                   answer = ap (answered 0) long;
                   after =
-                      ap (λ (f : List ℕ). lent f (left 1 2 0)) (laid ∙ ap (overlaid (zeros 46) 0) moved-bytes)
-                      ∙ ap (lent (overlaid (zeros 46) 0 (fileOf (moved planA (moveTo 2 576))))) (after-move .written);
+                      ap (λ (f : List ℕ). lent f (left 1 2 0)) (laid ∙ ap (overlaid before 0) moved-bytes)
+                      ∙ ap (lent (overlaid before 0 (fileOf (moved planA (moveTo 2 576))))) (after-move .written);
                 },
               );
             },
