@@ -14,7 +14,7 @@ use Rattle.shape.proofs.AtNumbers.{plan-a-in-range, plans-are-well-formed}
 use Rattle.files.specs.declared.Cursor.{Cursor}
 use Rattle.rules.specs.Places.{placesOf, ruleAt, PlaceHolds}
 use Rattle.rules.specs.declared.Rule.{Rule}
-use Rattle.rules.proofs.CasePlaces.{places-0, place-1-0, bounded-a, first-ten, all-twelve}
+use Rattle.rules.proofs.CasePlaces.{first-ten, all-twelve, places-0-at-600, place-1-0-at-600}
 use Rattle.places.specs.Order.{placesBelow, rank, PlaceOrEnd, HoldFrom}
 use Rattle.places.proofs.Ranks.{below-none, below-more, below-mono, held-none}
 use Rattle.checker.specs.Cursors.{CursorRight}
@@ -113,7 +113,7 @@ pub before-2-3 : (revision o2 : ℕ) → o2 ≤ 100000 → HoldFrom (planTable r
 before-2-3 revision o2 w a p i from below = first-ten revision o2 w a p (i .leg) (i .place) (λ e. omega (arith, ap placesBelow e, below, ranks .2))
 
 pub before-1-1 : (revision : ℕ) → HoldFrom (planTable revision 600 1176 0) 0 4
-before-1-1 revision zero p i from below = places-0 (revisedA revision 600 1176 0) (bounded-a revision 600 1176 0 (omega arith)) (omega arith) p (i .place)
-before-1-1 revision (suc zero) zero i from below = place-1-0 (revisedA revision 600 1176 0) (bounded-a revision 600 1176 0 (omega arith)) (omega arith)
+before-1-1 revision zero p i from below = places-0-at-600 revision p (i .place)
+before-1-1 revision (suc zero) zero i from below = place-1-0-at-600 revision
 before-1-1 revision (suc zero) (suc p) i from below = absurd (omega (arith, below, ranks .1))
 before-1-1 revision (suc (suc a)) p i from below = absurd (omega (arith, below, below-mono 2 (suc (suc a)) (omega arith), ranks .2))

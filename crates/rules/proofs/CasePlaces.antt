@@ -6,7 +6,7 @@ use Rattle.table.specs.PlanA.{PlanNumbers, planWith, revisedA, holdA}
 use Rattle.shape.proofs.AtNumbers.{plan-a-in-range}
 use Rattle.overlap.proofs.Law.{shared-instant}
 use Rattle.overlap.proofs.AtNumbers.{clear-at}
-use Rattle.rules.specs.Times.{maxTime}
+use Rattle.rules.specs.Times.{wireTime, holdTime, lasting, maxTime}
 use Rattle.rules.specs.Places.{placesOf, AskedOf, AskedHolds, PlaceHolds}
 use Rattle.rules.specs.declared.Asked.{Asked}
 use Rattle.rules.specs.declared.Asked.the-variants as asked
@@ -22,10 +22,10 @@ module _ (n : PlanNumbers) (b : Bounded n) where
   asked-0 w asked.Deadline o = deadline-0 n b
   asked-0 w (asked.Overlap c) o = absurd (omega arith)
 
-  pub places-0 : n .offset-0 + h0 n ≤ n .period-0 → (p : ℕ) → p < placesOf 0 → PlaceHolds (planWith n) 0 p
+  places-0 : n .offset-0 + h0 n ≤ n .period-0 → (p : ℕ) → p < placesOf 0 → PlaceHolds (planWith n) 0 p
   places-0 w = places-hold (planWith n) 0 0 (asked-0 w)
 
-  pub place-1-0 : n .offset-1 + h1 n ≤ n .period-0 → PlaceHolds (planWith n) 1 0
+  place-1-0 : n .offset-1 + h1 n ≤ n .period-0 → PlaceHolds (planWith n) 1 0
   unfolding plan
   place-1-0 w = place-holds (planWith n) 1 asked.Window (window-1 n b w)
 
@@ -55,9 +55,11 @@ module _ (revision o2 : ℕ) (w : o2 ≤ 100000) where
   bounded = bounded-a revision 0 1176 o2 (omega arith)
 
   alone-2 : (q : Asked) → AskedOf 0 q → AskedHolds (planWith (revisedA revision 0 1176 o2)) 2 q
+  unfolding wireTime holdTime lasting
   alone-2 = asked-2 (revisedA revision 0 1176 o2) bounded (omega arith) (omega arith)
 
   pub first-ten : (a p : ℕ) → a < 3 → p < placesOf a → (a ≡ 2 → p < 3) → PlaceHolds (planWith (revisedA revision 0 1176 o2)) a p
+  unfolding wireTime holdTime lasting
   first-ten zero p l h f = places-0 (revisedA revision 0 1176 o2) bounded (omega arith) p h
   first-ten (suc zero) p l h f = places-hold (planWith (revisedA revision 0 1176 o2)) 1 1 (asked-1 (revisedA revision 0 1176 o2) bounded (omega arith) (omega arith) (omega arith)) p h
   first-ten (suc (suc zero)) p l h f = places-hold (planWith (revisedA revision 0 1176 o2)) 2 0 alone-2 p (f refl)
@@ -66,7 +68,7 @@ module _ (revision o2 : ℕ) (w : o2 ≤ 100000) where
 -- Where leg 2 begins when leg 0 ends all twelve hold.
 module _ (revision : ℕ) where
   beside-2 : (q : Asked) → AskedOf 2 q → AskedHolds (planWith (revisedA revision 0 1176 holdA)) 2 q
-  unfolding plan
+  unfolding plan holdTime lasting
   beside-2 asked.Window o = alone-2 revision holdA (omega arith) asked.Window tt
   beside-2 asked.Hop o = alone-2 revision holdA (omega arith) asked.Hop tt
   beside-2 asked.Deadline o = alone-2 revision holdA (omega arith) asked.Deadline tt
@@ -82,14 +84,22 @@ module _ (revision : ℕ) where
 
   -- At 0 it meets leg 0 at once.
   pub meets-at-2-3 : PlaceHolds (planWith (revisedA revision 0 1176 0)) 2 3 → ⊥
-  unfolding plan
+  unfolding plan holdTime lasting
   meets-at-2-3 h =
       let n = revisedA revision 0 1176 0 in
       overlap-20-broken n (bounded revision 0 (omega arith))
       (shared-instant (slot-0 n) (slot-2 n) 0 0 0 (record { begun = omega arith; not-ended = omega arith }) (record { begun = omega arith; not-ended = omega arith }))
       (asked-holds (planWith n) 2 (asked.Overlap 0) h)
 
-  -- With leg 0 at 600 it is not ready in time for leg 1.
+  -- With leg 0 at 600 its places hold, and the window of leg 1, but it is not ready in time for leg 1.
+  pub places-0-at-600 : (p : ℕ) → p < placesOf 0 → PlaceHolds (planWith (revisedA revision 600 1176 0)) 0 p
+  unfolding holdTime lasting
+  places-0-at-600 = places-0 (revisedA revision 600 1176 0) (bounded-a revision 600 1176 0 (omega arith)) (omega arith)
+
+  pub place-1-0-at-600 : PlaceHolds (planWith (revisedA revision 600 1176 0)) 1 0
+  unfolding holdTime lasting
+  place-1-0-at-600 = place-1-0 (revisedA revision 600 1176 0) (bounded-a revision 600 1176 0 (omega arith)) (omega arith)
+
   pub late-at-1-1 : PlaceHolds (planWith (revisedA revision 600 1176 0)) 1 1 → ⊥
   unfolding plan
   late-at-1-1 h =

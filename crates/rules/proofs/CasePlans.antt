@@ -1,8 +1,7 @@
 -- The plans of the cases: each of their legs is a frame, of which the laws of the rules' tests say whether the rule holds. Assumes nothing.
-use Prim.Native.Nat.{ℕ, _+_, _*_, _≤_, _<_}
+use Prim.Native.Nat.{ℕ, _+_, _≤_, _<_}
 use mathlib.Core.Path.{_≡_, refl, sym, ap}
 use mathlib.Core.List.{List}
-use mathlib.Core.Logic.{inl, inr}
 use native.Mathlib.Omega.{arith}
 use Rattle.basics.specs.declared.Holds.the-variants.{Yes, No}
 use Rattle.numbers.specs.Number.{maxWord}
@@ -13,17 +12,17 @@ use Rattle.table.specs.declared.Link.{Link}
 use Rattle.table.specs.declared.Stream.{Stream}
 use Rattle.table.specs.declared.Leg.{Leg}
 use Rattle.table.proofs.PartLaws.{plans-read-so}
-use Rattle.shape.specs.Links.{IsRate, maxPropagation}
-use Rattle.shape.specs.Guarantees.{maxRate}
+use Rattle.shape.specs.Links.{maxPropagation}
 use Rattle.shape.specs.Legs.{linkOf, streamOf}
 use Rattle.shape.specs.Theorems.{NumbersInRange}
-use Rattle.shape.proofs.Reading.{stream-of, link-of}
+use Rattle.shape.proofs.Rates.{rate-small}
+use Rattle.shape.proofs.Reading.{linkOn, stream-of, link-on}
 use Rattle.overlap.specs.Meeting.{NeverMeet}
 use Rattle.overlap.specs.declared.Slot.{Slot}
 use Rattle.overlap.proofs.Law.{meeting-is-symmetric}
-use Rattle.rules.specs.Times.{preambleOctets, holdOctets, wireTime, holdTime, lasting, maxTime, startOf}
+use Rattle.rules.specs.Times.{wireTime, holdTime, lasting, maxTime, startOf}
 use Rattle.rules.specs.Rules.{Window, Hop, Deadline, Overlap}
-use Rattle.rules.specs.Steps.{FrameOf, ReadyOf, SlotOf}
+use Rattle.rules.specs.Steps.{Timed, FrameOf, ReadyOf, SlotOf}
 use Rattle.rules.specs.declared.Frame.{Frame}
 use Rattle.rules.proofs.Judging.{window-kept, window-broken, first-has-no-hop, hop-kept, hop-broken, not-last-has-no-deadline, deadline-kept, late-last-leg, other-links-never-meet, same-link-told}
 
@@ -43,28 +42,28 @@ frameWith l s k w h = record {
 }
 
 -- Numbers within their bounds.
-pub record Small (l : Leg) (s : Stream) (k : Link) (w h : ℕ) : Type 0 where
+pub record Small (l : Leg) (s : Stream) (k : Link) : Type 0 where
   pub offset : l .offset ≤ maxWord
   pub period : (1 ≤ s .period) × (s .period ≤ maxWord)
   pub deadline : s .deadline ≤ maxWord
   pub propagation : k .propagation ≤ maxPropagation
-  pub wire : (1 ≤ w) × (w ≤ maxTime)
-  pub hold : (1 ≤ h) × (h ≤ maxTime)
+
+-- A time that is some and small.
+pub timed : (w : ℕ) → 1 ≤ w → w ≤ maxTime → Timed w w
+timed w some small = record { same = refl; from = some; to = small }
 
 pub frame-of : (t : List ℕ) (a : ℕ) (l : Leg) (s : Stream) (k : Link) (w h : ℕ)
-    → legAt t a ≡ l → streamOf t a ≡ s → linkOf t a ≡ k → w ≡ (s .octets + preambleOctets) * k .rate → h ≡ (s .octets + holdOctets) * k .rate → Small l s k w h
+    → legAt t a ≡ l → streamOf t a ≡ s → linkOf t a ≡ k → Timed (wireTime (s .octets) (k .rate)) w → Timed (holdTime (s .octets) (k .rate)) h → Small l s k
     → FrameOf t a (frameWith l s k w h)
-unfolding startOf wireTime holdTime lasting
-frame-of t a l s k w h e f g is so small =
-    let o = ap (λ (z : Stream). z .octets) f in
-    let r = ap (λ (z : Link). z .rate) g in
+unfolding startOf
+frame-of t a l s k w h e f g on-wire holds small =
     record {
       offset = sym (ap (λ (z : Leg). z .offset) e);
       start = sym (ap (λ (z : Leg). z .offset) e);
       near = small .offset;
       small = small .offset;
-      wire = record { same = cc; from = small .wire .0; to = small .wire .1 };
-      hold = record { same = cc; from = small .hold .0; to = small .hold .1 };
+      wire = rw (f, g) on-wire;
+      hold = rw (f, g) holds;
       propagation = sym (ap (λ (z : Link). z .propagation) g);
       short = small .propagation;
       link = sym (ap (λ (z : Leg). z .link) e);
@@ -95,11 +94,6 @@ pub record Bounded (n : PlanNumbers) : Type 0 where
   pub in-range : NumbersInRange n
   pub offsets : n .offset-0 + n .offset-1 + n .offset-2 ≤ maxTime
 
-rate-bounds : (r : ℕ) → IsRate r → (1 ≤ r) × (r ≤ maxRate)
-rate-bounds r (inl e) = (omega arith, omega arith)
-rate-bounds r (inr (inl e)) = (omega arith, omega arith)
-rate-bounds r (inr (inr e)) = (omega arith, omega arith)
-
 -- A plan of the cases: the frames of its three legs.
 module _ (n : PlanNumbers) where
   unfoldable pub plan : List ℕ
@@ -108,21 +102,24 @@ module _ (n : PlanNumbers) where
   pub reads : PlanReadsSo n
   reads = plans-read-so n
 
-  -- How long the frames of stream 0 are on the wire of link 1, and that of stream 1 on that of link 0; and how long each holds its link.
+  -- How long the frames of stream 0 are on the wire of links 0 and 1, and that of stream 1 on that of link 0; and how long each holds its link.
+  abbrev pub w0 : ℕ
+  w0 = wireTime 64 (linkOn (planWith n) 0 .rate)
+
   abbrev pub w1 : ℕ
-  w1 = (64 + preambleOctets) * n .rate-1
+  w1 = wireTime 64 (n .rate-1)
 
   abbrev pub w2 : ℕ
-  w2 = (n .octets-1 + preambleOctets) * 8
+  w2 = wireTime (n .octets-1) (linkOn (planWith n) 2 .rate)
 
   abbrev pub h0 : ℕ
-  h0 = (64 + holdOctets) * 8
+  h0 = holdTime 64 (linkOn (planWith n) 0 .rate)
 
   abbrev pub h1 : ℕ
-  h1 = (64 + holdOctets) * n .rate-1
+  h1 = holdTime 64 (n .rate-1)
 
   abbrev pub h2 : ℕ
-  h2 = (n .octets-1 + holdOctets) * 8
+  h2 = holdTime (n .octets-1) (linkOn (planWith n) 2 .rate)
 
   -- When legs 1 and 2 are ready: after their own wire time and propagation, and the precision.
   abbrev pub r1 : ℕ
@@ -132,7 +129,7 @@ module _ (n : PlanNumbers) where
   r2 = n .offset-2 + w2 + 600
 
   unfoldable pub f0 : Frame
-  f0 = record { offset = n .offset-0; start = n .offset-0; wire = 576; hold = h0; propagation = 500; link = 0; period = n .period-0; deadline = n .deadline-0; first = 0; end = 2 }
+  f0 = record { offset = n .offset-0; start = n .offset-0; wire = w0; hold = h0; propagation = 500; link = 0; period = n .period-0; deadline = n .deadline-0; first = 0; end = 2 }
 
   unfoldable pub f1 : Frame
   f1 = record { offset = n .offset-1; start = n .offset-1; wire = w1; hold = h1; propagation = n .propagation-1; link = 1; period = n .period-0; deadline = n .deadline-0; first = 0; end = 2 }
@@ -148,13 +145,13 @@ module _ (n : PlanNumbers) where
   unfolding plan
   stream-2 = stream-of plan 2 1 _ _ (reads .leg-2) refl (reads .stream-1)
 
-  pub link-0 : linkOf plan 0 ≡ record { from = 1; to = 2; rate = 8; propagation = 500 }
+  pub link-0 : linkOf plan 0 ≡ linkOn (planWith n) 0
   unfolding plan
-  link-0 = link-of plan 0 0 _ _ (reads .leg-0) refl (reads .link-0)
+  link-0 = link-on plan 0
 
-  pub link-2 : linkOf plan 2 ≡ record { from = 1; to = 2; rate = 8; propagation = 500 }
+  pub link-2 : linkOf plan 2 ≡ linkOn (planWith n) 2
   unfolding plan
-  link-2 = link-of plan 2 0 _ _ (reads .leg-2) refl (reads .link-0)
+  link-2 = link-on plan 2
 
   abbrev pub slot-0 : Slot
   slot-0 = record { offset = n .offset-0; period = n .period-0; hold = h0 }
@@ -164,41 +161,39 @@ module _ (n : PlanNumbers) where
 
   module _ (b : Bounded n) where
     pub is-0 : FrameOf plan 0 f0
-    unfolding plan f0
-    is-0 = frame-of plan 0 _ _ _ 576 h0 (reads .leg-0) stream-0 link-0 refl refl
+    unfolding plan f0 wireTime holdTime lasting
+    is-0 =
+        frame-of plan 0 _ _ _ w0 h0 (reads .leg-0) stream-0 link-0 (timed w0 (omega arith) (omega arith)) (timed h0 (omega arith) (omega arith))
         (record {
           offset = omega (arith, b .offsets);
           period = (omega (arith, b .in-range .deadline-0), omega (arith, b .in-range .period-0));
           deadline = omega (arith, b .in-range .deadline-0, b .in-range .period-0);
           propagation = omega arith;
-          wire = (omega arith, omega arith);
-          hold = (omega arith, omega arith);
         })
 
     pub is-1 : FrameOf plan 1 f1
-    unfolding plan f1
+    unfolding plan f1 wireTime holdTime lasting
     is-1 =
-        let r = rate-bounds (n .rate-1) (b .in-range .rate-1) in
-        frame-of plan 1 _ _ _ w1 h1 (reads .leg-1) (stream-of plan 1 0 _ _ (reads .leg-1) refl (reads .stream-0)) (link-of plan 1 1 _ _ (reads .leg-1) refl (reads .link-1)) refl refl
+        let r = rate-small (n .rate-1) (b .in-range .rate-1) in
+        frame-of plan 1 _ _ _ w1 h1 (reads .leg-1) (stream-of plan 1 0 _ _ (reads .leg-1) refl (reads .stream-0)) (link-on plan 1)
+        (timed w1 (omega (arith, r)) (omega (arith, r))) (timed h1 (omega (arith, r)) (omega (arith, r)))
         (record {
           offset = omega (arith, b .offsets);
           period = (omega (arith, b .in-range .deadline-0), omega (arith, b .in-range .period-0));
           deadline = omega (arith, b .in-range .deadline-0, b .in-range .period-0);
           propagation = b .in-range .propagation-1;
-          wire = (omega (arith, r), omega (arith, r));
-          hold = (omega (arith, r), omega (arith, r));
         })
 
     pub is-2 : FrameOf plan 2 f2
-    unfolding plan f2
-    is-2 = frame-of plan 2 _ _ _ w2 h2 (reads .leg-2) stream-2 link-2 refl refl
+    unfolding plan f2 wireTime holdTime lasting
+    is-2 =
+        let o = b .in-range .octets-1 in
+        frame-of plan 2 _ _ _ w2 h2 (reads .leg-2) stream-2 link-2 (timed w2 (omega (arith, o)) (omega (arith, o))) (timed h2 (omega (arith, o)) (omega (arith, o)))
         (record {
           offset = omega (arith, b .offsets);
           period = (omega (arith, b .in-range .deadline-1), omega (arith, b .in-range .period-1));
           deadline = omega (arith, b .in-range .deadline-1, b .in-range .period-1);
           propagation = omega arith;
-          wire = (omega (arith, b .in-range .octets-1), omega (arith, b .in-range .octets-1));
-          hold = (omega (arith, b .in-range .octets-1), omega (arith, b .in-range .octets-1));
         })
 
     pub window-0 : n .offset-0 + h0 ≤ n .period-0 → Window plan 0
@@ -226,7 +221,7 @@ module _ (n : PlanNumbers) where
     window-2-broken lt = window-broken plan 2 f2 is-2 lt
 
     pub ready-0 : ReadyOf plan 0 (n .offset-0 + 1176)
-    unfolding plan f0
+    unfolding plan f0 wireTime lasting
     ready-0 = let r = ready-of plan 0 f0 is-0 (omega arith) in record { same = omega (arith, r .same); small = omega (arith, r .small) }
 
     ready-1 : ReadyOf plan 1 r1

@@ -1,5 +1,5 @@
 -- The rules at numbers with Plan C, whose records compute from its words. Assumes nothing.
-use Prim.Native.Nat.{ℕ, zero, suc, _+_, _*_, _≤_, _<_}
+use Prim.Native.Nat.{ℕ, zero, suc, _+_, _≤_, _<_}
 use mathlib.Core.Path.{_≡_, refl, _∙_, sym, ap}
 use mathlib.Core.List.{List}
 use mathlib.Core.Logic.{inl, inr, ⊎-elim}
@@ -15,21 +15,21 @@ use Rattle.shape.specs.Links.{maxPropagation}
 use Rattle.shape.proofs.Reading.{legOn, streamOn, linkOn, stream-on, link-on}
 use Rattle.shape.proofs.PlanC.{plan-c-is-well-formed}
 use Rattle.overlap.proofs.Law.{shared-instant}
-use Rattle.rules.specs.Times.{preambleOctets, holdOctets}
+use Rattle.rules.specs.Times.{wireTime, holdTime, lasting}
 use Rattle.rules.specs.Rules.{Hop, Deadline, Overlap}
 use Rattle.rules.specs.Steps.{FrameOf, ReadyOf}
 use Rattle.rules.specs.Places.{askedAt}
 use Rattle.rules.specs.CasesOfPlanC.{CasesOfPlanC, ReadsOfPlanC, CasesOfPlanCArePlans}
 use Rattle.rules.specs.declared.Frame.{Frame}
 use Rattle.rules.proofs.Judging.{hop-kept, hop-broken, not-last-has-no-deadline, deadline-kept, late-last-leg, other-links, same-link-told}
-use Rattle.rules.proofs.CasePlans.{frameWith, frame-of, ready-of, slot-of}
+use Rattle.rules.proofs.CasePlans.{frameWith, timed, frame-of, ready-of, slot-of}
 
 -- Leg a of a table that is given word by word: how long its frame is on the wire and holds its link, and its frame.
 abbrev wireOn : List ℕ → ℕ → ℕ
-wireOn t a = (streamOn t a .octets + preambleOctets) * linkOn t a .rate
+wireOn t a = wireTime (streamOn t a .octets) (linkOn t a .rate)
 
 abbrev holdOn : List ℕ → ℕ → ℕ
-holdOn t a = (streamOn t a .octets + holdOctets) * linkOn t a .rate
+holdOn t a = holdTime (streamOn t a .octets) (linkOn t a .rate)
 
 abbrev frameOn : List ℕ → ℕ → Frame
 frameOn t a = frameWith (legOn t a) (streamOn t a) (linkOn t a) (wireOn t a) (holdOn t a)
@@ -43,11 +43,13 @@ record Near (t : List ℕ) (a : ℕ) : Type 0 where
 frame-on : (t : List ℕ) (a : ℕ) → Near t a → FrameOf t a (frameOn t a)
 frame-on t a h =
     let s = h .small in
-    frame-of t a _ _ _ _ _ (sym (leg-of-part t a)) (stream-on t a) (link-on t a) refl refl
-    (record { offset = omega arith; period = (h .repeats, omega arith); deadline = omega arith; propagation = omega arith; wire = (h .lasts .0, omega arith); hold = (h .lasts .1, omega arith) })
+    frame-of t a _ _ _ _ _ (sym (leg-of-part t a)) (stream-on t a) (link-on t a)
+    (timed _ (h .lasts .0) (omega arith)) (timed _ (h .lasts .1) (omega arith))
+    (record { offset = omega arith; period = (h .repeats, omega arith); deadline = omega arith; propagation = omega arith })
 
 module _ (n : PlanCNumbers) (small : n .deadline-1 + n .deadline-2 + n .offset-2 + n .offset-3 ≤ 40000) where
   near : (a : ℕ) → a < 6 → Near (planC n) a
+  unfolding wireTime holdTime lasting
   near zero h = record { repeats = omega arith; lasts = (omega arith, omega arith); small = omega arith }
   near (suc zero) h = record { repeats = omega arith; lasts = (omega arith, omega arith); small = omega arith }
   near (suc (suc zero)) h = record { repeats = omega arith; lasts = (omega arith, omega arith); small = omega arith }
@@ -93,12 +95,14 @@ module _ (n : PlanCNumbers) (small : n .deadline-1 + n .deadline-2 + n .offset-2
   apart a b different = other-links (planC n) a b (λ e. different (link b ∙ e ∙ sym (link a)))
 
   meet-on-link-4 : Overlap (planC n) 5 4 → ⊥
+  unfolding holdTime lasting
   meet-on-link-4 =
       same-link-told (planC n) 5 4 4 _ _ _ (frame 5 (omega arith)) (frame 4 (omega arith) .link) refl
       (slot-of (planC n) 5 _ (frame 5 (omega arith))) (slot-of (planC n) 4 _ (frame 4 (omega arith))) No
       (shared-instant _ _ 0 0 1300 (record { begun = omega arith; not-ended = omega arith }) (record { begun = omega arith; not-ended = omega arith }))
 
 pub cases-of-plan-c : CasesOfPlanC
+unfolding wireTime lasting
 cases-of-plan-c = record {
   hop-middle = (
     hop (offsetsC 2014 3128) (omega arith) 2 1 (omega arith) refl (omega arith),

@@ -2,7 +2,6 @@
 use Prim.Native.Nat.{ℕ, zero, suc, _+_, _≤_, _<_}
 use mathlib.Core.Path.{_≡_, refl, _∙_, sym, ap, subst}
 use mathlib.Core.List.{List}
-use mathlib.Core.Logic.{inl, inr}
 use native.Mathlib.Omega.{arith}
 use Rattle.table.specs.Layout.{linkCount, streamCount, Sized}
 use Rattle.table.specs.Records.{linkPart, streamPart, linkIn, streamIn}
@@ -17,6 +16,7 @@ use Rattle.shape.specs.Legs.{linkOf, LegRight}
 use Rattle.shape.specs.Routes.{GoesOn}
 use Rattle.shape.specs.Shape.{LinkRight, WellFormedTable}
 use Rattle.shape.proofs.LinksComputed.{all-new}
+use Rattle.shape.proofs.Rates.{gigabit, hundred-megabit}
 use Rattle.shape.proofs.StreamLaws.{legs-none, legs-more}
 use Rattle.shape.proofs.Reading.{legOn, streamOn, linkOn, stream-on, link-on}
 
@@ -77,11 +77,11 @@ module _ (n : PlanCNumbers) where
       (record { from-node = omega arith; to-node = omega arith; different = different; rate = rate; propagation = omega arith })
 
   link-right : (i : ℕ) → i < 5 → LinkRight (planC n) i
-  link-right zero h = link-in-range 0 (omega arith) (omega arith) (λ e. absurd (omega (arith, e))) (inl refl) (omega arith)
-  link-right (suc zero) h = link-in-range 1 (omega arith) (omega arith) (λ e. absurd (omega (arith, e))) (inl refl) (omega arith)
-  link-right (suc (suc zero)) h = link-in-range 2 (omega arith) (omega arith) (λ e. absurd (omega (arith, e))) (inr (inl refl)) (omega arith)
-  link-right (suc (suc (suc zero))) h = link-in-range 3 (omega arith) (omega arith) (λ e. absurd (omega (arith, e))) (inl refl) (omega arith)
-  link-right (suc (suc (suc (suc zero)))) h = link-in-range 4 (omega arith) (omega arith) (λ e. absurd (omega (arith, e))) (inl refl) (omega arith)
+  link-right zero h = link-in-range 0 (omega arith) (omega arith) (λ e. absurd (omega (arith, e))) gigabit (omega arith)
+  link-right (suc zero) h = link-in-range 1 (omega arith) (omega arith) (λ e. absurd (omega (arith, e))) gigabit (omega arith)
+  link-right (suc (suc zero)) h = link-in-range 2 (omega arith) (omega arith) (λ e. absurd (omega (arith, e))) hundred-megabit (omega arith)
+  link-right (suc (suc (suc zero))) h = link-in-range 3 (omega arith) (omega arith) (λ e. absurd (omega (arith, e))) gigabit (omega arith)
+  link-right (suc (suc (suc (suc zero)))) h = link-in-range 4 (omega arith) (omega arith) (λ e. absurd (omega (arith, e))) gigabit (omega arith)
   link-right (suc (suc (suc (suc (suc i))))) h = absurd (omega arith)
 
   -- The legs before the next stream are the legs up to this one's end.

@@ -21,6 +21,7 @@ use Rattle.shape.specs.Steps.{LinksPassed}
 use Rattle.shape.specs.RefusalsAtNumbers.{TableRefused, headerOf, wrongLink, linkAgain, wrongStream, fewerLegs, wrongLeg, ShapeRefusalsAtNumbers}
 use Rattle.shape.proofs.LinksComputed.{all-new}
 use Rattle.shape.proofs.Judged.{past-links}
+use Rattle.shape.proofs.Rates.{gigabit, hundred-megabit}
 use Rattle.shape.proofs.OneShape.{well-no-fault}
 use Rattle.shape.proofs.StreamLaws.{legs-none, legs-more}
 use Rattle.shape.proofs.Reading.{link-of, stream-of, first-leg-right}
@@ -46,28 +47,30 @@ sized n s g ws h e = record {
   exact = omega arith;
 }
 
--- A link that leads from a node to a higher one.
-upwards : (from to rate propagation : ℕ) → from < to → to ≤ maxNode → IsRate rate → propagation ≤ maxPropagation
-    → LinkInRange (record { from = from; to = to; rate = rate; propagation = propagation })
-upwards from to rate propagation h k r p = record { from-node = omega arith; to-node = k; different = λ e. omega arith; rate = r; propagation = p }
+-- A link that leads from a node to a higher one, and such a link as most of the tables have it.
+upwards : (l : Link) → l .from < l .to → l .to ≤ maxNode → IsRate (l .rate) → l .propagation ≤ maxPropagation → LinkInRange l
+upwards l h k r p = record { from-node = omega arith; to-node = k; different = λ e. omega arith; rate = r; propagation = p }
+
+abbrev between : ℕ → ℕ → Link
+between from to = record { from = from; to = to; rate = 8; propagation = 500 }
 
 module _ (t : List ℕ) where
   link-right : (i : ℕ) → LinkInRange (linkIn (linkPart t) i) → LinkRight t i
   link-right i h = subst LinkInRange (link-of-part t i) h
 
-  module _ (e : linkIn (linkPart t) 0 ≡ record { from = 1; to = 2; rate = 8; propagation = 500 }) where
+  module _ (e : linkIn (linkPart t) 0 ≡ between 1 2) where
     first-link : All (LinkRight t) 1
     first-link =
         below-more (LinkRight t) 0 (below-none (LinkRight t))
-        (link-right 0 (subst LinkInRange (sym e) (upwards 1 2 8 500 (omega arith) (omega arith) (inl refl) (omega arith))))
+        (link-right 0 (subst LinkInRange (sym e) (upwards (between 1 2) (omega arith) (omega arith) gigabit (omega arith))))
 
-    second-link : (from to : ℕ) → linkIn (linkPart t) 1 ≡ record { from = from; to = to; rate = 8; propagation = 500 } → from < to → to ≤ maxNode → All (LinkRight t) 2
+    second-link : (from to : ℕ) → linkIn (linkPart t) 1 ≡ between from to → from < to → to ≤ maxNode → All (LinkRight t) 2
     second-link from to f h k =
         below-more (LinkRight t) 1 first-link
-        (link-right 1 (subst LinkInRange (sym f) (upwards from to 8 500 h k (inl refl) (omega arith))))
+        (link-right 1 (subst LinkInRange (sym f) (upwards (between from to) h k gigabit (omega arith))))
 
   -- A table of this link alone.
-  one-link : Sized t → linkCount t ≡ 1 → linkIn (linkPart t) 0 ≡ record { from = 1; to = 2; rate = 8; propagation = 500 } → LinksPassed t
+  one-link : Sized t → linkCount t ≡ 1 → linkIn (linkPart t) 0 ≡ between 1 2 → LinksPassed t
   one-link z n e = record { sized = z; links = λ i h. first-link e i (omega (arith, n)); new-links = λ i h. all-new t 1 refl i (omega (arith, n)) }
 
   module _ (count : ℕ) (e : streamIn (streamPart t) 0 ≡ record { period = 1000; deadline = 900; octets = 64; first = 0; count = count }) where
@@ -114,7 +117,7 @@ link-again = inr (sized 3 1 0 _ (omega arith) refl, inr (links, inl (refl, lowes
         (LinkRight linkAgain)
         2
         (second-link linkAgain refl 2 3 refl (omega arith) (omega arith))
-        (link-right linkAgain 2 (upwards 1 2 80 0 (omega arith) (omega arith) (inr (inl refl)) (omega arith)))
+        (link-right linkAgain 2 (upwards _ (omega arith) (omega arith) hundred-megabit (omega arith)))
 
     bad : LinkNew linkAgain 2 → ⊥
     bad new =

@@ -70,10 +70,13 @@ pub fn plan_refused(number_of: u32, at: usize) {
     text(b"status 2\n");
 }
 
-// Internal: the words of a plan.
+// Internal: the words of a plan. What was read has the right size, so that none is refused here.
 pub fn words(of: &[u32]) {
-    crate::table(of);
-    text(b"status 0\n");
+    if crate::table(of) {
+        text(b"status 0\n");
+    } else {
+        text(b"status 2\n");
+    }
 }
 
 // Internal: that a plan is well-formed.

@@ -93,15 +93,17 @@ fn records(t: &[u32])
     rows(table::parts::leg_part(t), table::LEG_WORDS);
 }
 
-// Internal: prints a table, a record to a line: header, links, streams, legs.
-pub fn table(t: &[u32]) {
+// Internal: prints a table, a record to a line: header, links, streams, legs. Where its size is refused it prints that, and answers false.
+pub fn table(t: &[u32]) -> bool {
     let size = table::judged_size(t);
     match size {
         Checked::Clear => {
             records(t);
+            true
         }
         Checked::Refused(number, at) => {
             refused(number, at);
+            false
         }
     }
 }
