@@ -151,7 +151,7 @@ moves =
             record {
               given = Granted (at 1 2 0);
               table = moved planA (moveTo 2 576);
-              moves = granted 0 0 1176 0 2 3 (moveTo 2 576) 2 0 (omega arith) (here 0 0 1176 0 2 3 (omega arith) (omega arith)) (omega arith) (inr (refl, refl)) (omega arith) (omega arith);
+              moves = granted 0 0 1176 0 2 3 (here 0 0 1176 0 2 3 (omega arith) (omega arith)) 2 576 (omega arith) (omega arith) 2 0 (inr (refl, refl)) (omega arith) (omega arith);
               after = inr (
                 omega (arith, long, given),
                 record {
