@@ -34,7 +34,7 @@ use Rattle.demands.specs.Verdicts.{violated}
 use Rattle.demands.specs.DemandThreeForC.{HostGives}
 use Rattle.demands.specs.HostRuns.{upToClosing, savedIn, NotRefused, StartMade, SliceMade, MoveMade, HostRun}
 use Rattle.demands.specs.AtNumbers.{at}
-use Rattle.demands.specs.HostAtNumbers.{movedFile, zeros, saved, left, violatedInC, HostRunsAtNumbers}
+use Rattle.demands.specs.HostAtNumbers.{movedFile, movedBytes, zeros, saved, left, violatedInC, HostRunsAtNumbers}
 use Rattle.demands.proofs.PlanTables.{planTable, ranks, shape, here, granted, stays-at-end, pause, end, violate, on, accepted, before-2-3}
 
 file-a : IsFile Sized planAFile planA
@@ -130,15 +130,19 @@ violates =
     (meets-at-2-3 0) (place-rule (asked.Overlap 0)) (omega arith) (omega (arith, ranks .2)) (omega arith))
     (omega arith) (at-2-3 .written)
 
-laid : movedFile ++ zeros 4 ≡ overlaid (zeros 46) 0 movedFile
-laid = sym (overlaid-front (zeros 46) movedFile)
+-- What is lent for the new file.
+abbrev for-file : List ℕ
+for-file = zeros (movedBytes + 4)
 
-moves : MoveMade planAFile (saved 0 2 3) (moveTo 2 576) (answered 0 42) (lent (movedFile ++ zeros 4) (left 1 2 0)) movedFile
+laid : movedFile ++ zeros 4 ≡ overlaid for-file 0 movedFile
+laid = sym (overlaid-front for-file movedFile)
+
+moves : MoveMade planAFile (saved 0 2 3) (moveTo 2 576) (answered 0 movedBytes) (lent (movedFile ++ zeros 4) (left 1 2 0)) movedFile
 moves =
-    let long : _≡_ {A = ℕ} 42 (length (fileOf (moved planA (moveTo 2 576)))) = ap length moved-bytes in
-    let given : length (zeros 46) ≡ 46 = refl in
+    let long : _≡_ {A = ℕ} movedBytes (length (fileOf (moved planA (moveTo 2 576)))) = ap length moved-bytes in
+    let given : length for-file ≡ movedBytes + 4 = refl in
     record {
-      m = lent (zeros 46) (zeros 15);
+      m = lent for-file (zeros 15);
       words = record { leg = omega arith; offset = omega arith };
       moves = inr (
         planA,
@@ -157,8 +161,8 @@ moves =
                 record {
                   answer = ap (answered 0) long;
                   after =
-                      ap (λ (f : List ℕ). lent f (left 1 2 0)) (laid ∙ ap (overlaid (zeros 46) 0) moved-bytes)
-                      ∙ ap (lent (overlaid (zeros 46) 0 (fileOf (moved planA (moveTo 2 576))))) (after-move .written);
+                      ap (λ (f : List ℕ). lent f (left 1 2 0)) (laid ∙ ap (overlaid for-file 0) moved-bytes)
+                      ∙ ap (lent (overlaid for-file 0 (fileOf (moved planA (moveTo 2 576))))) (after-move .written);
                 },
               );
             },

@@ -1,5 +1,5 @@
--- A granted move sets two words, so the new plan file has four bytes more for the offset and one more for the revision, at the most; and no plan file has more than
--- 48,665. No other refusal of a move is 15. Assumes nothing.
+-- A granted move sets words of its leg and the revision, so that the new plan file has a few bytes more at the most; and no plan file is longer than the longest. No other
+-- refusal of a move is 15. Assumes nothing.
 use Prim.Native.Nat.{ℕ, _+_, _≤_}
 use mathlib.Core.Path.{_≡_, ap}
 use mathlib.Core.List.{List}
