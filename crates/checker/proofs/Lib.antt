@@ -1,4 +1,5 @@
 pub mod LookLaws
+pub mod Moving
 pub mod OneAnswer
 pub mod Refused
 pub mod RefusalsAtNumbers

@@ -9,8 +9,7 @@ use native.Mathlib.Omega.{arith}
 use Rattle.basics.specs.Refusals.{OneFault}
 use Rattle.basics.proofs.Refusals.{unless-one, then-one, called-one}
 use Rattle.basics.proofs.Splits.{lt-or-ge}
-use Rattle.numbers.specs.Number.{maxWord}
-use Rattle.table.specs.Layout.{revisionOf, legCount}
+use Rattle.table.specs.Layout.{legCount}
 use Rattle.table.specs.declared.Move.{Move}
 use Rattle.files.specs.declared.Cursor.{Cursor}
 use Rattle.shape.proofs.OneShape.{shape-one, well-no-fault}
@@ -20,7 +19,7 @@ use Rattle.places.specs.Order.{placesBelow, PlaceOrEnd}
 use Rattle.places.proofs.Ranks.{end-rank, place-rank, rank-is-one}
 use Rattle.checker.specs.Cursors.{cursorRank, staleCursor, noPlace, CursorRight, CursorFault, cursorRefusals}
 use Rattle.checker.specs.Slices.{Went, Violates, Ends, Pauses}
-use Rattle.checker.specs.Moves.{noLeg, cannotRise, AtTheLesser, MoveFault, moveRefusals}
+use Rattle.checker.specs.Moves.{noLeg, cannotRise, AtTheLesser, MoveAllowed, MoveFault, moveRefusals}
 use Rattle.checker.specs.Theorems.{StartOneAnswer, SliceOneAnswer, MoveOneAnswer}
 use Rattle.checker.specs.declared.Grant.the-variants.{Granted, Refused}
 use Rattle.checker.specs.declared.SliceAnswer.the-variants as answer
@@ -36,7 +35,7 @@ pub move-one : (t : List ℕ) (c : Cursor) (mv : Move) → OneFault (moveRefusal
 move-one t c mv =
     called-one
     (then-one (cursor-one t c) (then-one (unless-one noLeg _) (unless-one cannotRise _)))
-    (λ m. (m .cursor, (m .below, m .rises)))
+    (λ m. (m .cursor, (m .can .below, m .can .rises)))
 
 pub start-one-answer : StartOneAnswer
 start-one-answer t (Granted d) (Granted e) p q = ap Granted (p .1 ∙ sym (q .1))
@@ -153,16 +152,16 @@ module _ {t : List ℕ} {c : Cursor} {leg : ℕ} where
   moved-cursor-one {d} {e} r h q a b =
       one-cursor q (lesser-stands r h a) (lesser-stands r h b) (omega (arith, not-greater a b, not-greater b a))
 
-pub move-no-fault : {t : List ℕ} {c : Cursor} (mv : Move) {k p : ℕ} → CursorRight t c → mv .leg < legCount t → revisionOf t < maxWord → MoveFault t c mv k p → ⊥
-move-no-fault {t} {c} mv r below rises f = move-one t c mv .none (record { cursor = r; below = below; rises = rises }) f
+pub move-no-fault : {t : List ℕ} {c : Cursor} {mv : Move} {k p : ℕ} → MoveAllowed t c mv → MoveFault t c mv k p → ⊥
+move-no-fault {t} {c} {mv} m f = move-one t c mv .none m f
 
 pub move-one-answer : MoveOneAnswer
 move-one-answer t c mv (Granted d) (Granted e) u v p q = (
-  ap Granted (moved-cursor-one (p .cursor) (p .below) (p .revision ∙ sym (q .revision)) (p .lesser) (q .lesser)),
+  ap Granted (moved-cursor-one (p .allowed .cursor) (p .allowed .can .below) (p .revision ∙ sym (q .revision)) (p .lesser) (q .lesser)),
   p .table ∙ sym (q .table),
 )
-move-one-answer t c mv (Granted d) (Refused l q e) u v m f = absurd (move-no-fault mv (m .cursor) (m .below) (m .rises) (f .0))
-move-one-answer t c mv (Refused k p d) (Granted e) u v f m = absurd (move-no-fault mv (m .cursor) (m .below) (m .rises) (f .0))
+move-one-answer t c mv (Granted d) (Refused l q e) u v m f = absurd (move-no-fault (m .allowed) (f .0))
+move-one-answer t c mv (Refused k p d) (Granted e) u v f m = absurd (move-no-fault (m .allowed) (f .0))
 move-one-answer t c mv (Refused k p d) (Refused l q e) u v f g =
     let x = move-one t c mv .one (f .0) (g .0) in
     let x0 = x .0 in

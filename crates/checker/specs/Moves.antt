@@ -21,11 +21,15 @@ noLeg = 10
 abbrev pub cannotRise : ℕ
 cannotRise = 11
 
--- A move may be made: the cursor is right, the leg is there, and the revision can rise.
-pub record MoveAllowed (t : List ℕ) (c : Cursor) (mv : Move) : Type 0 where
-  pub cursor : CursorRight t c
+-- A move can be made of a table: the leg is there, and the revision can rise.
+pub record CanMove (t : List ℕ) (mv : Move) : Type 0 where
   pub below : mv .leg < legCount t
   pub rises : revisionOf t < maxWord
+
+-- A move may be made: the cursor is right, and the table's move can be made.
+pub record MoveAllowed (t : List ℕ) (c : Cursor) (mv : Move) : Type 0 where
+  pub cursor : CursorRight t c
+  pub can : CanMove t mv
 
 -- The refusals in their order: 1 to 9, then 10, then 11.
 abbrev pub moveRefusals : List ℕ → Cursor → Move → Refusals
@@ -45,11 +49,9 @@ pub record AtTheLesser (c : Cursor) (leg : ℕ) (d : Cursor) : Type 0 where
   pub given : cursorRank d ≤ cursorRank c
   pub to-leg : cursorRank d ≤ rank leg 0
 
--- A granted move: the table t becomes t′, and the cursor d is of the new revision.
+-- A granted move: it may be made, the table t becomes t′, and the cursor d is of the new revision.
 pub record MoveRight (t : List ℕ) (c : Cursor) (mv : Move) (d : Cursor) (t′ : List ℕ) : Type 0 where
-  pub cursor : CursorRight t c
-  pub below : mv .leg < legCount t
-  pub rises : revisionOf t < maxWord
+  pub allowed : MoveAllowed t c mv
   pub table : t′ ≡ moved t mv
   pub revision : d .revision ≡ revisionOf t + 1
   pub lesser : AtTheLesser c (mv .leg) d

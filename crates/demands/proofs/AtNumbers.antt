@@ -58,7 +58,7 @@ move-ahead = (
   good,
   on-good,
   inl refl,
-  granted 0 0 1176 holdA 1 2 (moveTo 2 700) 1 2 (omega arith) (at-1-2 holdA) (omega arith) (inl (refl, refl)) (omega arith) (omega (arith, ranks .1, ranks .2)),
+  granted 0 0 1176 holdA 1 2 (at-1-2 holdA) 2 700 (omega arith) (omega arith) 1 2 (inl (refl, refl)) (omega arith) (omega (arith, ranks .1, ranks .2)),
 )
 
 goes-on-ahead : (p b q : ℕ) → p < 4 → b < 3 → q < placesOf b → rank 1 p + 1 ≡ rank b q → rank b q ≤ 10 → Slices (moved good (moveTo 2 700)) (at 1 1 p) 1 (Paused (at 1 b q) 1)
@@ -86,7 +86,7 @@ runs-at-numbers = record {
     good,
     on-good,
     inl refl,
-    granted 0 0 1176 holdA 1 2 (moveTo 0 600) 0 0 (omega arith) (at-1-2 holdA) (omega arith) (inr (refl, refl)) (omega (arith, ranks .0, ranks .1)) (omega arith),
+    granted 0 0 1176 holdA 1 2 (at-1-2 holdA) 0 600 (omega arith) (omega arith) 0 0 (inr (refl, refl)) (omega (arith, ranks .0, ranks .1)) (omega arith),
   );
   ahead = move-ahead;
   stale = (move-ahead, inr (inl refl), stale-cursor);
@@ -153,7 +153,7 @@ run-12 = (
     planA,
     run-11,
     inl refl,
-    granted 0 0 1176 0 2 3 (moveTo 2 holdA) 2 0 (omega arith) (here 0 0 1176 0 2 3 (omega arith) (omega arith)) (omega arith) (inr (refl, refl)) (omega arith) (omega arith),
+    granted 0 0 1176 0 2 3 (here 0 0 1176 0 2 3 (omega arith) (omega arith)) 2 holdA (omega arith) (omega arith) 2 0 (inr (refl, refl)) (omega arith) (omega arith),
   ),
   inl refl,
   on (at 1 2 0) 5 (NothingViolated (at 1 3 0) 5) (moved-2 (offsetsA 0 1176 0) holdA)
@@ -166,7 +166,7 @@ run-13 = (
     planA,
     paused-twice,
     inl refl,
-    granted 0 0 1176 0 2 3 (moveTo 0 600) 0 0 (omega arith) (here 0 0 1176 0 2 3 (omega arith) (omega arith)) (omega arith) (inr (refl, refl)) (omega (arith, ranks .0, ranks .2))
+    granted 0 0 1176 0 2 3 (here 0 0 1176 0 2 3 (omega arith) (omega arith)) 0 600 (omega arith) (omega arith) 0 0 (inr (refl, refl)) (omega (arith, ranks .0, ranks .2))
         (omega arith),
   ),
   inl refl,
@@ -184,7 +184,7 @@ cases-as-runs = record {
     good,
     on-good,
     inl refl,
-    granted 0 0 1176 holdA 1 2 (moveTo 1 1200) 1 0 (omega arith) (at-1-2 holdA) (omega arith) (inr (refl, refl)) (omega arith) (omega arith),
+    granted 0 0 1176 holdA 1 2 (at-1-2 holdA) 1 1200 (omega arith) (omega arith) 1 0 (inr (refl, refl)) (omega arith) (omega arith),
   );
   started-again = (
     (run-12, subst (λ (t : List ℕ). Starts t (Granted (at 1 0 0))) (sym (moved-2 (offsetsA 0 1176 0) holdA)) (shape 1 0 1176 holdA, refl)),

@@ -211,7 +211,7 @@ newest-right (move-leg c mv (Refused k p d) ∷ call ∷ earlier) t (u, r, out, 
 pub runs-go-on : RunsGoOn
 runs-go-on = record {
   slice = λ calls t latest before b k p d r e s. right-no-fault (subst (NewestRight t) e (newest-right calls t r)) (s .0);
-  move-leg = λ calls t latest before mv k p d u r e below rises m. move-no-fault mv (subst (NewestRight t) e (newest-right calls t r)) below rises (m .0);
+  move-leg = λ calls t latest before mv k p d u r e can m. move-no-fault (record { cursor = subst (NewestRight t) e (newest-right calls t r); can = can }) (m .0);
 }
 
 pub runs-keep-shape : RunsKeepShape

@@ -34,7 +34,7 @@ use Rattle.demands.specs.Verdicts.{violated}
 use Rattle.demands.specs.DemandThreeForC.{HostGives}
 use Rattle.demands.specs.HostRuns.{upToClosing, savedIn, NotRefused, StartMade, SliceMade, MoveMade, HostRun}
 use Rattle.demands.specs.AtNumbers.{at}
-use Rattle.demands.specs.HostAtNumbers.{movedFile, zeros, saved, left, violatedInC, HostRunsAtNumbers}
+use Rattle.demands.specs.HostAtNumbers.{movedFile, movedBytes, zeros, saved, left, violatedInC, HostRunsAtNumbers}
 use Rattle.demands.proofs.PlanTables.{planTable, ranks, shape, here, granted, stays-at-end, pause, end, violate, on, accepted, before-2-3}
 
 file-a : IsFile Sized planAFile planA
@@ -130,19 +130,19 @@ violates =
     (meets-at-2-3 0) (place-rule (asked.Overlap 0)) (omega arith) (omega (arith, ranks .2)) (omega arith))
     (omega arith) (at-2-3 .written)
 
--- What is lent for the new file: four bytes more than it has.
-abbrev lentFile : List ℕ
-lentFile = zeros (length movedFile + 4)
+-- What is lent for the new file.
+abbrev for-file : List ℕ
+for-file = zeros (movedBytes + 4)
 
-laid : movedFile ++ zeros 4 ≡ overlaid lentFile 0 movedFile
-laid = sym (overlaid-front lentFile movedFile)
+laid : movedFile ++ zeros 4 ≡ overlaid for-file 0 movedFile
+laid = sym (overlaid-front for-file movedFile)
 
-moves : MoveMade planAFile (saved 0 2 3) (moveTo 2 holdA) (answered 0 (length movedFile)) (lent (movedFile ++ zeros 4) (left 1 2 0)) movedFile
+moves : MoveMade planAFile (saved 0 2 3) (moveTo 2 holdA) (answered 0 movedBytes) (lent (movedFile ++ zeros 4) (left 1 2 0)) movedFile
 moves =
-    let long : length movedFile ≡ length (fileOf (moved planA (moveTo 2 holdA))) = ap length moved-bytes in
-    let given : length lentFile ≡ length movedFile + 4 = refl in
+    let long : _≡_ {A = ℕ} movedBytes (length (fileOf (moved planA (moveTo 2 holdA)))) = ap length moved-bytes in
+    let given : length for-file ≡ movedBytes + 4 = refl in
     record {
-      m = lent lentFile (zeros 15);
+      m = lent for-file (zeros 15);
       words = record { leg = omega arith; offset = omega arith };
       moves = inr (
         planA,
@@ -155,14 +155,14 @@ moves =
             record {
               given = Granted (at 1 2 0);
               table = moved planA (moveTo 2 holdA);
-              moves = granted 0 0 1176 0 2 3 (moveTo 2 holdA) 2 0 (omega arith) (here 0 0 1176 0 2 3 (omega arith) (omega arith)) (omega arith) (inr (refl, refl)) (omega arith) (omega arith);
+              moves = granted 0 0 1176 0 2 3 (here 0 0 1176 0 2 3 (omega arith) (omega arith)) 2 holdA (omega arith) (omega arith) 2 0 (inr (refl, refl)) (omega arith) (omega arith);
               after = inr (
                 omega (arith, long, given),
                 record {
                   answer = ap (answered 0) long;
                   after =
-                      ap (λ (f : List ℕ). lent f (left 1 2 0)) (laid ∙ ap (overlaid lentFile 0) moved-bytes)
-                      ∙ ap (lent (overlaid lentFile 0 (fileOf (moved planA (moveTo 2 holdA))))) (after-move .written);
+                      ap (λ (f : List ℕ). lent f (left 1 2 0)) (laid ∙ ap (overlaid for-file 0) moved-bytes)
+                      ∙ ap (lent (overlaid for-file 0 (fileOf (moved planA (moveTo 2 holdA))))) (after-move .written);
                 },
               );
             },

@@ -1,6 +1,6 @@
 -- A call for C that was not refused is a call of start, slice or move over the table whose file the plan is, and the bytes that it left read as the cursor that it
 -- handed out and the table that it made. Assumes nothing.
-use Prim.Native.Nat.{ℕ, _≤_, _<_}
+use Prim.Native.Nat.{ℕ, _≤_}
 use mathlib.Core.Path.{_≡_, _∙_, sym, ap, subst}
 use mathlib.Core.List.{List}
 use mathlib.Core.Logic.{inl, inr}
@@ -10,22 +10,22 @@ use Rattle.numbers.specs.Number.{maxWord}
 use Rattle.numbers.specs.Series.{AllWords, fileOf}
 use Rattle.numbers.proofs.Overlay.{overlaid-taken}
 use Rattle.numbers.proofs.Rows.{words-of}
-use Rattle.table.specs.Layout.{revisionOf, legCount, Sized}
+use Rattle.table.specs.Layout.{Sized}
 use Rattle.table.specs.Records.{moved}
 use Rattle.table.specs.declared.Move.{Move}
 use Rattle.table.proofs.Moved.{moved-each}
-use Rattle.shape.proofs.Moved.{moves-keep-shape, moved-same}
 use Rattle.files.specs.Reading.{IsFile}
 use Rattle.files.specs.Cursors.{cursorWords, ReadsCursor}
 use Rattle.files.specs.declared.Cursor.{Cursor}
 use Rattle.files.specs.declared.CursorRead.the-variants as read
 use Rattle.places.specs.Order.{PlaceOrEnd}
 use Rattle.checker.specs.Slices.{Starts, Slices, startCursor, Went}
-use Rattle.checker.specs.Moves.{Moves}
+use Rattle.checker.specs.Moves.{CanMove, Moves}
 use Rattle.checker.specs.declared.Grant.{Grant}
 use Rattle.checker.specs.declared.Grant.the-variants as grant
 use Rattle.checker.specs.declared.SliceAnswer.{SliceAnswer}
 use Rattle.checker.specs.declared.SliceAnswer.the-variants as answer
+use Rattle.checker.proofs.Moving.{shape-moved}
 use Rattle.checker.proofs.OneAnswer.{lesser-stands}
 use Rattle.host.specs.Answers.{sliceAnswered, startAnswered, bytesAfterSlice, bytesAfterStart, resultAlone}
 use Rattle.host.specs.Calls.{Lent, AfterMove, HostStarts, HostSlices, HostMoves}
@@ -105,8 +105,8 @@ pub record MoveCarried (old cursor : List ℕ) (mv : Move) (m′ : Lent) (plan :
   pub file : IsFile Sized plan table
   pub left : ReadsCursor (savedIn (m′ .out)) (read.Saved to)
 
-moved-words : (t : List ℕ) (mv : Move) (z : Sized t) (below : mv .leg < legCount t) → AllWords t → MoveOfWords mv → revisionOf t < maxWord → AllWords (moved t mv)
-moved-words t mv z below w o r = words-of (moved t mv) (moved-each t z mv below (λ (n : ℕ). n ≤ maxWord) (λ i. word-at t w i) (omega (arith, r)) o)
+moved-words : (t : List ℕ) (mv : Move) → Sized t → CanMove t mv → AllWords t → MoveOfWords mv → AllWords (moved t mv)
+moved-words t mv z can w o = words-of (moved t mv) (moved-each t z mv (can .below) (λ (n : ℕ). n ≤ maxWord) (λ i. word-at t w i) (omega (arith, can .rises)) o)
 
 move-of : (old plan cursor t : List ℕ) (c : Cursor) (mv : Move) (m m′ : Lent) (g : Grant) (u : List ℕ) (a : Answer)
     → IsFile Sized old t → ReadsCursor cursor (read.Saved c) → MoveOfWords mv → Moves t c mv g u → NotRefused a → AfterMove g u m a m′
@@ -114,14 +114,15 @@ move-of : (old plan cursor t : List ℕ) (c : Cursor) (mv : Move) (m m′ : Lent
 move-of old plan cursor t c mv m m′ (grant.Granted d) u a f q o r h (inl x) e = absurd (omega (arith, ap resultAlone (x .answer), h))
 move-of old plan cursor t c mv m m′ (grant.Granted d) u a f q o r h (inr x) e =
     let y = x .1 in
-    let w = r .cursor .shape in
-    let z : Sized u = subst Sized (sym (r .table)) (moves-keep-shape t _ (moved-same t (w .sized) mv (r .below)) w .sized) in
-    let ws : AllWords u = subst AllWords (sym (r .table)) (moved-words t mv (w .sized) (r .below) (f .words) o (r .rises)) in
+    let w = r .allowed .cursor .shape in
+    let can = r .allowed .can in
+    let z : Sized u = subst Sized (sym (r .table)) (shape-moved w can .sized) in
+    let ws : AllWords u = subst AllWords (sym (r .table)) (moved-words t mv (w .sized) can (f .words) o) in
     let size : a .beside ≡ length (fileOf u) = ap (λ (b : Answer). b .beside) (y .answer) in
     let bytes : plan ≡ fileOf u
     = e ∙ ap (λ (n : ℕ). take n (m′ .file)) size ∙ ap (λ (l : Lent). take (length (fileOf u)) (l .file)) (y .after) ∙ overlaid-taken (m .file) (fileOf u) in
-    let stands : PlaceOrEnd t (d .leg) (d .place) = lesser-stands (r .cursor) (r .below) (r .lesser) in
-    let dw = cursor-words t d (w .sized) (omega (arith, r .revision, r .rises)) stands in
+    let stands : PlaceOrEnd t (d .leg) (d .place) = lesser-stands (r .allowed .cursor) (can .below) (r .lesser) in
+    let dw = cursor-words t d (w .sized) (omega (arith, r .revision, can .rises)) stands in
     record {
       before = t;
       before-file = f;

@@ -6,8 +6,8 @@ use mathlib.Core.List.{List, [], _∷_}
 use mathlib.Core.Logic.{inl, inr}
 use lib.ListN.{length}
 use native.Mathlib.Omega.{arith}
-use Rattle.numbers.specs.Number.{maxWord, noRoom}
-use Rattle.table.specs.Layout.{revisionOf, legCount, Sized}
+use Rattle.numbers.specs.Number.{noRoom}
+use Rattle.table.specs.Layout.{Sized}
 use Rattle.table.specs.declared.Move.{Move}
 use Rattle.files.specs.Reading.{IsFile}
 use Rattle.files.specs.Cursors.{ReadsCursor}
@@ -22,7 +22,7 @@ use Rattle.rules.specs.declared.Rule.the-variants as rule
 use Rattle.places.specs.Order.{placeCount}
 use Rattle.checker.specs.Cursors.{CursorRight}
 use Rattle.checker.specs.Slices.{Starts, Slices}
-use Rattle.checker.specs.Moves.{Moves}
+use Rattle.checker.specs.Moves.{CanMove, MoveAllowed, Moves}
 use Rattle.checker.specs.declared.Grant.{Grant}
 use Rattle.checker.specs.declared.Grant.the-variants as grant
 use Rattle.checker.specs.declared.SliceAnswer.{SliceAnswer}
@@ -107,23 +107,22 @@ slices-go-on latest earlier plan b out a out′ i h (inr (t, f, inr (c, g, inr x
 
 -- A granted move has room for its file, and from a right cursor no other fault is left.
 move-answers : (t : List ℕ) (c : Cursor) (mv : Move) (m : Lent) (g : Grant) (u : List ℕ) (a : Answer) (m′ : Lent)
-    → CursorRight t c → mv .leg < legCount t → revisionOf t < maxWord → (a .result ≡ refusedResult noRoom → ⊥) → Moves t c mv g u → AfterMove g u m a m′ → NotRefused a
-move-answers t c mv m (grant.Granted d) u a m′ r below rises room x (inl y) = absurd (room (omega (arith, ap resultAlone (y .answer), y .fault .0)))
-move-answers t c mv m (grant.Granted d) u a m′ r below rises room x (inr y) = omega (arith, ap resultAlone (y .1 .answer))
-move-answers t c mv m (grant.Refused k p d) u a m′ r below rises room x y = absurd (move-no-fault mv r below rises (x .0))
+    → MoveAllowed t c mv → (a .result ≡ refusedResult noRoom → ⊥) → Moves t c mv g u → AfterMove g u m a m′ → NotRefused a
+move-answers t c mv m (grant.Granted d) u a m′ r room x (inl y) = absurd (room (omega (arith, ap resultAlone (y .answer), y .fault .0)))
+move-answers t c mv m (grant.Granted d) u a m′ r room x (inr y) = omega (arith, ap resultAlone (y .1 .answer))
+move-answers t c mv m (grant.Refused k p d) u a m′ r room x y = absurd (move-no-fault r (x .0))
 
 moves-go-on : (latest : HostCall) (earlier : List HostCall) (plan t : List ℕ) (mv : Move) (m : Lent) (a : Answer) (m′ : Lent)
-    → Carried (latest ∷ earlier) plan → IsFile Sized plan t → mv .leg < legCount t → revisionOf t < maxWord → maxCursorBytes ≤ length (m .out)
+    → Carried (latest ∷ earlier) plan → IsFile Sized plan t → CanMove t mv → maxCursorBytes ≤ length (m .out)
     → (a .result ≡ refusedResult noRoom → ⊥) → HostMoves plan (savedIn (bytesLeft latest)) mv m a m′ → NotRefused a
-moves-go-on latest earlier plan t mv m a m′ i is below rises h room (inl x) = absurd (file-no-fault (i .file) (x .fault))
-moves-go-on latest earlier plan t mv m a m′ i is below rises h room (inr (u, f, inl x)) =
+moves-go-on latest earlier plan t mv m a m′ i is can h room (inl x) = absurd (file-no-fault (i .file) (x .fault))
+moves-go-on latest earlier plan t mv m a m′ i is can h room (inr (u, f, inl x)) =
     absurd (saved-not-unread (savedIn (bytesLeft latest)) (cursorOf (i .latest)) (x .number) (x .at) (left-is latest (i .latest) (i .mirrored .0)) (x .fault))
-moves-go-on latest earlier plan t mv m a m′ i is below rises h room (inr (u, f, inr (c, g, inl x))) = absurd (x .fault .2 h)
-moves-go-on latest earlier plan t mv m a m′ i is below rises h room (inr (u, f, inr (c, g, inr x))) =
+moves-go-on latest earlier plan t mv m a m′ i is can h room (inr (u, f, inr (c, g, inl x))) = absurd (x .fault .2 h)
+moves-go-on latest earlier plan t mv m a m′ i is can h room (inr (u, f, inr (c, g, inr x))) =
     let k = given-right latest earlier plan u c i f g in
-    let same = same-file is f in
-    move-answers u c mv m (x .1 .given) (x .1 .table) a m′ k
-    (subst (λ (v : List ℕ). mv .leg < legCount v) same below) (subst (λ (v : List ℕ). revisionOf v < maxWord) same rises) room (x .1 .moves) (x .1 .after)
+    let may : MoveAllowed u c mv = record { cursor = k; can = subst (λ (v : List ℕ). CanMove v mv) (same-file is f) can } in
+    move-answers u c mv m (x .1 .given) (x .1 .table) a m′ may room (x .1 .moves) (x .1 .after)
 
 verdict-of : (x : SliceAnswer) (a : Answer) (out : List ℕ) → NotRefused a → a ≡ sliceAnswered x → ReadsCursor (savedIn out) (read.Saved (cursorOfAnswer x))
     → (a .result ≡ 1 → ⊥) → (v : Verdict) × HostGives a out v
@@ -136,8 +135,8 @@ pub host-runs-go-on : HostRunsGoOn
 host-runs-go-on = record {
   start = λ calls plan out a out′ r h x. starts-go-on calls plan out a out′ (carried calls plan r) h x;
   slice = λ latest earlier plan b out a out′ r h x. slices-go-on latest earlier plan b out a out′ (carried (latest ∷ earlier) plan r) h x;
-  move-leg = λ latest earlier plan t mv m a m′ r is below rises h room x.
-      moves-go-on latest earlier plan t mv m a m′ (carried (latest ∷ earlier) plan r) is below rises h
+  move-leg = λ latest earlier plan t mv m a m′ r is can h room x.
+      moves-go-on latest earlier plan t mv m a m′ (carried (latest ∷ earlier) plan r) is can h
       (move-room-is-enough plan (savedIn (bytesLeft latest)) mv m a m′ h room x) x;
   verdict = λ plan cursor b a out y p.
       let s = slice-carried plan cursor b (y .out) a out (y .not-refused) (y .slices) in verdict-of (s .told) a out (y .not-refused) (s .answer) (s .left) p;

@@ -6,8 +6,7 @@ use mathlib.Core.List.{List}
 use mathlib.Core.Logic.{_⊎_, inl, inr}
 use native.Mathlib.Omega.{arith}
 use Rattle.numbers.specs.Number.{maxWord}
-use Rattle.table.specs.Records.{moved}
-use Rattle.table.specs.declared.Move.{Move}
+use Rattle.table.specs.Records.{moved, moveTo}
 use Rattle.table.specs.PlanA.{planWith, revisedA, holdA}
 use Rattle.shape.specs.Shape.{WellFormedTable}
 use Rattle.shape.proofs.AtNumbers.{plan-a-in-range, plans-are-well-formed}
@@ -51,13 +50,10 @@ module _ (revision o0 o1 o2 : ℕ) where
   pub right : (a p : ℕ) → PlaceOrEnd t a p → CursorRight t (at revision a p)
   right a p s = record { shape = shape; revision = refl; stands = s }
 
-  pub granted : (a p : ℕ) (mv : Move) (b q : ℕ) → revision < maxWord → PlaceOrEnd t a p → mv .leg < 3
-      → ((b ≡ a) × (q ≡ p)) ⊎ ((b ≡ mv .leg) × (q ≡ 0)) → rank b q ≤ rank a p → rank b q ≤ rank (mv .leg) 0
-      → Moves t (at revision a p) mv (Granted (at (revision + 1) b q)) (moved t mv)
-  granted a p mv b q rises s l one given to-leg = record {
-    cursor = right a p s;
-    below = l;
-    rises = rises;
+  pub granted : (a p : ℕ) → PlaceOrEnd t a p → (leg offset : ℕ) → leg < 3 → revision < maxWord → (b q : ℕ) → ((b ≡ a) × (q ≡ p)) ⊎ ((b ≡ leg) × (q ≡ 0))
+      → rank b q ≤ rank a p → rank b q ≤ rank leg 0 → Moves t (at revision a p) (moveTo leg offset) (Granted (at (revision + 1) b q)) (moved t (moveTo leg offset))
+  granted a p s leg offset l rises b q one given to-leg = record {
+    allowed = record { cursor = right a p s; can = record { below = l; rises = rises } };
     table = refl;
     revision = refl;
     lesser = record { one = one; given = given; to-leg = to-leg };

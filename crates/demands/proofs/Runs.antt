@@ -6,20 +6,19 @@ use mathlib.Core.List.{List, [], _∷_}
 use mathlib.Core.Logic.{inl, inr, ⊎-elim}
 use native.Mathlib.Omega.{arith}
 use Rattle.basics.proofs.Splits.{lt-or-ge}
-use Rattle.table.specs.Layout.{revisionOf, legCount}
+use Rattle.table.specs.Layout.{revisionOf}
 use Rattle.table.specs.Records.{moved}
 use Rattle.table.specs.declared.Move.{Move}
-use Rattle.table.proofs.Moved.{moved-revision, moved-legs, moved-other}
 use Rattle.shape.specs.Shape.{WellFormedTable}
 use Rattle.shape.proofs.OneShape.{well-no-fault}
-use Rattle.shape.proofs.Moved.{moved-same, moves-keep-shape}
 use Rattle.files.specs.declared.Cursor.{Cursor}
 use Rattle.rules.proofs.Staying.{earlier-places-stay}
 use Rattle.places.specs.Order.{IsPlace, IsEnd, PlaceOrEnd, HoldFrom}
 use Rattle.places.proofs.Ranks.{below-mono}
 use Rattle.checker.specs.Cursors.{cursorRank, CursorRight}
 use Rattle.checker.specs.Slices.{Starts, Slices, Went}
-use Rattle.checker.specs.Moves.{MoveRight, Moves}
+use Rattle.checker.specs.Moves.{CanMove, MoveRight, Moves}
+use Rattle.checker.proofs.Moving.{same-but-moved, shape-moved, revision-moved, legs-moved, other-leg}
 use Rattle.checker.proofs.OneAnswer.{lesser-stands}
 use Rattle.checker.specs.declared.Grant.{Grant}
 use Rattle.checker.specs.declared.Grant.the-variants.{Granted, Refused}
@@ -63,44 +62,44 @@ module _ (u : List ℕ) (c d : Cursor) (mv : Move) (m : MoveRight u c mv d (move
   abbrev t : List ℕ
   t = moved u mv
 
-  shape-moved : WellFormedTable t
-  shape-moved = moves-keep-shape u t (moved-same u (m .cursor .shape .sized) mv (m .below)) (m .cursor .shape)
+  shape : WellFormedTable u
+  shape = m .allowed .cursor .shape
 
-  revision-moved : revisionOf t ≡ revisionOf u + 1
-  revision-moved = moved-revision u (m .cursor .shape .sized) mv (m .below)
+  can : CanMove u mv
+  can = m .allowed .can
 
-  legs-moved : legCount t ≡ legCount u
-  legs-moved = moved-legs u (m .cursor .shape .sized) mv (m .below)
+  higher : revisionOf t ≡ revisionOf u + 1
+  higher = revision-moved shape can
 
   held-moved : HoldFrom u 0 (cursorRank c) → HoldFrom t 0 (cursorRank d)
   held-moved h a p i from below =
-      let l = legs-moved in
+      let l = legs-moved shape can in
       let low : a < mv .leg = ⊎-elim (λ (g : a < mv .leg). g) (λ (g : mv .leg ≤ a). absurd (omega (arith, below, m .lesser .to-leg, below-mono (mv .leg) a g))) (lt-or-ge a (mv .leg)) in
       let here : IsPlace u a p = record { leg = omega (arith, i .leg); place = i .place } in
-      earlier-places-stay u t a p (m .cursor .shape) (moved-same u (m .cursor .shape .sized) mv (m .below)) (here .leg) (i .place)
-      (λ b le. sym (moved-other u (m .cursor .shape .sized) mv (m .below) b (omega (arith, here .leg)) (λ e. omega (arith, e, low))))
+      earlier-places-stay u t a p shape (same-but-moved shape can) (here .leg) (i .place)
+      (λ b le. sym (other-leg shape can b (omega (arith, here .leg)) (λ e. omega (arith, e, low))))
       (h a p here from (omega (arith, below, m .lesser .given)))
 
   stands-moved : PlaceOrEnd t (d .leg) (d .place)
   stands-moved =
-      let l = legs-moved in
+      let l = legs-moved shape can in
       ⊎-elim
       (λ (i : IsPlace u (d .leg) (d .place)). inl (record { leg = omega (arith, i .leg); place = i .place }))
       (λ (e : IsEnd u (d .leg) (d .place)). inr (record { leg = omega (arith, e .leg); place = e .place }))
-      (lesser-stands (m .cursor) (m .below) (m .lesser))
+      (lesser-stands (m .allowed .cursor) (can .below) (m .lesser))
 
   pub right-moved : CursorRight t d
-  right-moved = record { shape = shape-moved; revision = m .revision ∙ sym revision-moved; stands = stands-moved }
+  right-moved = record { shape = shape-moved shape can; revision = m .revision ∙ sym higher; stands = stands-moved }
 
   kept-moved : Kept u c → Kept t d
-  kept-moved k = record { old = omega (arith, m .revision, revision-moved); held = λ e. held-moved (k .held (m .cursor .revision)) }
+  kept-moved k = record { old = omega (arith, m .revision, higher); held = λ e. held-moved (k .held (m .allowed .cursor .revision)) }
 
   older : (e : Cursor) → Kept u e → Kept t e
-  older e k = record { old = omega (arith, k .old, revision-moved); held = λ q. absurd (omega (arith, k .old, revision-moved, q)) }
+  older e k = record { old = omega (arith, k .old, higher); held = λ q. absurd (omega (arith, k .old, higher, q)) }
 
   keeps-moved : (earlier : List Call) → Keeps u earlier → Kept u c → Keeps t (move-leg c mv (Granted d) ∷ earlier)
   keeps-moved earlier i k =
-      keeps-more t (move-leg c mv (Granted d)) earlier (record { shape = shape-moved; cursors = λ e out. older e (i .cursors e out) }) (kept-moved k)
+      keeps-more t (move-leg c mv (Granted d)) earlier (record { shape = shape-moved shape can; cursors = λ e out. older e (i .cursors e out) }) (kept-moved k)
 
 keeps-move : (t u : List ℕ) (c : Cursor) (mv : Move) (g : Grant) (earlier : List Call) → Keeps u earlier → Kept u c → Moves u c mv g t
     → Keeps t (move-leg c mv g ∷ earlier)

@@ -2,17 +2,15 @@
 -- table, and cursors are not altered, each verdict is that of a whole check of the table as it stands then. With the newest cursor each time, a verdict
 -- has come since the start or last granted move once at least one slice has run since then and the budgets since then add up to at least the number of
 -- places.
-use Prim.Native.Nat.{ℕ, _≤_, _<_}
+use Prim.Native.Nat.{ℕ, _≤_}
 use mathlib.Core.Path.{_≡_}
 use mathlib.Core.List.{List, _∷_, _++_}
-use Rattle.numbers.specs.Number.{maxWord}
-use Rattle.table.specs.Layout.{revisionOf, legCount}
 use Rattle.table.specs.declared.Move.{Move}
 use Rattle.shape.specs.Shape.{WellFormedTable}
 use Rattle.files.specs.declared.Cursor.{Cursor}
 use Rattle.places.specs.Order.{placeCount}
 use Rattle.checker.specs.Slices.{Slices}
-use Rattle.checker.specs.Moves.{Moves}
+use Rattle.checker.specs.Moves.{CanMove, Moves}
 use Rattle.checker.specs.declared.Grant.the-variants.{Refused}
 use Rattle.checker.specs.declared.SliceAnswer.{SliceAnswer}
 use Rattle.checker.specs.declared.SliceAnswer.the-variants as answer
@@ -46,14 +44,13 @@ RunsEndInTime =
     → Run (part ++ last ∷ earlier) t → Renews last → Since (withoutRefused part) last
     → HasSlice (withoutRefused part) → placeCount t ≤ budgets (withoutRefused part) → HasVerdict part
 
--- So nothing is lost by passing over what was refused: in a run no slice that is given the newest cursor is refused, nor a move with it of a leg of the
--- table, where the revision can rise.
+-- So nothing is lost by passing over what was refused: in a run no slice that is given the newest cursor is refused, nor a move with it that can be made: of a leg of
+-- the table, where the revision can rise.
 pub record RunsGoOn : Type 0 where
   pub slice : (calls : List Call) (t : List ℕ) (latest : Call) (before : List Call) (budget k p : ℕ) (d : Cursor)
       → Run calls t → withoutRefused calls ≡ latest ∷ before → Slices t (cursorOf latest) budget (answer.Refused k p d) → ⊥
   pub move-leg : (calls : List Call) (t : List ℕ) (latest : Call) (before : List Call) (mv : Move) (k p : ℕ) (d : Cursor) (u : List ℕ)
-      → Run calls t → withoutRefused calls ≡ latest ∷ before → mv .leg < legCount t → revisionOf t < maxWord
-      → Moves t (cursorOf latest) mv (Refused k p d) u → ⊥
+      → Run calls t → withoutRefused calls ≡ latest ∷ before → CanMove t mv → Moves t (cursorOf latest) mv (Refused k p d) u → ⊥
 
 -- The table stays well-formed, so that no start of a run is refused.
 abbrev pub RunsKeepShape : Type 0

@@ -1,11 +1,10 @@
 -- Demand 3 for C: in every run of the calls on bytes each verdict is that of a whole check of the plan as it stands then, and a verdict comes in time.
-use Prim.Native.Nat.{ℕ, _+_, _≤_, _<_}
+use Prim.Native.Nat.{ℕ, _+_, _≤_}
 use mathlib.Core.Path.{_≡_}
 use mathlib.Core.List.{List, [], _∷_, _++_}
 use mathlib.Core.Logic.{_⊎_}
 use lib.ListN.{length}
-use Rattle.numbers.specs.Number.{maxWord}
-use Rattle.table.specs.Layout.{revisionOf, legCount, Sized}
+use Rattle.table.specs.Layout.{Sized}
 use Rattle.table.specs.declared.Move.{Move}
 use Rattle.files.specs.Reading.{IsFile}
 use Rattle.files.specs.Cursors.{ReadsCursor}
@@ -14,6 +13,7 @@ use Rattle.files.specs.declared.Cursor.{Cursor}
 use Rattle.files.specs.declared.CursorRead.the-variants as read
 use Rattle.rules.specs.declared.Rule.{Rule}
 use Rattle.places.specs.Order.{placeCount}
+use Rattle.checker.specs.Moves.{CanMove}
 use Rattle.host.specs.Answers.{ruleResult}
 use Rattle.host.specs.Calls.{Lent, HostStarts, HostSlices, HostMoves}
 use Rattle.host.specs.Theorems.{moveBytes}
@@ -82,8 +82,8 @@ HostRunsEndInTime =
     → HostRun ((latest ∷ part) ++ last ∷ earlier) plan → HostRenews last → HostSince (latest ∷ part) last
     → IsFile Sized plan t → placeCount t ≤ hostBudgets (latest ∷ part) → HostHasVerdict (latest ∷ part)
 
--- The calls go on, where 15 bytes are lent for the cursor: in a run no start is refused, nor a slice that is given the newest cursor; nor a move with it of a leg of
--- the table whose file the plan is, where the revision can rise and the plan's length and 5 bytes more are lent for the new file. And a slice that did not pause
+-- The calls go on, where 15 bytes are lent for the cursor: in a run no start is refused, nor a slice that is given the newest cursor; nor a move with it that
+-- can be made of the table whose file the plan is, where the plan's length and 5 bytes more are lent for the new file. And a slice that did not pause
 -- gave a verdict.
 pub record HostRunsGoOn : Type 0 where
   pub start : (calls : List HostCall) (plan out : List ℕ) (a : Answer) (out′ : List ℕ)
@@ -91,7 +91,7 @@ pub record HostRunsGoOn : Type 0 where
   pub slice : (latest : HostCall) (earlier : List HostCall) (plan : List ℕ) (budget : ℕ) (out : List ℕ) (a : Answer) (out′ : List ℕ)
       → HostRun (latest ∷ earlier) plan → maxCursorBytes ≤ length out → HostSlices plan (savedIn (bytesLeft latest)) budget out a out′ → NotRefused a
   pub move-leg : (latest : HostCall) (earlier : List HostCall) (plan t : List ℕ) (mv : Move) (m : Lent) (a : Answer) (m′ : Lent)
-      → HostRun (latest ∷ earlier) plan → IsFile Sized plan t → mv .leg < legCount t → revisionOf t < maxWord
+      → HostRun (latest ∷ earlier) plan → IsFile Sized plan t → CanMove t mv
       → maxCursorBytes ≤ length (m .out) → length plan + moveBytes ≤ length (m .file)
       → HostMoves plan (savedIn (bytesLeft latest)) mv m a m′ → NotRefused a
   pub verdict : (plan cursor : List ℕ) (budget : ℕ) (a : Answer) (out : List ℕ)

@@ -11,7 +11,7 @@ use Rattle.demands.specs.Verdicts.{violated, nothing-violated}
 use Rattle.demands.specs.HostRuns.{HostCall, start, slice, move-leg, SliceMade, HostRun}
 use Rattle.demands.specs.DemandThreeForC.{HostGives, HostSince, HostRenews, hostBudgets, HostHasVerdict}
 
--- Plan A's file with revision 1 and leg 2 at 576, 42 bytes.
+-- Plan A's file with revision 1 and leg 2 at 576, and how many bytes it has.
 abbrev pub movedFile : List ℕ
 movedFile =
     0x01 ∷ 0x02 ∷ 0x02 ∷ 0x03 ∷ 0x64 ∷
@@ -22,6 +22,9 @@ movedFile =
     0x00 ∷ 0x00 ∷ 0x00 ∷
     0x00 ∷ 0x01 ∷ 0x98 ∷ 0x09 ∷
     0x01 ∷ 0x00 ∷ 0xC0 ∷ 0x04 ∷ []
+
+abbrev pub movedBytes : ℕ
+movedBytes = 42
 
 -- A saved cursor of three bytes, and 15 lent bytes with it in front. All of them were 0 before the first call.
 abbrev pub zeros : ℕ → List ℕ
@@ -48,10 +51,13 @@ twoSlices = slice (saved 0 2 3) 5 (answered 5 1) (left 0 2 3) ∷ ten ∷ []
 abbrev pub violatedInC : List HostCall
 violatedInC = twoSlices ++ begunInC
 
--- A move of leg 2 to 576, for which 46 bytes are lent: granted, 42 bytes, cursor (2,0) of revision 1. Then a slice of 5 accepts with 5 steps.
+-- A move of leg 2 to 576, for which 4 bytes more are lent than its file has: granted, with the file's length, and cursor (2,0) of revision 1.
+abbrev pub moveInC : HostCall
+moveInC = move-leg (saved 0 2 3) (moveTo 2 576) (answered 0 movedBytes) (lent (movedFile ++ zeros 4) (left 1 2 0))
+
+-- Then a slice of 5 accepts with 5 steps.
 abbrev pub acceptedInC : List HostCall
-acceptedInC =
-    slice (saved 1 2 0) 5 (answered 0 5) (left 1 3 0) ∷ move-leg (saved 0 2 3) (moveTo 2 576) (answered 0 42) (lent (movedFile ++ zeros 4) (left 1 2 0)) ∷ violatedInC
+acceptedInC = slice (saved 1 2 0) 5 (answered 0 5) (left 1 3 0) ∷ moveInC ∷ violatedInC
 
 pub record HostRunsAtNumbers : Type 0 where
   pub violates : HostRun violatedInC planAFile
@@ -59,7 +65,7 @@ pub record HostRunsAtNumbers : Type 0 where
   pub accepts : HostRun acceptedInC movedFile
   pub tells-none : HostGives (answered 0 5) (left 1 3 0) nothing-violated
   -- The two slices have all that demand 3 asks for, and their verdict; the first alone has none.
-  pub renewed : HostRenews (start (answered 0 12) (left 0 0 0)) × HostRenews (move-leg (saved 0 2 3) (moveTo 2 576) (answered 0 42) (lent (movedFile ++ zeros 4) (left 1 2 0)))
+  pub renewed : HostRenews (start (answered 0 12) (left 0 0 0)) × HostRenews moveInC
   pub asked-for : HostSince twoSlices (start (answered 0 12) (left 0 0 0)) × (hostBudgets twoSlices ≡ 15)
   pub has-verdict : HostHasVerdict twoSlices
   pub no-verdict : HostHasVerdict (ten ∷ []) → ⊥

@@ -1,29 +1,28 @@
--- A granted move sets two words, so the new plan file has four bytes more for the offset and one more for the revision, at the most; and no plan file has more than
--- `maxFileBytes`. No other refusal of a move is 15. Assumes nothing.
-use Prim.Native.Nat.{ℕ, _+_, _≤_, _<_}
-use mathlib.Core.Path.{_≡_, refl, ap}
+-- A granted move sets words of its leg and the revision, so that the new plan file has a few bytes more at the most; and no plan file is longer than the longest. No other
+-- refusal of a move is 15. Assumes nothing.
+use Prim.Native.Nat.{ℕ, _+_, _≤_}
+use mathlib.Core.Path.{_≡_, ap}
 use mathlib.Core.List.{List}
 use mathlib.Core.Logic.{_⊎_, inl, inr}
 use native.Mathlib.Omega.{arith}
-use lib.ListN.{length, getD, set}
-use lib.Seq.{getD-set-other}
+use lib.ListN.{length}
 use Rattle.numbers.specs.Number.{noRoom, bytesEnd, bytesOf}
 use Rattle.numbers.specs.Series.{fileOf}
 use Rattle.numbers.proofs.OneNumber.{number-bytes-at-most, next-number-bytes}
 use Rattle.numbers.proofs.Rows.{file-set}
-use Rattle.table.specs.Layout.{revisionOf, legCount, Sized}
+use Rattle.table.specs.Layout.{revisionOf, Sized}
 use Rattle.table.specs.Size.{aboveLimit}
-use Rattle.table.specs.Records.{revisionAt, offsetAt, moved}
+use Rattle.table.specs.Records.{moved}
 use Rattle.table.specs.declared.Move.{Move}
-use Rattle.table.proofs.Moved.{revision-inside, moved-is, offset-inside}
+use Rattle.table.proofs.Moved.{moved-adds}
 use Rattle.files.specs.Reading.{leftOver, IsFile}
 use Rattle.files.specs.Theorems.{maxCursorBytes}
 use Rattle.files.specs.declared.Cursor.{Cursor}
 use Rattle.files.proofs.ComeBack.{file-bytes-at-most}
 use Rattle.files.proofs.Refused.{plan-refused, cursor-refused}
 use Rattle.shape.specs.Shape.{WellFormedTable}
-use Rattle.shape.proofs.Moved.{moves-keep-shape, moved-same}
-use Rattle.checker.specs.Moves.{Moves}
+use Rattle.checker.specs.Moves.{CanMove, Moves}
+use Rattle.checker.proofs.Moving.{shape-moved}
 use Rattle.checker.proofs.Refused.{move-of-table}
 use Rattle.checker.specs.declared.Grant.{Grant}
 use Rattle.checker.specs.declared.Grant.the-variants as grant
@@ -32,26 +31,17 @@ use Rattle.host.specs.Answers.{refusedResult, refusal, resultAlone}
 use Rattle.host.specs.Calls.{Lent, AfterMove, HostMoves}
 use Rattle.host.specs.Theorems.{moveBytes, MoveRoomIsEnough, FullRoomIsEnough}
 
-moved-file : (t : List ℕ) (mv : Move) → Sized t → mv .leg < legCount t → length (fileOf (moved t mv)) ≤ length (fileOf t) + moveBytes
-moved-file t mv z h =
-    let at = offsetAt t (mv .leg) in
-    let once = set t at (mv .offset) in
-    let first = file-set t at (mv .offset) (offset-inside t z (mv .leg) h) in
-    let second = file-set once revisionAt (revisionOf t + 1) (revision-inside t at (mv .offset) z) in
-    let same : getD once revisionAt 0 ≡ revisionOf t = getD-set-other t at revisionAt (mv .offset) 0 (λ e. omega (arith, e)) in
-    let old : length (bytesOf (getD once revisionAt 0)) ≡ length (bytesOf (revisionOf t)) = ap (λ (x : ℕ). length (bytesOf x)) same in
-    let is = ap (λ (l : List ℕ). length (fileOf l)) (moved-is t mv (mv .leg) at (revisionOf t + 1) refl refl refl) in
-    let next = next-number-bytes (revisionOf t) in
-    let most = number-bytes-at-most (mv .offset) .1 in
-    let least = number-bytes-at-most (getD t at 0) .0 in
-    omega (arith, first, second, old, is, next, most, least)
+moved-file : {t : List ℕ} {mv : Move} → Sized t → CanMove t mv → length (fileOf (moved t mv)) ≤ length (fileOf t) + moveBytes
+moved-file {t} {mv} z can =
+    moved-adds t z mv (can .below) (λ (l : List ℕ). length (fileOf l)) (λ (x : ℕ). length (bytesOf x)) 4 1 file-set
+    (λ x. number-bytes-at-most x .0) (number-bytes-at-most (mv .offset) .1) (next-number-bytes (revisionOf t))
 
 -- A granted move has room; a refused one is refused with another number.
 made-room : (t : List ℕ) (c : Cursor) (mv : Move) (m : Lent) (g : Grant) (u : List ℕ) (a : Answer) (m′ : Lent)
-    → Sized t → (WellFormedTable t → mv .leg < legCount t → length (fileOf (moved t mv)) ≤ length (m .file))
+    → Sized t → (WellFormedTable t → CanMove t mv → length (fileOf (moved t mv)) ≤ length (m .file))
     → Moves t c mv g u → AfterMove g u m a m′ → a .result ≡ refusedResult noRoom → ⊥
 made-room t c mv m (grant.Granted d) u a m′ z fits r (inl x) e =
-    x .fault .2 (omega (arith, fits (r .cursor .shape) (r .below), ap (λ (l : List ℕ). length (fileOf l)) (r .table)))
+    x .fault .2 (omega (arith, fits (r .allowed .cursor .shape) (r .allowed .can), ap (λ (l : List ℕ). length (fileOf l)) (r .table)))
 made-room t c mv m (grant.Granted d) u a m′ z fits r (inr x) e = omega (arith, ap resultAlone (x .1 .answer), e)
 made-room t c mv m (grant.Refused k p d) u a m′ z fits r x e =
     let i = ap resultAlone (x .0) in move-of-table t c mv k p (r .0) .not-of-bytes (omega arith, omega arith)
@@ -63,7 +53,7 @@ module _ (plan cursor : List ℕ) (mv : Move) (m : Lent) (a : Answer) (m′ : Le
   not-of-the-plan k p is (inr x) = omega (arith, ap resultAlone is, e, x .1)
 
   room-is-enough : maxCursorBytes ≤ length (m .out)
-      → ((t : List ℕ) → IsFile Sized plan t → WellFormedTable t → mv .leg < legCount t → length (fileOf (moved t mv)) ≤ length (m .file))
+      → ((t : List ℕ) → IsFile Sized plan t → WellFormedTable t → CanMove t mv → length (fileOf (moved t mv)) ≤ length (m .file))
       → HostMoves plan cursor mv m a m′ → ⊥
   room-is-enough o fits (inl r) = not-of-the-plan (r .number) (r .at) (r .answer) (plan-refused plan (r .number) (r .at) (r .fault))
   room-is-enough o fits (inr (t, f, inl r)) = omega (arith, ap resultAlone (r .answer), e, cursor-refused cursor (r .number) (r .at) (r .fault) .1)
@@ -74,15 +64,12 @@ module _ (plan cursor : List ℕ) (mv : Move) (m : Lent) (a : Answer) (m′ : Le
 pub move-room-is-enough : MoveRoomIsEnough
 move-room-is-enough plan cursor mv m a m′ o h x e =
     room-is-enough plan cursor mv m a m′ e o
-    (λ t f w below. omega (arith, moved-file t mv (w .sized) below, ap length (f .bytes), h))
+    (λ t f w can. omega (arith, moved-file (w .sized) can, ap length (f .bytes), h))
     x
 
 -- A move keeps the shape, so the new plan file is one like any other.
 pub full-room-is-enough : FullRoomIsEnough
 full-room-is-enough plan cursor mv m a m′ o h x e =
     room-is-enough plan cursor mv m a m′ e o
-    (λ t f w below.
-    let u = moved t mv in
-    let v = moves-keep-shape t u (moved-same t (w .sized) mv below) w in
-    omega (arith, file-bytes-at-most .1 u (v .sized), h))
+    (λ t f w can. omega (arith, file-bytes-at-most .1 (moved t mv) (shape-moved w can .sized), h))
     x

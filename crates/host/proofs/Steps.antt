@@ -27,8 +27,8 @@ use Rattle.files.proofs.ComeBack.{file-bytes-at-most}
 use Rattle.places.specs.Order.{placesBelow}
 use Rattle.places.proofs.Ranks.{below-mono, places-at-most}
 use Rattle.shape.specs.Shape.{WellFormedTable}
-use Rattle.shape.proofs.Moved.{moves-keep-shape, moved-same}
 use Rattle.shape.proofs.Refused.{shape-of-table}
+use Rattle.checker.proofs.Moving.{shape-moved}
 use Rattle.checker.proofs.Refused.{cursor-of-table, move-of-table}
 use Rattle.checker.specs.Slices.{Starts, Slices}
 use Rattle.checker.specs.Moves.{Moves, MoveRight}
@@ -185,8 +185,7 @@ module _ (t : List ℕ) (c : Cursor) (mv : Move) {g : Grant} (u : List ℕ) wher
   pub moved-sized : {d : Cursor} → g ≡ grant.Granted d → Moves t c mv g u → Sized u
   moved-sized {d} e h =
       let r : MoveRight t c mv d u = subst (λ (x : Grant). Moves t c mv x u) e h in
-      let w = r .cursor .shape in
-      subst Sized (sym (r .table)) (moves-keep-shape t _ (moved-same t (w .sized) mv (r .below)) w .sized)
+      subst Sized (sym (r .table)) (shape-moved (r .allowed .cursor .shape) (r .allowed .can) .sized)
 
 module _ {t : List ℕ} {c : Cursor} {mv : Move} {g : Grant} (u : List ℕ) where
   pub move-refused : {m : Lent} {a : Answer} {k p : ℕ} {d : Cursor} → g ≡ grant.Refused k p d → Moves t c mv g u → a ≡ refusal k p → MovedLeg t c mv m a m

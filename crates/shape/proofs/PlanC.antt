@@ -29,7 +29,7 @@ leg-on t a stream link from to goes =
       stream = omega (arith, ap (λ (l : Leg). l .stream) (leg-of-part t a));
       from-first = omega arith;
       to-last = omega (arith, ap (λ (s : Stream). s .count) (stream-on t a));
-      link = omega (arith, ap (λ (l : Leg). l .link) (leg-of-part t a));
+      in-range = record { link = omega (arith, ap (λ (l : Leg). l .link) (leg-of-part t a)) };
       joined = λ b h e. goes .joined b (omega arith) e;
       not-start = λ e. goes .not-start (e ∙ ap (λ (b : ℕ). linkOf t b .from) first);
       new-node = λ b h l e. goes .new-node b (omega arith) l e;

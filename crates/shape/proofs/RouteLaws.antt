@@ -12,7 +12,7 @@ use Rattle.table.specs.Records.{linkPart, legPart, linkIn, legIn, legAt}
 use Rattle.table.specs.declared.Link.{Link}
 use Rattle.table.specs.declared.Leg.{Leg}
 use Rattle.table.proofs.PartLaws.{link-inside, leg-inside, link-of-part, leg-of-part}
-use Rattle.shape.specs.Legs.{linkOf, LegRight}
+use Rattle.shape.specs.Legs.{linkOf, LegInRange, LegRight}
 use Rattle.shape.specs.Routes.{AtLeg, NoEndAt, GoesOn}
 use Rattle.shape.proofs.LegLaws.{at-inside, own-stream, right-where, first-goes-on, told-by-route, earlier-inside, earlier-link}
 
@@ -52,30 +52,31 @@ module _ {t : List ℕ} {s first a : ℕ} (l : AtLeg t s first a) where
       pub other-stream : (i ≡ s → ⊥) → LegRight t a → ⊥
       other-stream n r = n (names-stream ∙ own-stream l r)
 
-      module _ {k n : ℕ} (names-link : k ≡ leg .link) (many : n ≡ linkCount t) where
-        names-the-link : k ≡ legAt t a .link
-        names-the-link = link-named (l .before .sized) (at-inside l) of is names-link
+      -- What was told of the leg by itself.
+      module _ {n : ℕ} {told : Holds} (many : n ≡ linkCount t) (h : Tells (LegInRange n leg) told) where
+        ranged : (r : Holds) → told ≡ r → Tells (LegInRange (linkCount t) (legAt t a)) r
+        ranged r e = subst (λ (x : Leg). Tells (LegInRange (linkCount t) x) r) (leg-is (l .before .sized) (at-inside l) of is) (rw (many, e) at h)
 
-        pub no-such-link : n ≤ k → LegRight t a → ⊥
-        no-such-link h r = omega (arith, r .link, names-the-link)
+        pub out-of-range : told ≡ No → LegRight t a → ⊥
+        out-of-range e r = ranged No e (r .in-range)
 
-        module _ (own : i ≡ s) (h : k < n) where
+        module _ (clear : told ≡ Yes) (own : i ≡ s) where
           own-leg : legAt t a .stream ≡ s
           own-leg = sym names-stream ∙ own
 
-          link-there : legAt t a .link < linkCount t
-          link-there = omega (arith, names-the-link)
+          in-range : LegInRange (linkCount t) (legAt t a)
+          in-range = ranged Yes clear
 
           pub right-at-first : a ≡ first → LegRight t a
-          right-at-first e = right-where l own-leg link-there (first-goes-on l own-leg link-there e)
+          right-at-first e = right-where l own-leg in-range (first-goes-on l own-leg (in-range .link) e)
 
-          module _ {links : List ℕ} (of-links : links ≡ linkPart t) where
+          module _ {k : ℕ} {links : List ℕ} (names-link : k ≡ leg .link) (of-links : links ≡ linkPart t) where
             pub at-link-lies : linkWords * k + linkWords ≤ length links
-            at-link-lies = link-lies (l .before .sized) (at-inside l) of is names-link of-links link-there
+            at-link-lies = link-lies (l .before .sized) (at-inside l) of is names-link of-links (in-range .link)
 
             told-by-link : (r : Holds) {link : Link} → link ≡ linkIn links k → Tells (GoesOn t first a link) r → Tells (LegRight t a) r
             told-by-link r e g =
-                told-by-route l own-leg link-there r
+                told-by-route l own-leg in-range r
                 (subst (λ (x : Link). Tells (GoesOn t first a x) r) (link-read (l .before .sized) (at-inside l) of is names-link of-links e) g)
 
   -- The first leg of the route and the one before, and what they tell of the link of leg a.
@@ -111,6 +112,7 @@ pub told-by-ends : (r : Holds) (link : Link) {t : List ℕ} {s first a : ℕ} {l
     → start ≡ linkOf t first → (link .to ≡ start .from → ⊥) → Tells (NoEndAt t first a (link .to)) r → Tells (GoesOn t first a link) r
 told-by-ends r link l later is-last joined is-start n h = told-by-nodes l later link is-last is-start r joined n h
 
-pub told-by-leg : (r : Holds) {t legs links : List ℕ} {s first a i k n : ℕ} {leg : Leg} {link : Link} → AtLeg t s first a → legs ≡ legPart t → leg ≡ legIn legs a → i ≡ leg .stream
-    → i ≡ s → k ≡ leg .link → n ≡ linkCount t → k < n → links ≡ linkPart t → link ≡ linkIn links k → Tells (GoesOn t first a link) r → Tells (LegRight t a) r
-told-by-leg r l of is names own names-link many h of-links e g = told-by-link l of is names names-link many own h of-links r e g
+pub told-by-leg : (r : Holds) {t legs links : List ℕ} {s first a i k n : ℕ} {leg : Leg} {told : Holds} {link : Link} → AtLeg t s first a → legs ≡ legPart t → leg ≡ legIn legs a
+    → i ≡ leg .stream → i ≡ s → n ≡ linkCount t → told ≡ Yes → Tells (LegInRange n leg) told → k ≡ leg .link → links ≡ linkPart t → link ≡ linkIn links k
+    → Tells (GoesOn t first a link) r → Tells (LegRight t a) r
+told-by-leg r l of is names own many clear h names-link of-links e g = told-by-link l of is names many h clear own names-link of-links r e g

@@ -41,7 +41,7 @@ module _ (s : Told) where
   granted : {d : Cursor} {u : List ℕ} → told ≡ Clear → u ≡ moved t mv → PulledBack cursor (revisionOf t + 1) (mv .leg) d → MoveRight t cursor mv d u
   granted e f b =
       let m = allowed e in
-      record { cursor = m .cursor; below = m .below; rises = m .rises; table = f; revision = b .revision; lesser = pulled-to-lesser (m .cursor .stands) (m .below) b }
+      record { allowed = m; table = f; revision = b .revision; lesser = pulled-to-lesser (m .cursor .stands) (m .can .below) b }
 
 judged-move-requires : tie.Need-judged-move-requires
 judged-move-requires c κs = search needs
@@ -56,10 +56,10 @@ slice-read-revision : tie.Need-slice-read-revision
 slice-read-revision c = let s : Told = search here in let m : MoveAllowed (s .t) (s .cursor) (s .mv) = search (allowed s) in omega (arith, m .cursor .shape .sized .head)
 
 add-revision : tie.Need-add-revision
-add-revision c = let s : Told = search here in let m : MoveAllowed (s .t) (s .cursor) (s .mv) = search (allowed s) in omega (arith, m .rises)
+add-revision c = let s : Told = search here in let m : MoveAllowed (s .t) (s .cursor) (s .mv) = search (allowed s) in omega (arith, m .can .rises)
 
 make-move-requires : tie.Need-make-move-requires
-make-move-requires c κs = let s : Told = search here in let m : MoveAllowed (s .t) (s .cursor) (s .mv) = search (allowed s) in (m .cursor .shape .sized, (m .below, refl))
+make-move-requires c κs = let s : Told = search here in let m : MoveAllowed (s .t) (s .cursor) (s .mv) = search (allowed s) in (m .cursor .shape .sized, (m .can .below, refl))
 
 pulled-back-requires : tie.Need-pulled-back-requires
 pulled-back-requires c κs = search needs
