@@ -43,4 +43,4 @@ cursor-file-small s k p (inr x) =
     let o = x .1 in record { number = omega (arith, x .0); position = row-end s (o .ws) p (o .row) (omega (arith, o .complete)) }
 
 pub table-small : {k p : ℕ} → OfTable k p → Small k p
-table-small o = record { number = o .number; position = omega (arith, o .position) }
+table-small o = record { number = o .small; position = omega (arith, o .position) }

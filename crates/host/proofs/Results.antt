@@ -1,6 +1,6 @@
 -- Each stage of a call has its refusals: the plan file 2 and 12 to 14, the cursor 12 to 14, the room 15, and a table that was read 4 to 11. The rest is 0 to 5.
 -- Assumes nothing.
-use Prim.Native.Nat.{ℕ, _≤_}
+use Prim.Native.Nat.{ℕ, _-_, _≤_}
 use mathlib.Core.Path.{_≡_, ap, subst, sym}
 use mathlib.Core.List.{List}
 use mathlib.Core.Logic.{_⊎_, inl, inr}
@@ -13,8 +13,8 @@ use Rattle.files.specs.Reading.{leftOver}
 use Rattle.files.specs.declared.Cursor.{Cursor}
 use Rattle.files.proofs.Refused.{plan-refused, cursor-refused}
 use Rattle.shape.specs.Shape.{badLink}
-use Rattle.shape.specs.OfTables.{maxRefusal}
-use Rattle.shape.proofs.Refused.{shape-of-table, sized-refused}
+use Rattle.shape.specs.OfTables.{RefusalNumber}
+use Rattle.shape.proofs.Refused.{up-to-room, shape-of-table, sized-refused}
 use Rattle.checker.proofs.Refused.{cursor-of-table, move-of-table, slice-refused, move-refused}
 use Rattle.rules.specs.declared.Rule.{Rule}
 use Rattle.rules.specs.declared.Rule.the-variants as rule
@@ -31,15 +31,17 @@ use Rattle.host.specs.Calls.{Lent, AfterMove, HostStarts, HostSlices, Ho
 use Rattle.host.specs.Theorems.{IsRefusal, ResultsAreThese}
 
 -- A refusal from 4 on, one for room, and one of the plan file.
-refused : (a : Answer) (k p : ℕ) → a ≡ refusal k p → badLink ≤ k → k ≤ maxRefusal → IsRefusal (a .result)
-refused a k p e l h = inr (omega (arith, ap resultAlone e, l), omega (arith, ap resultAlone e, h))
+refused : (a : Answer) (k p : ℕ) → a ≡ refusal k p → badLink ≤ k → RefusalNumber k → IsRefusal (a .result)
+refused a k p e l h =
+    let n : k ≡ a .result - 100 = omega (arith, ap resultAlone e) in
+    inr (omega (arith, ap resultAlone e, l), subst RefusalNumber n h)
 
 for-room : (a : Answer) (k p : ℕ) → a ≡ refusal k p → k ≡ noRoom → IsRefusal (a .result)
-for-room a k p e x = refused a k p e (omega (arith, x)) (omega (arith, x))
+for-room a k p e x = refused a k p e (omega (arith, x)) (up-to-room k (omega (arith, x)))
 
 of-the-plan : (a : Answer) (k p : ℕ) → a ≡ refusal k p → (k ≡ aboveLimit) ⊎ ((bytesEnd ≤ k) × (k ≤ leftOver)) → IsRefusal (a .result)
 of-the-plan a k p e (inl x) = inl (omega (arith, ap resultAlone e, x))
-of-the-plan a k p e (inr x) = refused a k p e (omega (arith, x .0)) (omega (arith, x .1))
+of-the-plan a k p e (inr x) = refused a k p e (omega (arith, x .0)) (up-to-room k (omega (arith, x .1)))
 
 -- The calls on a table that was read.
 start-results : (t : List ℕ) (n : ℕ) (g : Grant) (a : Answer) → Sized t → Starts t g → a ≡ startAnswered n g → (a .result ≡ 0) ⊎ IsRefusal (a .result)

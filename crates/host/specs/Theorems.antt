@@ -1,12 +1,12 @@
 -- What is proved of the calls for C.
-use Prim.Native.Nat.{ℕ, _+_, _≤_}
+use Prim.Native.Nat.{ℕ, _+_, _-_, _≤_}
 use mathlib.Core.Path.{_≡_}
 use mathlib.Core.List.{List}
 use mathlib.Core.Logic.{_⊎_}
 use lib.ListN.{length}
 use Rattle.numbers.specs.Number.{noRoom}
 use Rattle.table.specs.declared.Move.{Move}
-use Rattle.shape.specs.OfTables.{maxRefusal}
+use Rattle.shape.specs.OfTables.{RefusalNumber, maxRefusal}
 use Rattle.files.specs.Plan.{PlanFault}
 use Rattle.files.specs.Theorems.{maxFileBytes, maxCursorBytes}
 use Rattle.files.specs.declared.Cursor.{Cursor}
@@ -81,7 +81,7 @@ FullRoomIsEnough =
 -- The results of refusals: 102, and 104 to 115. No call gives 101 or 103: they are of tables in memory, and a plan file that is read has the length that its header
 -- says.
 abbrev pub IsRefusal : ℕ → Type 0
-IsRefusal r = (r ≡ 102) ⊎ ((104 ≤ r) × (r ≤ refusedResult maxRefusal))
+IsRefusal r = (r ≡ 102) ⊎ ((104 ≤ r) × RefusalNumber (r - 100))
 
 -- Which results there are: 0 of a start and of a move, 0 to 5 of a slice, or a refusal.
 pub record ResultsAreThese : Type 0 where

@@ -4,14 +4,19 @@ use mathlib.Core.Path.{_≡_}
 use mathlib.Core.List.{List}
 use mathlib.Core.Logic.{inl, inr}
 use native.Mathlib.Omega.{arith}
+use Rattle.numbers.specs.Number.{noRoom}
 use Rattle.table.specs.Layout.{maxTableWords, Sized}
 use Rattle.table.specs.Size.{noHeader, aboveLimit, wrongLength}
 use Rattle.table.proofs.Sizes.{size-one}
 use Rattle.shape.specs.Shape.{badLink, doubleLink, badStream, badLeg, ShapeFault}
-use Rattle.shape.specs.OfTables.{maxRefusal, OfBytes, OfTable}
+use Rattle.shape.specs.OfTables.{RefusalNumber, OfBytes, OfTable}
 
-pub of-table : (n : ℕ) {k p : ℕ} → n ≤ maxRefusal → (OfBytes n → ⊥) → k ≡ n → p ≤ maxTableWords → OfTable k p
-of-table n l b e h = record { number = omega arith; position = h; not-of-bytes = λ x. b (omega (arith, x .0), omega (arith, x .1)) }
+-- All numbers up to 15 are such numbers.
+pub up-to-room : (k : ℕ) → k ≤ noRoom → RefusalNumber k
+up-to-room k h = h
+
+pub of-table : (n : ℕ) {k p : ℕ} → n ≤ noRoom → (OfBytes n → ⊥) → k ≡ n → p ≤ maxTableWords → OfTable k p
+of-table n l b e h = record { number = up-to-room _ (omega arith); small = omega arith; position = h; not-of-bytes = λ x. b (omega (arith, x .0), omega (arith, x .1)) }
 
 pub shape-of-table : (t : List ℕ) (k p : ℕ) → ShapeFault t k p → OfTable k p
 shape-of-table t k p (inl (inl x)) = of-table noHeader (omega arith) (λ b. omega (arith, b)) (x .0) (omega (arith, x .1))

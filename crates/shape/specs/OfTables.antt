@@ -3,7 +3,11 @@ use Prim.Native.Nat.{ℕ, _≤_}
 use Rattle.numbers.specs.Number.{bytesEnd, noRoom}
 use Rattle.table.specs.Layout.{maxTableWords}
 
--- The largest number of a refusal.
+-- The numbers of refusals: up to 15.
+abbrev pub RefusalNumber : ℕ → Type 0
+RefusalNumber k = k ≤ noRoom
+
+-- The largest of them.
 abbrev pub maxRefusal : ℕ
 maxRefusal = 15
 
@@ -11,8 +15,9 @@ maxRefusal = 15
 abbrev pub OfBytes : ℕ → Type 0
 OfBytes k = (bytesEnd ≤ k) × (k ≤ noRoom)
 
--- A refusal of a table is none of bytes, and its number and its position are small.
+-- A refusal of a table has one of these numbers and is none of bytes, and its number and its position are small.
 pub record OfTable (k p : ℕ) : Type 0 where
-  pub number : k ≤ maxRefusal
+  pub number : RefusalNumber k
+  pub small : k ≤ maxRefusal
   pub position : p ≤ maxTableWords
   pub not-of-bytes : OfBytes k → ⊥
