@@ -26,7 +26,7 @@ pub record CanMove (t : List ℕ) (mv : Move) : Type 0 where
   pub below : mv .leg < legCount t
   pub rises : revisionOf t < maxWord
 
--- A move may be made: the cursor is right, and the table's move can be made.
+-- A move may be made: the cursor is right, and the move can be made of the table.
 pub record MoveAllowed (t : List ℕ) (c : Cursor) (mv : Move) : Type 0 where
   pub cursor : CursorRight t c
   pub can : CanMove t mv
