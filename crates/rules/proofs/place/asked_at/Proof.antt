@@ -1,5 +1,5 @@
 -- `rules::place::asked_at` meets its contract. Assumes nothing.
-use mathlib.Core.Path.{sym, ap}
+use mathlib.Core.Path.{_∙_, sym, ap}
 use native.Mathlib.Omega.{arith}
 use Rattle.rules.specs.Places.{askedAt}
 use Rattle.rules.proofs.Asking.{past-own}
@@ -19,11 +19,14 @@ returns-3 : tie.Need-returns-3
 unfolding askedAt
 returns-3 c = sym (ap askedAt (c .if3 .taken))
 
-sub-t3 : tie.Need-sub-t3
-sub-t3 c = search needs
+sub-n : tie.Need-sub-n
+sub-n c = search needs
+
+asked-with-requires : tie.Need-asked-with-requires
+asked-with-requires c κs = search needs
 
 returns-4 : tie.Need-returns-4
-returns-4 c = past-own _ (omega arith)
+returns-4 c = c .asked-with .ensures ∙ past-own _ (omega arith)
 
 pub asked-at-spec : {M : Type 1} → statement M
-asked-at-spec = tie.close (tie.spec returns returns-2 returns-3 sub-t3 returns-4)
+asked-at-spec = tie.close (tie.spec returns returns-2 returns-3 sub-n asked-with-requires returns-4)
