@@ -49,7 +49,7 @@ module _ (n : PlanNumbers) (b : Bounded n) where
 pub bounded-a : (revision o0 o1 o2 : ℕ) → o0 + o1 + o2 ≤ maxTime → Bounded (revisedA revision o0 o1 o2)
 bounded-a revision o0 o1 o2 h = record { in-range = plan-a-in-range revision o0 o1 o2; offsets = h }
 
--- Wherever leg 2 is in its period, the first ten places hold, those before (2,3).
+-- Wherever leg 2 is in its period, the places before (2,3) hold.
 module _ (revision o2 : ℕ) (w : o2 + 576 ≤ 150000) where
   bounded : Bounded (revisedA revision 0 1176 o2)
   bounded = bounded-a revision 0 1176 o2 (omega arith)
@@ -57,13 +57,13 @@ module _ (revision o2 : ℕ) (w : o2 + 576 ≤ 150000) where
   alone-2 : (q : Asked) → AskedOf 0 q → AskedHolds (planWith (revisedA revision 0 1176 o2)) 2 q
   alone-2 = asked-2 (revisedA revision 0 1176 o2) bounded (omega arith) (omega arith)
 
-  pub first-ten : (a p : ℕ) → a < 3 → p < placesOf a → (a ≡ 2 → p < 3) → PlaceHolds (planWith (revisedA revision 0 1176 o2)) a p
-  first-ten zero p l h f = places-0 (revisedA revision 0 1176 o2) bounded (omega arith) p h
-  first-ten (suc zero) p l h f = places-hold (planWith (revisedA revision 0 1176 o2)) 1 1 (asked-1 (revisedA revision 0 1176 o2) bounded (omega arith) (omega arith) (omega arith)) p h
-  first-ten (suc (suc zero)) p l h f = places-hold (planWith (revisedA revision 0 1176 o2)) 2 0 alone-2 p (f refl)
-  first-ten (suc (suc (suc a))) p l h f = absurd (omega arith)
+  pub before-meeting : (a p : ℕ) → a < 3 → p < placesOf a → (a ≡ 2 → p < 3) → PlaceHolds (planWith (revisedA revision 0 1176 o2)) a p
+  before-meeting zero p l h f = places-0 (revisedA revision 0 1176 o2) bounded (omega arith) p h
+  before-meeting (suc zero) p l h f = places-hold (planWith (revisedA revision 0 1176 o2)) 1 1 (asked-1 (revisedA revision 0 1176 o2) bounded (omega arith) (omega arith) (omega arith)) p h
+  before-meeting (suc (suc zero)) p l h f = places-hold (planWith (revisedA revision 0 1176 o2)) 2 0 alone-2 p (f refl)
+  before-meeting (suc (suc (suc a))) p l h f = absurd (omega arith)
 
--- With leg 2 at 576 all twelve hold.
+-- With leg 2 at 576 all places hold.
 module _ (revision : ℕ) where
   beside-2 : (q : Asked) → AskedOf 2 q → AskedHolds (planWith (revisedA revision 0 1176 576)) 2 q
   unfolding plan
@@ -74,11 +74,11 @@ module _ (revision : ℕ) where
   beside-2 (asked.Overlap (suc zero)) o = overlap-21 (revisedA revision 0 1176 576) (bounded revision 576 (omega arith))
   beside-2 (asked.Overlap (suc (suc c))) o = absurd (omega arith)
 
-  pub all-twelve : (a p : ℕ) → a < 3 → p < placesOf a → PlaceHolds (planWith (revisedA revision 0 1176 576)) a p
-  all-twelve zero p l h = first-ten revision 576 (omega arith) 0 p l h (λ e. absurd (omega (arith, e)))
-  all-twelve (suc zero) p l h = first-ten revision 576 (omega arith) 1 p l h (λ e. absurd (omega (arith, e)))
-  all-twelve (suc (suc zero)) p l h = places-hold (planWith (revisedA revision 0 1176 576)) 2 2 beside-2 p h
-  all-twelve (suc (suc (suc a))) p l h = absurd (omega arith)
+  pub all-hold : (a p : ℕ) → a < 3 → p < placesOf a → PlaceHolds (planWith (revisedA revision 0 1176 576)) a p
+  all-hold zero p l h = before-meeting revision 576 (omega arith) 0 p l h (λ e. absurd (omega (arith, e)))
+  all-hold (suc zero) p l h = before-meeting revision 576 (omega arith) 1 p l h (λ e. absurd (omega (arith, e)))
+  all-hold (suc (suc zero)) p l h = places-hold (planWith (revisedA revision 0 1176 576)) 2 2 beside-2 p h
+  all-hold (suc (suc (suc a))) p l h = absurd (omega arith)
 
   -- At 0 it meets leg 0 at once.
   pub meets-at-2-3 : PlaceHolds (planWith (revisedA revision 0 1176 0)) 2 3 → ⊥
