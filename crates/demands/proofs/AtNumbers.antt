@@ -32,16 +32,16 @@ begins : (o2 : ℕ) → o2 ≤ 100000 → Run begun (planTable 0 0 1176 o2)
 begins o2 w = (
   (shape 0 0 1176 o2, refl),
   inl refl,
-  pause 0 0 1176 o2 10 (before-2-3 0 o2 w) 0 0 1 2 5 (here 0 0 1176 o2 0 0 (omega arith) (omega arith)) (omega arith) (omega arith) (omega (arith, ranks .0, ranks .1))
-      (omega (arith, ranks .1)),
+  pause 0 0 1176 o2 (rank 2 3) (before-2-3 0 o2 w) 0 0 1 2 5 (here 0 0 1176 o2 0 0 (omega arith) (omega arith)) (omega arith) (omega arith) (omega (arith, ranks))
+      (omega (arith, ranks)),
 )
 
 -- Slices of the accepted table that pause and that end, by the places between two cursors.
-pauses : (a p b q n : ℕ) → a < 3 → p < placesOf a → b < 3 → q < placesOf b → rank a p + n ≡ rank b q → rank b q ≤ 12 → Slices good (at 0 a p) n (Paused (at 0 b q) n)
-pauses a p b q n l k m h e le = pause 0 0 1176 holdA 12 (accepted 0) a p b q n (here 0 0 1176 holdA a p l k) m h e le
+pauses : (a p b q n : ℕ) → a < 3 → p < placesOf a → b < 3 → q < placesOf b → rank a p + n ≡ rank b q → rank b q ≤ rank 3 0 → Slices good (at 0 a p) n (Paused (at 0 b q) n)
+pauses a p b q n l k m h e le = pause 0 0 1176 holdA (rank 3 0) (accepted 0) a p b q n (here 0 0 1176 holdA a p l k) m h e le
 
 ends : (a p n : ℕ) → PlaceOrEnd good a p → rank a p + n ≡ rank 3 0 → Slices good (at 0 a p) n (NothingViolated (at 0 3 0) n)
-ends a p n s e = end 0 0 1176 holdA 12 (accepted 0) a p n s e (omega (arith, ranks .3))
+ends a p n s e = end 0 0 1176 holdA (rank 3 0) (accepted 0) a p n s e (omega (arith, ranks))
 
 at-1-2 : (o2 : ℕ) → PlaceOrEnd (planTable 0 0 1176 o2) 1 2
 at-1-2 o2 = here 0 0 1176 o2 1 2 (omega arith) (omega arith)
@@ -50,7 +50,7 @@ on-good : Run begun good
 on-good = begins holdA (omega arith)
 
 to-the-end : Run (slice (at 0 1 2) 7 (NothingViolated (at 0 3 0) 7) ∷ begun) good
-to-the-end = (on-good, inl refl, ends 1 2 7 (at-1-2 holdA) (omega (arith, ranks .1, ranks .3)))
+to-the-end = (on-good, inl refl, ends 1 2 7 (at-1-2 holdA) (omega (arith, ranks)))
 
 -- A leg ahead is moved, to 700. A slice from the new cursor goes on, and the old one is refused.
 move-ahead : Run (move-leg (at 0 1 2) (moveTo 2 700) (Granted (at 1 1 2)) ∷ begun) (moved good (moveTo 2 700))
@@ -58,12 +58,12 @@ move-ahead = (
   good,
   on-good,
   inl refl,
-  granted 0 0 1176 holdA 1 2 (at-1-2 holdA) 2 700 (omega arith) (omega arith) 1 2 (inl (refl, refl)) (omega arith) (omega (arith, ranks .1, ranks .2)),
+  granted 0 0 1176 holdA 1 2 (at-1-2 holdA) 2 700 (omega arith) (omega arith) 1 2 (inl (refl, refl)) (omega arith) (omega (arith, ranks)),
 )
 
-goes-on-ahead : (p b q : ℕ) → p < 4 → b < 3 → q < placesOf b → rank 1 p + 1 ≡ rank b q → rank b q ≤ 10 → Slices (moved good (moveTo 2 700)) (at 1 1 p) 1 (Paused (at 1 b q) 1)
+goes-on-ahead : (p b q : ℕ) → p < placesOf 1 → b < 3 → q < placesOf b → rank 1 p + 1 ≡ rank b q → rank b q ≤ rank 2 3 → Slices (moved good (moveTo 2 700)) (at 1 1 p) 1 (Paused (at 1 b q) 1)
 goes-on-ahead p b q k l h e le =
-    on (at 1 1 p) 1 (Paused (at 1 b q) 1) (moved-2 (offsetsA 0 1176 holdA) 700) (pause 1 0 1176 700 10 (before-2-3 1 700 (omega arith)) 1 p b q 1 (here 1 0 1176 700 1 p (omega arith) k) l h e le)
+    on (at 1 1 p) 1 (Paused (at 1 b q) 1) (moved-2 (offsetsA 0 1176 holdA) 700) (pause 1 0 1176 700 (rank 2 3) (before-2-3 1 700 (omega arith)) 1 p b q 1 (here 1 0 1176 700 1 p (omega arith) k) l h e le)
 
 stale-cursor : Slices (moved good (moveTo 2 700)) (at 0 1 2) 5 (answer.Refused 8 0 (at 0 1 2))
 stale-cursor =
@@ -73,20 +73,20 @@ stale-cursor =
 pub runs-at-numbers : RunsAtNumbers
 runs-at-numbers = record {
   twelve = ranks .3;
-  eleven = (on-good, inl refl, pauses 1 2 2 4 6 (omega arith) (omega arith) (omega arith) (omega arith) (omega (arith, ranks .1, ranks .2)) (omega (arith, ranks .2)));
+  eleven = (on-good, inl refl, pauses 1 2 2 4 6 (omega arith) (omega arith) (omega arith) (omega arith) (omega (arith, ranks)) (omega (arith, ranks)));
   no-verdict = λ v. ⊎-elim (λ z. absurd (z .1)) (λ w. ⊎-elim (λ z. absurd (z .1)) (λ z. absurd z) w) v;
   verdict = to-the-end;
   enough = sym (ranks .3);
   renewed = (tt, tt);
   asked-for = ((refl, (refl, tt)), tt);
   has-verdict = inl (nothing-violated, refl);
-  nothing-looked-at = (on-good, inl refl, pauses 1 2 1 2 0 (omega arith) (omega arith) (omega arith) (omega arith) (omega arith) (omega (arith, ranks .1)));
+  nothing-looked-at = (on-good, inl refl, pauses 1 2 1 2 0 (omega arith) (omega arith) (omega arith) (omega arith) (omega arith) (omega (arith, ranks)));
   at-the-end = (to-the-end, inl refl, ends 3 0 0 (inr (record { leg = refl; place = refl })) (omega arith));
   passed = (
     good,
     on-good,
     inl refl,
-    granted 0 0 1176 holdA 1 2 (at-1-2 holdA) 0 600 (omega arith) (omega arith) 0 0 (inr (refl, refl)) (omega (arith, ranks .0, ranks .1)) (omega arith),
+    granted 0 0 1176 holdA 1 2 (at-1-2 holdA) 0 600 (omega arith) (omega arith) 0 0 (inr (refl, refl)) (omega (arith, ranks)) (omega arith),
   );
   ahead = move-ahead;
   stale = (move-ahead, inr (inl refl), stale-cursor);
@@ -99,16 +99,16 @@ runs-at-numbers = record {
   goes-on = (refl, tt);
   over-stale = (
     (
-      (move-ahead, inl refl, goes-on-ahead 2 1 3 (omega arith) (omega arith) (omega arith) (omega arith) (omega (arith, ranks .1))),
+      (move-ahead, inl refl, goes-on-ahead 2 1 3 (omega arith) (omega arith) (omega arith) (omega arith) (omega (arith, ranks))),
       inr (inr (inl refl)),
       stale-cursor,
     ),
     inr (inl refl),
-    goes-on-ahead 3 2 0 (omega arith) (omega arith) (omega arith) (omega (arith, ranks .1, ranks .2)) (omega (arith, ranks .2)),
+    goes-on-ahead 3 2 0 (omega arith) (omega arith) (omega arith) (omega (arith, ranks)) (omega (arith, ranks)),
   );
   passed-over = (refl, (refl, tt));
   not-counted = refl;
-  older = (on-good, inr (inl refl), pauses 0 0 2 0 7 (omega arith) (omega arith) (omega arith) (omega arith) (omega (arith, ranks .0, ranks .2)) (omega (arith, ranks .2)));
+  older = (on-good, inr (inl refl), pauses 0 0 2 0 7 (omega arith) (omega arith) (omega arith) (omega arith) (omega (arith, ranks)) (omega (arith, ranks)));
   not-newest = λ s. let e : _≡_ {A = ℕ} 0 1 = ap (λ (c : Cursor). c .leg) (s .0) in omega arith;
   altered = (stays-at-end _ _ _ _, λ h. starred-cases .case-5 .1 (h .overlap 2 0 (omega arith) (omega arith) (λ e. omega (arith, e))));
   begun-on-bad = begins _ (omega arith);
@@ -132,19 +132,19 @@ runs-at-numbers = record {
   no-places = below-none;
 }
 
--- Cases 11 to 13. Plan A's place (2,3) is violated, and its ten places before that hold.
+-- Cases 11 to 13. Plan A's place (2,3) is violated, and the places before that hold.
 paused-twice : Run pausedTwice planA
 paused-twice = (
   begins 0 (omega arith),
   inl refl,
-  pause 0 0 1176 0 10 (before-2-3 0 0 (omega arith)) 1 2 2 3 5 (at-1-2 0) (omega arith) (omega arith) (omega (arith, ranks .1, ranks .2)) (omega (arith, ranks .2)),
+  pause 0 0 1176 0 (rank 2 3) (before-2-3 0 0 (omega arith)) 1 2 2 3 5 (at-1-2 0) (omega arith) (omega arith) (omega (arith, ranks)) (omega (arith, ranks)),
 )
 
 run-11 : Run case11 planA
 run-11 = (
   paused-twice,
   inl refl,
-  violate 0 0 1176 0 10 (before-2-3 0 0 (omega arith)) 2 3 2 3 0 5 rule.Overlap (here 0 0 1176 0 2 3 (omega arith) (omega arith)) (omega arith) (omega arith) (meets-at-2-3 0) (place-rule (asked.Overlap 0)) (omega arith) (omega (arith, ranks .2)) (omega arith),
+  violate 0 0 1176 0 (rank 2 3) (before-2-3 0 0 (omega arith)) 2 3 2 3 0 5 rule.Overlap (here 0 0 1176 0 2 3 (omega arith) (omega arith)) (omega arith) (omega arith) (meets-at-2-3 0) (place-rule (asked.Overlap 0)) (omega arith) (omega (arith, ranks)) (omega arith),
 )
 
 run-12 : Run case12 (moved planA (moveTo 2 holdA))
@@ -157,7 +157,7 @@ run-12 = (
   ),
   inl refl,
   on (at 1 2 0) 5 (NothingViolated (at 1 3 0) 5) (moved-2 (offsetsA 0 1176 0) holdA)
-      (end 1 0 1176 holdA 12 (accepted 1) 2 0 5 (here 1 0 1176 holdA 2 0 (omega arith) (omega arith)) (omega (arith, ranks .2, ranks .3)) (omega (arith, ranks .3))),
+      (end 1 0 1176 holdA (rank 3 0) (accepted 1) 2 0 5 (here 1 0 1176 holdA 2 0 (omega arith) (omega arith)) (omega (arith, ranks)) (omega (arith, ranks))),
 )
 
 run-13 : Run case13 (moved planA (moveTo 0 600))
@@ -166,13 +166,13 @@ run-13 = (
     planA,
     paused-twice,
     inl refl,
-    granted 0 0 1176 0 2 3 (here 0 0 1176 0 2 3 (omega arith) (omega arith)) 0 600 (omega arith) (omega arith) 0 0 (inr (refl, refl)) (omega (arith, ranks .0, ranks .2))
+    granted 0 0 1176 0 2 3 (here 0 0 1176 0 2 3 (omega arith) (omega arith)) 0 600 (omega arith) (omega arith) 0 0 (inr (refl, refl)) (omega (arith, ranks))
         (omega arith),
   ),
   inl refl,
   on (at 1 0 0) 5 (Violated (at 1 1 1) 5 rule.Hop) (moved-0 (offsetsA 0 1176 0) 600)
       (violate 1 600 1176 0 4 (before-1-1 1) 0 0 1 1 4 5 rule.Hop (here 1 600 1176 0 0 0 (omega arith) (omega arith)) (omega arith) (omega arith) (late-at-1-1 1) (place-rule asked.Hop)
-      (omega (arith, ranks .0, ranks .1)) (omega (arith, ranks .1)) (omega arith)),
+      (omega (arith, ranks)) (omega (arith, ranks)) (omega arith)),
 )
 
 pub cases-as-runs : CasesAsRuns
@@ -190,6 +190,6 @@ cases-as-runs = record {
     (run-12, subst (λ (t : List ℕ). Starts t (Granted (at 1 0 0))) (sym (moved-2 (offsetsA 0 1176 0) holdA)) (shape 1 0 1176 holdA, refl)),
     inl refl,
     on (at 1 0 0) 12 (NothingViolated (at 1 3 0) 12) (moved-2 (offsetsA 0 1176 0) holdA)
-        (end 1 0 1176 holdA 12 (accepted 1) 0 0 12 (here 1 0 1176 holdA 0 0 (omega arith) (omega arith)) (omega (arith, ranks .0, ranks .3)) (omega (arith, ranks .3))),
+        (end 1 0 1176 holdA (rank 3 0) (accepted 1) 0 0 12 (here 1 0 1176 holdA 0 0 (omega arith) (omega arith)) (omega (arith, ranks)) (omega (arith, ranks))),
   );
 }

@@ -24,6 +24,7 @@ use Rattle.rules.specs.declared.Rule.the-variants as rule
 use Rattle.rules.specs.declared.Asked.the-variants as asked
 use Rattle.rules.proofs.Placing.{place-rule}
 use Rattle.rules.proofs.CasePlaces.{meets-at-2-3}
+use Rattle.places.specs.Order.{rank}
 use Rattle.checker.specs.Slices.{Slices}
 use Rattle.checker.specs.declared.Grant.the-variants.{Granted}
 use Rattle.checker.specs.declared.SliceAnswer.{SliceAnswer}
@@ -119,15 +120,15 @@ slice-made plan t cursor c budget r out f g s n e = record {
 pauses : SliceMade planAFile (saved 0 0 0) 10 (answered 1 10) (left 0 2 3)
 pauses =
     slice-made planAFile planA (saved 0 0 0) (at 0 0 0) 10 (Paused (at 0 2 3) 10) (left 0 2 3) file-a (at-start .reads)
-    (pause 0 0 1176 0 10 (before-2-3 0 0 (omega arith)) 0 0 2 3 10 (here 0 0 1176 0 0 0 (omega arith) (omega arith)) (omega arith) (omega arith)
-    (omega (arith, ranks .0, ranks .2)) (omega (arith, ranks .2)))
+    (pause 0 0 1176 0 (rank 2 3) (before-2-3 0 0 (omega arith)) 0 0 2 3 10 (here 0 0 1176 0 0 0 (omega arith) (omega arith)) (omega arith) (omega arith)
+    (omega (arith, ranks)) (omega (arith, ranks)))
     (omega arith) (at-2-3 .written)
 
 violates : SliceMade planAFile (saved 0 2 3) 5 (answered 5 1) (left 0 2 3)
 violates =
     slice-made planAFile planA (saved 0 2 3) (at 0 2 3) 5 (Violated (at 0 2 3) 1 rule.Overlap) (left 0 2 3) file-a (at-2-3 .reads)
-    (violate 0 0 1176 0 10 (before-2-3 0 0 (omega arith)) 2 3 2 3 0 5 rule.Overlap (here 0 0 1176 0 2 3 (omega arith) (omega arith)) (omega arith) (omega arith)
-    (meets-at-2-3 0) (place-rule (asked.Overlap 0)) (omega arith) (omega (arith, ranks .2)) (omega arith))
+    (violate 0 0 1176 0 (rank 2 3) (before-2-3 0 0 (omega arith)) 2 3 2 3 0 5 rule.Overlap (here 0 0 1176 0 2 3 (omega arith) (omega arith)) (omega arith) (omega arith)
+    (meets-at-2-3 0) (place-rule (asked.Overlap 0)) (omega arith) (omega (arith, ranks)) (omega arith))
     (omega arith) (at-2-3 .written)
 
 -- What is lent for the new file.
@@ -177,7 +178,7 @@ accepts : SliceMade movedFile (saved 1 2 0) 5 (answered 0 5) (left 1 3 0)
 accepts =
     slice-made movedFile (moved planA (moveTo 2 holdA)) (saved 1 2 0) (at 1 2 0) 5 (NothingViolated (at 1 3 0) 5) (left 1 3 0) file-moved (after-move .reads)
     (on (at 1 2 0) 5 (NothingViolated (at 1 3 0) 5) move-2
-    (end 1 0 1176 holdA 12 (accepted 1) 2 0 5 (here 1 0 1176 holdA 2 0 (omega arith) (omega arith)) (omega (arith, ranks .2, ranks .3)) (omega (arith, ranks .3))))
+    (end 1 0 1176 holdA (rank 3 0) (accepted 1) 2 0 5 (here 1 0 1176 holdA 2 0 (omega arith) (omega arith)) (omega (arith, ranks)) (omega (arith, ranks))))
     (omega arith) (at-new-end .written)
 
 violates-in-c : HostRun violatedInC planAFile

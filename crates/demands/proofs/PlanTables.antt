@@ -13,7 +13,7 @@ use Rattle.shape.proofs.AtNumbers.{plan-a-in-range, plans-are-well-formed}
 use Rattle.files.specs.declared.Cursor.{Cursor}
 use Rattle.rules.specs.Places.{placesOf, ruleAt, PlaceHolds}
 use Rattle.rules.specs.declared.Rule.{Rule}
-use Rattle.rules.proofs.CasePlaces.{first-ten, all-twelve, places-0-at-600, place-1-0-at-600}
+use Rattle.rules.proofs.CasePlaces.{before-meeting, all-hold, places-0-at-600, place-1-0-at-600}
 use Rattle.places.specs.Order.{placesBelow, rank, PlaceOrEnd, HoldFrom}
 use Rattle.places.proofs.Ranks.{below-none, below-more, below-mono, held-none}
 use Rattle.checker.specs.Cursors.{CursorRight}
@@ -31,9 +31,9 @@ planTable revision o0 o1 o2 = planWith (revisedA revision o0 o1 o2)
 pub ranks : (placesBelow 0 ≡ 0) × (placesBelow 1 ≡ 3) × (placesBelow 2 ≡ 7) × (placesBelow 3 ≡ 12)
 ranks =
     let z = below-none in
-    let a : placesBelow 1 ≡ placesBelow 0 + 3 = below-more 0 in
-    let b : placesBelow 2 ≡ placesBelow 1 + 4 = below-more 1 in
-    let c : placesBelow 3 ≡ placesBelow 2 + 5 = below-more 2 in
+    let a : placesBelow 1 ≡ placesBelow 0 + placesOf 0 = below-more 0 in
+    let b : placesBelow 2 ≡ placesBelow 1 + placesOf 1 = below-more 1 in
+    let c : placesBelow 3 ≡ placesBelow 2 + placesOf 2 = below-more 2 in
     (z, omega arith, omega arith, omega arith)
 
 module _ (revision o0 o1 o2 : ℕ) where
@@ -101,15 +101,15 @@ module _ (revision o0 o1 o2 : ℕ) where
 pub on : {t u : List ℕ} (c : Cursor) (b : ℕ) (r : SliceAnswer) → t ≡ u → Slices u c b r → Slices t c b r
 on c b r e s = subst (λ (v : List ℕ). Slices v c b r) (sym e) s
 
--- Where leg 2 begins when leg 0 ends all twelve places hold, wherever it is below 100,000 the ten before (2,3), and with leg 0 at 600 the four before (1,1).
-pub accepted : (revision : ℕ) → HoldFrom (planTable revision 0 1176 holdA) 0 12
-accepted revision a p i from below = all-twelve revision a p (i .leg) (i .place)
+-- Where leg 2 begins when leg 0 ends all places hold, wherever it is below 100,000 those before (2,3), and with leg 0 at 600 the four before (1,1).
+pub accepted : (revision : ℕ) → HoldFrom (planTable revision 0 1176 holdA) 0 (rank 3 0)
+accepted revision a p i from below = all-hold revision a p (i .leg) (i .place)
 
-pub before-2-3 : (revision o2 : ℕ) → o2 ≤ 100000 → HoldFrom (planTable revision 0 1176 o2) 0 10
-before-2-3 revision o2 w a p i from below = first-ten revision o2 w a p (i .leg) (i .place) (λ e. omega (arith, ap placesBelow e, below, ranks .2))
+pub before-2-3 : (revision o2 : ℕ) → o2 ≤ 100000 → HoldFrom (planTable revision 0 1176 o2) 0 (rank 2 3)
+before-2-3 revision o2 w a p i from below = before-meeting revision o2 w a p (i .leg) (i .place) (λ e. omega (arith, ap placesBelow e, below, ranks))
 
 pub before-1-1 : (revision : ℕ) → HoldFrom (planTable revision 600 1176 0) 0 4
 before-1-1 revision zero p i from below = places-0-at-600 revision p (i .place)
 before-1-1 revision (suc zero) zero i from below = place-1-0-at-600 revision
-before-1-1 revision (suc zero) (suc p) i from below = absurd (omega (arith, below, ranks .1))
+before-1-1 revision (suc zero) (suc p) i from below = absurd (omega (arith, below, ranks))
 before-1-1 revision (suc (suc a)) p i from below = absurd (omega (arith, below, below-mono 2 (suc (suc a)) (omega arith), ranks .2))

@@ -7,19 +7,16 @@ use native.Mathlib.Nat.{eq-or-lt-of-le}
 use native.Mathlib.Omega.{arith}
 use Rattle.basics.proofs.Splits.{lt-or-ge}
 use Rattle.table.specs.Layout.{maxLegs}
-use Rattle.rules.specs.Places.{ownPlaces, overlapPlace, placesOf, PlaceHolds, JudgedTold}
-use Rattle.rules.specs.Rules.{Overlap}
-use Rattle.rules.specs.Steps.{LegIn}
-use Rattle.rules.specs.declared.Asked.the-variants as asked
+use Rattle.rules.specs.Places.{ownPlaces, pairPlace, placesOf, PlaceHolds, PairHolds, JudgedTold}
+use Rattle.rules.specs.Steps.{LegIn, PlaceWith}
 use Rattle.rules.specs.declared.Judged.{Judged}
 use Rattle.rules.specs.declared.Judged.the-variants as judged
 use Rattle.rules.specs.declared.Rule.{Rule}
-use Rattle.rules.specs.declared.Rule.the-variants as rule
-use Rattle.rules.proofs.Placing.{place-holds, asked-holds, place-rule}
-use Rattle.basics.specs.Lowest.{AllFrom, Lowest}
+use Rattle.rules.proofs.Pairs.{pairs-hold}
+use Rattle.basics.specs.Lowest.{Lowest}
 use Rattle.basics.specs.declared.Found.{Found}
 use Rattle.basics.specs.declared.Found.the-variants as found
-use Rattle.places.specs.Told.{LegHolds, FirstBroken, ToldOfLeg, ToldOfMeeting, IsLesser}
+use Rattle.places.specs.Told.{LegHolds, FirstBroken, ToldOfLeg, ToldOfPairs, BrokenFrom, WholeFrom, IsLesser}
 use Rattle.places.specs.declared.LegTold.{LegTold}
 use Rattle.places.specs.declared.LegTold.the-variants.{Broken, Kept}
 
@@ -51,63 +48,57 @@ module _ {t : List ℕ} {a p : ℕ} where
   pub passed-all : {q limit : ℕ} → Passed t a p q → limit ≤ q → LegHolds t a p limit
   passed-all i h s l b = i .held s l (omega arith)
 
--- Where there are overlaps below the limit, the places of the leg alone hold.
-pub record OwnKept (t : List ℕ) (a p limit : ℕ) : Type 0 where
-  pub more : ownPlaces < limit
-  pub held : LegHolds t a p ownPlaces
+-- The places of leg a up to q, and then those from q on.
+held-on : (t : List ℕ) (a : ℕ) {p q x : ℕ} → LegHolds t a p q → LegHolds t a q x → LegHolds t a p x
+held-on t a {q = q} held more s l b = ⊎-elim (λ (k : s < q). held s l k) (λ (k : q ≤ s). more s k b) (lt-or-ge s q)
 
--- What was told of the lesser of the limit and the leg's own places: of all below the limit, or of its own.
-pub own-all : (t : List ℕ) (a : ℕ) {p own limit : ℕ} {told : LegTold} → told ≡ Kept → IsLesser limit ownPlaces own → limit ≤ ownPlaces → ToldOfLeg t a p own told
-    → LegHolds t a p limit
-own-all t a {p} {own} e l h m = subst (LegHolds t a p) (l .is-left h) (subst (ToldOfLeg t a p own) e m)
+held-and-told : (t : List ℕ) (a limit : ℕ) {p q : ℕ} → p ≤ q → LegHolds t a p q → (r : LegTold) → ToldOfLeg t a q limit r → ToldOfLeg t a p limit r
+held-and-told t a limit h held (Broken s rule) m = record {
+  first = record {
+    above = omega (arith, m .first .above);
+    inside = m .first .inside;
+    bad = m .first .bad;
+    before = held-on t a held (m .first .before);
+  };
+  rule = m .rule;
+}
+held-and-told t a limit h held Kept m = held-on t a held m
 
-module _ {t : List ℕ} {a p own limit : ℕ} {told : LegTold} where
-  pub own-broken : {q : ℕ} {r : Rule} → told ≡ Broken q r → IsLesser limit ownPlaces own → ToldOfLeg t a p own told → FirstBroken t a p limit q r
-  own-broken {q} {r} e l m =
-      let x : FirstBroken t a p own q r = subst (ToldOfLeg t a p own) e m in
-      let y = x .first in
-      record { first = record { above = y .above; inside = omega (arith, y .inside, l .left); bad = y .bad; before = y .before }; rule = x .rule }
+-- The first places, up to the lesser of the limit and x: a broken one is the first, and else all hold below the limit, or those up to x do.
+pub head-broken : {t : List ℕ} {a p x to limit q : ℕ} {r : Rule} {told : LegTold} → told ≡ Broken q r → IsLesser limit x to → ToldOfLeg t a p to told
+    → FirstBroken t a p limit q r
+head-broken {t} {a} {p} {to = to} {q = q} {r = r} e l m =
+    let k : FirstBroken t a p to q r = subst (ToldOfLeg t a p to) e m in
+    let y = k .first in
+    record { first = record { above = y .above; inside = omega (arith, y .inside, l .left); bad = y .bad; before = y .before }; rule = k .rule }
 
-  pub own-kept : told ≡ Kept → IsLesser limit ownPlaces own → ownPlaces < limit → ToldOfLeg t a p own told → OwnKept t a p limit
-  own-kept e l h m = record { more = h; held = subst (LegHolds t a p) (l .is-right (omega arith)) (subst (ToldOfLeg t a p own) e m) }
+module _ (t : List ℕ) (a : ℕ) {p x to limit : ℕ} {told : LegTold} (e : told ≡ Kept) (l : IsLesser limit x to) where
+  pub head-all : limit ≤ x → ToldOfLeg t a p to told → LegHolds t a p limit
+  head-all h m = subst (LegHolds t a p) (l .is-left h) (subst (ToldOfLeg t a p to) e m)
 
--- The places of the leg alone, and those of its overlaps from the leg on that p stands for.
-own-and-overlaps : {t : List ℕ} {a p n m limit : ℕ} → n ≡ p - ownPlaces → OwnKept t a p limit → AllFrom (Overlap t a) n m → LegHolds t a p (overlapPlace m)
-own-and-overlaps {t} {a} d own clear s l h =
-    ⊎-elim
-    (λ (k : s < ownPlaces). own .held s l k)
-    (λ (k : ownPlaces ≤ s).
-    let f : overlapPlace (s - ownPlaces) ≡ s = omega arith in
-    subst (λ (x : ℕ). PlaceHolds t a x) f (place-holds t a (asked.Overlap (s - ownPlaces)) (clear (s - ownPlaces) (omega arith) (omega arith))))
-    (lt-or-ge s ownPlaces)
+  pub head-kept : x < limit → ToldOfLeg t a p to told → LegHolds t a p x
+  head-kept h m = subst (LegHolds t a p) (l .is-right (omega arith)) (subst (ToldOfLeg t a p to) e m)
 
-module _ {t : List ℕ} {a p n limit : ℕ} {met : Found} (d : n ≡ p - ownPlaces) (own : OwnKept t a p limit) where
-  pub none-met : met ≡ found.Nowhere → ToldOfMeeting t a n (limit - ownPlaces) met → LegHolds t a p limit
-  none-met e m s l h = own-and-overlaps d own (subst (ToldOfMeeting t a n (limit - ownPlaces)) e m) s l (omega (arith, own .more))
+-- The places with leg n and all legs behind it.
+module _ {p n : ℕ} (w : WholeFrom p n) where
+  pub whole-is-leg : {t : List ℕ} {a limit : ℕ} → LegIn t a → p ≤ limit → limit ≤ placesOf a → n ≤ maxLegs
+  whole-is-leg {a = a} leg h k = omega (arith, w .lowest a (omega arith), leg .leg, leg .table .sized .limits .legs)
 
-  pub met-is-broken : {b q : ℕ} → met ≡ found.At b → ToldOfMeeting t a n (limit - ownPlaces) met → q ≡ overlapPlace b → FirstBroken t a p limit q rule.Overlap
-  met-is-broken {b} e m at =
-      let x : Lowest (Overlap t a) n (limit - ownPlaces) b = subst (ToldOfMeeting t a n (limit - ownPlaces)) e m in
-      rw at
-      (record {
-        first = record {
-          above = omega (arith, x .above);
-          inside = omega (arith, x .inside, own .more);
-          bad = λ h. x .bad (asked-holds t a (asked.Overlap b) h);
-          before = own-and-overlaps d own (x .before);
-        };
-        rule = place-rule (asked.Overlap b);
-      })
+  pub pairs-behind : (t : List ℕ) (a limit : ℕ) (r : LegTold) {x : ℕ} → x ≡ pairPlace n → LegHolds t a p x → ToldOfLeg t a (pairPlace n) limit r
+      → ToldOfLeg t a p limit r
+  pairs-behind t a limit r e held m = held-and-told t a limit (w .from) (subst (LegHolds t a p) e held) r m
 
--- A leg that is met comes before the leg itself.
-pub record Met : Type 0 where
-  pub a : ℕ
-  pub b : ℕ
-  pub below : b < a
-  pub small : a ≤ maxLegs
+-- From the first leg with which something is broken on.
+pub broken-behind : {t : List ℕ} {a n m b : ℕ} (limit : ℕ) (r : LegTold) {q : ℕ} → BrokenFrom t a n m b → q ≡ pairPlace b → ToldOfLeg t a q limit r
+    → ToldOfLeg t a (pairPlace n) limit r
+broken-behind {t} {a} {n} {b = b} limit r w e m =
+    held-and-told t a limit (omega (arith, w .above)) (pairs-hold t a n b (w .before)) r (subst (λ (x : ℕ). ToldOfLeg t a x limit r) e m)
 
-abbrev pub met-below : {t : List ℕ} {a p n limit b : ℕ} {met : Found} → met ≡ found.At b → LegIn t a → p ≤ limit → limit ≤ placesOf a
-    → n ≡ p - ownPlaces → ToldOfMeeting t a n (limit - ownPlaces) met → Met
-met-below {t} {a} {n = n} {limit = limit} {b = b} e leg h k d m =
-    let x : Lowest (Overlap t a) n (limit - ownPlaces) b = subst (ToldOfMeeting t a n (limit - ownPlaces)) e m in
-    record { a = a; b = b; below = omega (arith, x .inside); small = omega (arith, leg .leg, leg .table .sized .limits .legs) }
+module _ {t : List ℕ} {a n m : ℕ} {told : Found} (h : n ≤ m) where
+  pub found-broken : {b : ℕ} → told ≡ found.At b → ToldOfPairs t a n m told → BrokenFrom t a n m b
+  found-broken {b} e x =
+      let l : Lowest (PairHolds t a) n m b = subst (ToldOfPairs t a n m) e x in
+      record { above = l .above; inside = omega (arith, l .inside); before = l .before; broken = λ k. l .bad }
+
+  pub none-broken : told ≡ found.Nowhere → ToldOfPairs t a n m told → BrokenFrom t a n m m
+  none-broken e x = record { above = h; inside = omega arith; before = subst (ToldOfPairs t a n m) e x; broken = λ k. absurd (omega arith) }

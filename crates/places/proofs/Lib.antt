@@ -1,4 +1,4 @@
 pub mod Ranks
 pub mod ChainLaws
-pub mod MeetingLaws
+pub mod PairLaws
 pub mod LegLaws

@@ -50,12 +50,14 @@ twice (suc g) =
     let z = mul-one g in
     omega arith
 
-pairs-are : (g : ℕ) → pairsOf g ≡ pairsBelow g
-pairs-are g =
+twice-pairs : (g : ℕ) → g * (g - 1) ≡ 2 * pairsBelow g
+twice-pairs g =
     let s : g * (g - 1) ≡ g * g - g * 1 = mul-sub g g 1 in
     let o = mul-one g in
-    let x : g * (g - 1) ≡ 2 * pairsBelow g = omega (arith, twice g) in
-    ap (λ (z : ℕ). z / 2) x ∙ mul-div-cancel-left (pairsBelow g) (omega arith)
+    omega (arith, twice g)
+
+pairs-are : (g : ℕ) → pairsOf g ≡ pairsBelow g
+pairs-are g = ap (λ (z : ℕ). z / 2) (twice-pairs g) ∙ mul-div-cancel-left (pairsBelow g) (omega arith)
 
 -- The places of the legs alone, and those of the pairs.
 count-below : (g : ℕ) → placesBelow g ≡ ownPlaces * g + pairPlaces * pairsBelow g
@@ -66,12 +68,12 @@ count-below (suc g) = omega (arith, count-below g)
 pub count-of-legs : (g : ℕ) → ownPlaces * g + pairPlaces * pairsOf g ≡ placesBelow g
 count-of-legs g = omega (arith, count-below g, pairs-are g)
 
--- The most places that a table has are 2,102,272.
-pub places-at-most : placesBelow maxLegs ≡ 2102272
-places-at-most = omega (arith, count-of-legs maxLegs)
+-- The most places that a table has.
+pub places-at-most : placesBelow maxLegs ≡ ownPlaces * maxLegs + pairPlaces * pairsOf maxLegs
+places-at-most = sym (count-of-legs maxLegs)
 
 pub count-of-places : CountOfPlaces
-count-of-places t = omega (arith, count-of-legs (legCount t))
+count-of-places t = omega (arith, count-below (legCount t), twice-pairs (legCount t))
 
 module _ {t : List ℕ} where
   pub end-rank : {a p : ℕ} → IsEnd t a p → rank a p ≡ placeCount t

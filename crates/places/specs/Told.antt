@@ -1,11 +1,10 @@
 -- What is told of the places of one leg.
-use Prim.Native.Nat.{ℕ, _≤_}
+use Prim.Native.Nat.{ℕ, _≤_, _<_}
 use mathlib.Core.Path.{_≡_}
 use mathlib.Core.List.{List}
 use Rattle.basics.specs.Lowest.{AllFrom, Lowest, Finds}
 use Rattle.basics.specs.declared.Found.{Found}
-use Rattle.rules.specs.Places.{ruleAt, PlaceHolds}
-use Rattle.rules.specs.Rules.{Overlap}
+use Rattle.rules.specs.Places.{ruleAt, pairPlace, PlaceHolds, PairHolds}
 use Rattle.rules.specs.Steps.{LegIn, FrameOf}
 use Rattle.rules.specs.declared.Frame.{Frame}
 use Rattle.rules.specs.declared.Rule.{Rule}
@@ -27,9 +26,21 @@ abbrev pub ToldOfLeg : List ℕ → ℕ → ℕ → ℕ → LegTold → Type 0
 ToldOfLeg t a p limit (Broken q r) = FirstBroken t a p limit q r
 ToldOfLeg t a p limit Kept = LegHolds t a p limit
 
--- Of the legs from n on and below m the lowest that leg a meets, or that it meets none of them.
-abbrev pub ToldOfMeeting : List ℕ → ℕ → ℕ → ℕ → Found → Type 0
-ToldOfMeeting t a n m r = Finds (Overlap t a) n m r
+-- Of the legs from n on and below m the lowest with which leg a breaks a rule, or that there is none of them.
+abbrev pub ToldOfPairs : List ℕ → ℕ → ℕ → ℕ → Found → Type 0
+ToldOfPairs t a n m r = Finds (PairHolds t a) n m r
+
+-- The same, with m for none.
+pub record BrokenFrom (t : List ℕ) (a n m b : ℕ) : Type 0 where
+  pub above : n ≤ b
+  pub inside : b ≤ m
+  pub before : AllFrom (PairHolds t a) n b
+  pub broken : b < m → PairHolds t a b → ⊥
+
+-- Leg b is the lowest all of whose places with another stand from p on.
+pub record WholeFrom (p b : ℕ) : Type 0 where
+  pub from : p ≤ pairPlace b
+  pub lowest : (c : ℕ) → p ≤ pairPlace c → b ≤ c
 
 -- Leg a of a table, its frame, and the chains of all legs.
 pub record LegLooked (t next : List ℕ) (a : ℕ) (f : Frame) : Type 0 where

@@ -2,17 +2,16 @@
 ghost use Prim.Native.Nat.{_≤_};
 ghost use Rattle.table.specs.Layout.{maxLegs, legCount};
 ghost use Rattle.table.specs.Records.{legAt};
-ghost use Rattle.rules.specs.Places.{placesOf};
+ghost use Rattle.rules.specs.Places.{placesOf, pairPlace};
 ghost use Rattle.rules.specs.Steps.{LegIn, FrameOf};
 ghost use Rattle.places.specs.Chains.{NextOn, Begun, Chained};
-ghost use Rattle.places.specs.Told.{ToldOfLeg, ToldOfMeeting, LegLooked};
+ghost use Rattle.places.specs.Told.{ToldOfLeg, ToldOfPairs, BrokenFrom, WholeFrom, LegLooked};
 use crate::LegTold;
 use basics::Found;
 use basics::Holds;
 use overlap::Known;
 use rules::Frame;
 use rules::Judged;
-use rules::Rule;
 
 // The places of leg a from p on and below the limit, one by one.
 fn each_told(t: &[u32], a: usize, f: Frame, p: usize, limit: usize) -> LegTold
@@ -49,8 +48,8 @@ fn chain_from(t: &[u32], next: &[usize], l: usize, start: usize, n: usize) -> us
     b
 }
 
-// The lowest leg from n on and below m that leg a meets. Only the legs of its link are looked at, the lowest of which from n on is start.
-fn lowest_met(
+// The lowest leg from n on and below m with which leg a breaks a rule. Only the legs of its link are looked at, the lowest of which from n on is start.
+fn lowest_broken(
     t: &[u32],
     next: &[usize],
     a: usize,
@@ -62,18 +61,18 @@ fn lowest_met(
     requires { ⌜ LegLooked (now t) (now next) a f ⌝ }
     requires { ⌜ (n ≤ start) × NextOn (now t) (legAt (now t) a .link) n start ⌝ }
     requires { ⌜ m ≤ a ⌝ }
-    ensures { λ r. ⌜ ToldOfMeeting (now (t .entry)) a n m r ⌝ }
+    ensures { λ r. ⌜ ToldOfPairs (now (t .entry)) a n m r ⌝ }
 {
-    let mine = rules::judge::slot(t, a, f);
+    let mine = rules::judge::sharer(t, a, f);
     let mut known = Known {
-        period: mine.period,
-        divisor: mine.period,
+        period: mine.slot.period,
+        divisor: mine.slot.period,
     };
     let mut b = start;
     while b < m {
-        let other = rules::judge::slot_at(t, b);
-        known = overlap::known_with(known, mine.period, other.period);
-        let told = overlap::apart(mine, other, known.divisor);
+        let other = rules::judge::sharer_at(t, b);
+        known = overlap::known_with(known, mine.slot.period, other.slot.period);
+        let told = rules::judge::pair_told(t, a, mine, b, other, known.divisor);
         match told {
             Holds::No => {
                 return Found::At(b);
@@ -85,8 +84,8 @@ fn lowest_met(
     Found::Nowhere
 }
 
-// The overlaps of leg a with the legs from n on and below m.
-fn overlaps_told(
+// The lowest leg from n on and below m with which leg a breaks a rule, or m where there is none.
+fn broken_from(
     t: &[u32],
     first: &[usize],
     next: &[usize],
@@ -94,18 +93,53 @@ fn overlaps_told(
     f: Frame,
     n: usize,
     m: usize,
-) -> Found
+) -> usize
     requires { ⌜ LegLooked (now t) (now next) a f ⌝ }
     requires { ⌜ Begun (now t) (now first) 0 ⌝ }
-    requires { ⌜ (n ≤ a) × (m ≤ a) ⌝ }
-    ensures { λ r. ⌜ ToldOfMeeting (now (t .entry)) a n m r ⌝ }
+    requires { ⌜ (n ≤ m) × (m ≤ a) ⌝ }
+    ensures { λ r. ⌜ BrokenFrom (now (t .entry)) a n m r ⌝ }
 {
     let l = table::wide(f.link);
     let start = chain_from(t, next, l, first[l], n);
-    lowest_met(t, next, a, f, start, n, m)
+    let found = lowest_broken(t, next, a, f, start, n, m);
+    match found {
+        Found::At(b) => b,
+        Found::Nowhere => m,
+    }
 }
 
-// Internal: the first broken place of leg a from p on and below the limit.
+// The lowest leg all of whose places with another stand from p on.
+fn whole_from(p: usize) -> usize
+    ensures { λ r. ⌜ WholeFrom p r ⌝ }
+{
+    if p <= rules::place::OWN_PLACES {
+        return 0;
+    }
+    rules::place::pair_of(p - 1) + 1
+}
+
+// The places of leg a with the legs from n on, below the limit: the legs whose places are all below it by their chain, and from the first broken on one by one.
+fn pairs_told(
+    t: &[u32],
+    first: &[usize],
+    next: &[usize],
+    a: usize,
+    f: Frame,
+    n: usize,
+    limit: usize,
+) -> LegTold
+    requires { ⌜ LegLooked (now t) (now next) a f ⌝ }
+    requires { ⌜ Begun (now t) (now first) 0 ⌝ }
+    requires { ⌜ (pairPlace n ≤ limit) × (limit ≤ placesOf a) ⌝ }
+    ensures { λ r. ⌜ ToldOfLeg (now (t .entry)) a (pairPlace n) limit r ⌝ }
+{
+    let m = rules::place::pair_of(limit);
+    let b = broken_from(t, first, next, a, f, n, m);
+    each_told(t, a, f, rules::place::pair_place(b), limit)
+}
+
+// Internal: the first broken place of leg a from p on and below the limit. Its own places, and those with a leg of which some stand before p, are looked at
+// one by one.
 pub fn judged_leg(
     t: &[u32],
     first: &[usize],
@@ -120,21 +154,17 @@ pub fn judged_leg(
     ensures { λ r. ⌜ ToldOfLeg (now (t .entry)) a p limit r ⌝ }
 {
     let f = rules::times::frame(t, a);
-    let own = crate::lesser(limit, rules::place::OWN_PLACES);
-    let told = each_told(t, a, f, p, own);
+    let n = whole_from(p);
+    let whole = rules::place::pair_place(n);
+    let told = each_told(t, a, f, p, crate::lesser(limit, whole));
     match told {
         LegTold::Broken(q, rule) => {
             return LegTold::Broken(q, rule);
         }
         LegTold::Kept => {}
     }
-    if limit <= rules::place::OWN_PLACES {
+    if limit <= whole {
         return LegTold::Kept;
     }
-    let n = crate::how_far_past(p, rules::place::OWN_PLACES);
-    let met = overlaps_told(t, first, next, a, f, n, limit - rules::place::OWN_PLACES);
-    match met {
-        Found::At(b) => LegTold::Broken(rules::place::overlap_place(b), Rule::Overlap),
-        Found::Nowhere => LegTold::Kept,
-    }
+    pairs_told(t, first, next, a, f, n, limit)
 }

@@ -1,6 +1,6 @@
 // The places of a leg, looked at in order.
 ghost use mathlib.Core.Path.{_≡_};
-ghost use Prim.Native.Nat.{_-_, _≤_};
+ghost use Prim.Native.Nat.{_≤_};
 ghost use Rattle.table.specs.Layout.{maxLegs};
 ghost use Rattle.rules.specs.Places.{placesOf};
 ghost use Rattle.places.specs.Order.{placesBelow, pairsOf};
@@ -43,16 +43,6 @@ fn pairs(legs: usize) -> usize
         return 0;
     }
     legs * (legs - 1) / 2
-}
-
-// How far x is past y, and 0 where it is not.
-fn how_far_past(x: usize, y: usize) -> usize
-    ensures { λ r. ⌜ r ≡ x - y ⌝ }
-{
-    if x < y {
-        return 0;
-    }
-    x - y
 }
 
 // Internal: the lesser of two numbers.

@@ -1,8 +1,9 @@
 -- The places of a leg and what is asked there: the one list read both ways. Assumes nothing.
-use Prim.Native.Nat.{ℕ, zero, suc, _-_, _≤_, _<_}
+use Prim.Native.Nat.{ℕ, zero, suc, _-_, _/_, _≤_, _<_}
 use mathlib.Core.Path.{_≡_, refl, ap}
 use native.Mathlib.Omega.{arith}
-use Rattle.rules.specs.Places.{askedAt, ownPlaces, placesOf, overlapPlace, placeOf, AskedOf}
+use Rattle.rules.specs.Places.{askedAt, ownPlaces, pairPlaces, placesOf, pairPlace, placeOf, AskedOf}
+use Rattle.rules.specs.Steps.{PlaceWith}
 use Rattle.rules.specs.Theorems.{PlacesAreAsked}
 use Rattle.rules.specs.declared.Asked.{Asked}
 use Rattle.rules.specs.declared.Asked.the-variants as asked
@@ -25,7 +26,7 @@ unfolding askedAt
 there asked.Window = refl
 there asked.Hop = refl
 there asked.Deadline = refl
-there (asked.Overlap b) = let e : overlapPlace b ≡ suc (suc (suc b)) = omega arith in ap askedAt e
+there (asked.Overlap b) = let e : pairPlace b ≡ suc (suc (suc b)) = omega arith in ap askedAt e
 
 back : (p : ℕ) → placeOf (askedAt p) ≡ p
 unfolding askedAt
@@ -44,3 +45,6 @@ past-own zero h = absurd (omega arith)
 past-own (suc zero) h = absurd (omega arith)
 past-own (suc (suc zero)) h = absurd (omega arith)
 past-own (suc (suc (suc b))) h = ap asked.Overlap (let e : suc (suc (suc b)) - ownPlaces ≡ b = omega arith in e)
+
+pub with-leg : (p : ℕ) → ownPlaces ≤ p → PlaceWith p ((p - ownPlaces) / pairPlaces)
+with-leg p h = record { from = omega arith; to = omega arith }

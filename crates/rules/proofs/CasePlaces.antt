@@ -49,7 +49,7 @@ module _ (n : PlanNumbers) (b : Bounded n) where
 pub bounded-a : (revision o0 o1 o2 : ℕ) → o0 + o1 + o2 ≤ maxTime → Bounded (revisedA revision o0 o1 o2)
 bounded-a revision o0 o1 o2 h = record { in-range = plan-a-in-range revision o0 o1 o2; offsets = h }
 
--- Wherever leg 2 is below 100,000, the first ten places hold, those before (2,3).
+-- Wherever leg 2 is below 100,000, the places before (2,3) hold.
 module _ (revision o2 : ℕ) (w : o2 ≤ 100000) where
   bounded : Bounded (revisedA revision 0 1176 o2)
   bounded = bounded-a revision 0 1176 o2 (omega arith)
@@ -58,14 +58,14 @@ module _ (revision o2 : ℕ) (w : o2 ≤ 100000) where
   unfolding wireTime holdTime lasting
   alone-2 = asked-2 (revisedA revision 0 1176 o2) bounded (omega arith) (omega arith)
 
-  pub first-ten : (a p : ℕ) → a < 3 → p < placesOf a → (a ≡ 2 → p < 3) → PlaceHolds (planWith (revisedA revision 0 1176 o2)) a p
+  pub before-meeting : (a p : ℕ) → a < 3 → p < placesOf a → (a ≡ 2 → p < 3) → PlaceHolds (planWith (revisedA revision 0 1176 o2)) a p
   unfolding wireTime holdTime lasting
-  first-ten zero p l h f = places-0 (revisedA revision 0 1176 o2) bounded (omega arith) p h
-  first-ten (suc zero) p l h f = places-hold (planWith (revisedA revision 0 1176 o2)) 1 1 (asked-1 (revisedA revision 0 1176 o2) bounded (omega arith) (omega arith) (omega arith)) p h
-  first-ten (suc (suc zero)) p l h f = places-hold (planWith (revisedA revision 0 1176 o2)) 2 0 alone-2 p (f refl)
-  first-ten (suc (suc (suc a))) p l h f = absurd (omega arith)
+  before-meeting zero p l h f = places-0 (revisedA revision 0 1176 o2) bounded (omega arith) p h
+  before-meeting (suc zero) p l h f = places-hold (planWith (revisedA revision 0 1176 o2)) 1 1 (asked-1 (revisedA revision 0 1176 o2) bounded (omega arith) (omega arith) (omega arith)) p h
+  before-meeting (suc (suc zero)) p l h f = places-hold (planWith (revisedA revision 0 1176 o2)) 2 0 alone-2 p (f refl)
+  before-meeting (suc (suc (suc a))) p l h f = absurd (omega arith)
 
--- Where leg 2 begins when leg 0 ends all twelve hold.
+-- Where leg 2 begins when leg 0 ends all places hold.
 module _ (revision : ℕ) where
   beside-2 : (q : Asked) → AskedOf 2 q → AskedHolds (planWith (revisedA revision 0 1176 holdA)) 2 q
   unfolding plan holdTime lasting
@@ -76,11 +76,11 @@ module _ (revision : ℕ) where
   beside-2 (asked.Overlap (suc zero)) o = overlap-21 (revisedA revision 0 1176 holdA) (bounded revision holdA (omega arith))
   beside-2 (asked.Overlap (suc (suc c))) o = absurd (omega arith)
 
-  pub all-twelve : (a p : ℕ) → a < 3 → p < placesOf a → PlaceHolds (planWith (revisedA revision 0 1176 holdA)) a p
-  all-twelve zero p l h = first-ten revision holdA (omega arith) 0 p l h (λ e. absurd (omega (arith, e)))
-  all-twelve (suc zero) p l h = first-ten revision holdA (omega arith) 1 p l h (λ e. absurd (omega (arith, e)))
-  all-twelve (suc (suc zero)) p l h = places-hold (planWith (revisedA revision 0 1176 holdA)) 2 2 beside-2 p h
-  all-twelve (suc (suc (suc a))) p l h = absurd (omega arith)
+  pub all-hold : (a p : ℕ) → a < 3 → p < placesOf a → PlaceHolds (planWith (revisedA revision 0 1176 holdA)) a p
+  all-hold zero p l h = before-meeting revision holdA (omega arith) 0 p l h (λ e. absurd (omega (arith, e)))
+  all-hold (suc zero) p l h = before-meeting revision holdA (omega arith) 1 p l h (λ e. absurd (omega (arith, e)))
+  all-hold (suc (suc zero)) p l h = places-hold (planWith (revisedA revision 0 1176 holdA)) 2 2 beside-2 p h
+  all-hold (suc (suc (suc a))) p l h = absurd (omega arith)
 
   -- At 0 it meets leg 0 at once.
   pub meets-at-2-3 : PlaceHolds (planWith (revisedA revision 0 1176 0)) 2 3 → ⊥

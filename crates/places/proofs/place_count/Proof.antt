@@ -13,7 +13,9 @@ pairs-requires : tie.Need-pairs-requires
 pairs-requires c κs = search needs
 
 mul-result-2 : tie.Need-mul-result-2
-mul-result-2 c = search needs
+mul-result-2 c =
+    let entry : tie.Start = search in
+    omega (arith, count-of-legs (entry .args .legs), below-mono (entry .args .legs) maxLegs (entry .pre), places-at-most)
 
 -- No more than the most places that a table has.
 add-result : tie.Need-add-result

@@ -1,9 +1,9 @@
--- `places::leg::lowest_met` meets its contract: what leg a was told of along the chain. Assumes nothing.
+-- `places::leg::lowest_broken` meets its contract: what was told of leg a and each leg along the chain. Assumes nothing.
 use Prim.Native.Nat.{_-_}
-use Rattle.places.proofs.MeetingLaws.{Turn, turn-starts, turn-leg, turn-room, turn-less, turn-meets, turn-on, turn-ends}
+use Rattle.places.proofs.PairLaws.{Turn, turn-starts, turn-leg, turn-link, turn-room, turn-less, turn-breaks, turn-on, turn-ends}
 use borrow.Author.Needs.{needs}
-use Rattle.places.proofs.leg.lowest_met.Statement.{statement}
-use Rattle.places.proofs.leg.lowest_met.Tie as tie
+use Rattle.places.proofs.leg.lowest_broken.Statement.{statement}
+use Rattle.places.proofs.leg.lowest_broken.Tie as tie
 
 abbrev Inv-loop : tie.InvT-loop
 Inv-loop t next a start n m mine known₀ b₀ known b = Turn t next a n m mine known b
@@ -11,26 +11,26 @@ Inv-loop t next a start n m mine known₀ b₀ known b = Turn t next a n m mine 
 abbrev μ-loop : tie.MeasureT-loop
 μ-loop t next a start n m mine known₀ b₀ known b = m - b
 
-slot-requires : tie.Need-slot-requires Inv-loop μ-loop
-slot-requires c κs = search needs
+sharer-requires : tie.Need-sharer-requires Inv-loop μ-loop
+sharer-requires c κs = search needs
 
 loop-holds : tie.Need-loop-holds Inv-loop μ-loop
 loop-holds c = search turn-starts
 
-slot-at-requires : tie.Need-slot-at-requires Inv-loop μ-loop
-slot-at-requires c κs = search turn-leg
+sharer-at-requires : tie.Need-sharer-at-requires Inv-loop μ-loop
+sharer-at-requires c κs = search turn-leg
 
 known-with-requires : tie.Need-known-with-requires Inv-loop μ-loop
 known-with-requires c κs = search
 
-apart-requires : tie.Need-apart-requires Inv-loop μ-loop
-apart-requires c κs = (search, (search, search))
+pair-told-requires : tie.Need-pair-told-requires Inv-loop μ-loop
+pair-told-requires c κs = (search, (search, (search turn-link, search)))
 
 enum-told : tie.Need-enum-told Inv-loop μ-loop
 enum-told c = search needs
 
 returns : tie.Need-returns Inv-loop μ-loop
-returns c = search turn-meets
+returns c = search turn-breaks
 
 enum-told-2 : tie.Need-enum-told-2 Inv-loop μ-loop
 enum-told-2 c = search needs
@@ -50,17 +50,17 @@ loop-again c = search turn-on
 returns-2 : tie.Need-returns-2 Inv-loop μ-loop
 returns-2 c = search turn-ends
 
-pub lowest-met-spec : {M : Type 1} → statement M
-lowest-met-spec =
+pub lowest-broken-spec : {M : Type 1} → statement M
+lowest-broken-spec =
     tie.close
     (tie.spec
     Inv-loop
     μ-loop
-    slot-requires
+    sharer-requires
     loop-holds
-    slot-at-requires
+    sharer-at-requires
     known-with-requires
-    apart-requires
+    pair-told-requires
     enum-told
     returns
     enum-told-2
