@@ -84,16 +84,21 @@ module _ {p n : ℕ} (w : WholeFrom p n) where
   pub whole-is-leg : {t : List ℕ} {a limit : ℕ} → LegIn t a → p ≤ limit → limit ≤ placesOf a → n ≤ maxLegs
   whole-is-leg {a = a} leg h k = omega (arith, w .lowest a (omega arith), leg .leg, leg .table .sized .limits .legs)
 
-  pub pairs-behind : (t : List ℕ) (a limit : ℕ) (r : LegTold) {x : ℕ} → x ≡ pairPlace n → LegHolds t a p x → ToldOfLeg t a (pairPlace n) limit r
-      → ToldOfLeg t a p limit r
-  pairs-behind t a limit r e held m = held-and-told t a limit (w .from) (subst (LegHolds t a p) e held) r m
+  -- Those before x hold one by one, those with legs from n on and below b by their chain; and then those from q on.
+  module _ (t : List ℕ) (a limit : ℕ) {x m b q : ℕ} (e : x ≡ pairPlace n) (lowest : BrokenFrom t a n m b) (f : q ≡ pairPlace b) (held : LegHolds t a p x) where
+    held-to-q : LegHolds t a p q
+    held-to-q = subst (LegHolds t a p) (sym f) (held-on t a (subst (LegHolds t a p) e held) (pairs-hold t a n b (lowest .before)))
 
--- From the first leg with which something is broken on.
-pub broken-behind : {t : List ℕ} {a n m b : ℕ} (limit : ℕ) (r : LegTold) {q : ℕ} → BrokenFrom t a n m b → q ≡ pairPlace b → ToldOfLeg t a q limit r
-    → ToldOfLeg t a (pairPlace n) limit r
-broken-behind {t} {a} {n} {b = b} limit r w e m =
-    held-and-told t a limit (omega (arith, w .above)) (pairs-hold t a n b (w .before)) r (subst (λ (x : ℕ). ToldOfLeg t a x limit r) e m)
+    pub all-behind : limit ≤ q → LegHolds t a p limit
+    all-behind h s l k = held-to-q s l (omega arith)
 
+    pub told-behind : (r : LegTold) → ToldOfLeg t a q limit r → ToldOfLeg t a p limit r
+    told-behind r m = held-and-told t a limit (omega (arith, w .from, lowest .above)) held-to-q r m
+
+pub broken-is-leg : {t : List ℕ} {a n m b limit : ℕ} → LegIn t a → limit ≤ placesOf a → PlaceWith limit m → BrokenFrom t a n m b → b ≤ maxLegs
+broken-is-leg leg h with-m lowest = omega (arith, lowest .inside, with-m .from, leg .leg, leg .table .sized .limits .legs)
+
+-- What the search along the chain found.
 module _ {t : List ℕ} {a n m : ℕ} {told : Found} (h : n ≤ m) where
   pub found-broken : {b : ℕ} → told ≡ found.At b → ToldOfPairs t a n m told → BrokenFrom t a n m b
   found-broken {b} e x =

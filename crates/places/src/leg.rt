@@ -2,7 +2,7 @@
 ghost use Prim.Native.Nat.{_≤_};
 ghost use Rattle.table.specs.Layout.{maxLegs, legCount};
 ghost use Rattle.table.specs.Records.{legAt};
-ghost use Rattle.rules.specs.Places.{placesOf, pairPlace};
+ghost use Rattle.rules.specs.Places.{placesOf};
 ghost use Rattle.rules.specs.Steps.{LegIn, FrameOf};
 ghost use Rattle.places.specs.Chains.{NextOn, Begun, Chained};
 ghost use Rattle.places.specs.Told.{ToldOfLeg, ToldOfPairs, BrokenFrom, WholeFrom, LegLooked};
@@ -118,28 +118,8 @@ fn whole_from(p: usize) -> usize
     rules::place::pair_of(p - 1) + 1
 }
 
-// The places of leg a with the legs from n on, below the limit: the legs whose places are all below it by their chain, and from the first broken on one by one.
-fn pairs_told(
-    t: &[u32],
-    first: &[usize],
-    next: &[usize],
-    a: usize,
-    f: Frame,
-    n: usize,
-    limit: usize,
-) -> LegTold
-    requires { ⌜ LegLooked (now t) (now next) a f ⌝ }
-    requires { ⌜ Begun (now t) (now first) 0 ⌝ }
-    requires { ⌜ (pairPlace n ≤ limit) × (limit ≤ placesOf a) ⌝ }
-    ensures { λ r. ⌜ ToldOfLeg (now (t .entry)) a (pairPlace n) limit r ⌝ }
-{
-    let m = rules::place::pair_of(limit);
-    let b = broken_from(t, first, next, a, f, n, m);
-    each_told(t, a, f, rules::place::pair_place(b), limit)
-}
-
-// Internal: the first broken place of leg a from p on and below the limit. Its own places, and those with a leg of which some stand before p, are looked at
-// one by one.
+// Internal: the first broken place of leg a from p on and below the limit. Those before the first whole leg's are looked at one by one, then the legs whose places
+// are all below the limit by their chain, and from the first with which a rule is broken, or from the last of these legs on, one by one again.
 pub fn judged_leg(
     t: &[u32],
     first: &[usize],
@@ -166,5 +146,10 @@ pub fn judged_leg(
     if limit <= whole {
         return LegTold::Kept;
     }
-    pairs_told(t, first, next, a, f, n, limit)
+    let b = broken_from(t, first, next, a, f, n, rules::place::pair_of(limit));
+    let q = rules::place::pair_place(b);
+    if limit <= q {
+        return LegTold::Kept;
+    }
+    each_told(t, a, f, q, limit)
 }

@@ -1,5 +1,5 @@
--- `places::leg::judged_leg` meets its contract: the first places one by one, and then those with whole legs. Assumes nothing.
-use Rattle.places.proofs.LegLaws.{head-broken, head-all, head-kept, whole-is-leg, pairs-behind}
+-- `places::leg::judged_leg` meets its contract: the first places one by one, those with whole legs by their chain, and what is left one by one. Assumes nothing.
+use Rattle.places.proofs.LegLaws.{head-broken, head-all, head-kept, whole-is-leg, broken-is-leg, all-behind, told-behind}
 use borrow.Author.Needs.{needs}
 use Rattle.places.proofs.leg.judged_leg.Statement.{statement}
 use Rattle.places.proofs.leg.judged_leg.Tie as tie
@@ -31,11 +31,23 @@ enum-told c = search needs
 returns-2 : tie.Need-returns-2
 returns-2 c = search head-all
 
-pairs-told-requires : tie.Need-pairs-told-requires
-pairs-told-requires c κs = (search, (search, (search needs, search needs)))
+pair-of-requires : tie.Need-pair-of-requires
+pair-of-requires c κs = search needs
+
+broken-from-requires : tie.Need-broken-from-requires
+broken-from-requires c κs = (search, (search, (search needs, search needs)))
+
+pair-place-requires-2 : tie.Need-pair-place-requires-2
+pair-place-requires-2 c κs = let entry : tie.Start = search in search broken-is-leg
 
 returns-3 : tie.Need-returns-3
-returns-3 c = search (pairs-behind, head-kept)
+returns-3 c = search (all-behind, head-kept)
+
+each-told-requires-2 : tie.Need-each-told-requires-2
+each-told-requires-2 c κs = (search, (search, search))
+
+returns-4 : tie.Need-returns-4
+returns-4 c = search (told-behind, head-kept)
 
 pub judged-leg-spec : {M : Type 1} → statement M
 judged-leg-spec =
@@ -50,5 +62,9 @@ judged-leg-spec =
     returns
     enum-told
     returns-2
-    pairs-told-requires
-    returns-3)
+    pair-of-requires
+    broken-from-requires
+    pair-place-requires-2
+    returns-3
+    each-told-requires-2
+    returns-4)
