@@ -16,7 +16,7 @@ use Rattle.rules.proofs.Pairs.{pairs-hold}
 use Rattle.basics.specs.Lowest.{Lowest}
 use Rattle.basics.specs.declared.Found.{Found}
 use Rattle.basics.specs.declared.Found.the-variants as found
-use Rattle.places.specs.Told.{LegHolds, FirstBroken, ToldOfLeg, ToldOfPairs, BrokenFrom, WholeFrom, IsLesser}
+use Rattle.places.specs.Told.{LegHolds, FirstBroken, ToldOfPairs, BrokenFrom, WholeFrom, NextPlace}
 use Rattle.places.specs.declared.LegTold.{LegTold}
 use Rattle.places.specs.declared.LegTold.the-variants.{Broken, Kept}
 
@@ -25,75 +25,56 @@ pub record Passed (t : List ℕ) (a p q : ℕ) : Type 0 where
   pub from : p ≤ q
   pub held : LegHolds t a p q
 
-module _ {t : List ℕ} {a p : ℕ} where
-  pub passed-none : Passed t a p p
-  passed-none = record { from = omega arith; held = λ s l h. absurd (omega arith) }
+pub passed-none : {t : List ℕ} {a p : ℕ} → Passed t a p p
+passed-none = record { from = omega arith; held = λ s l h. absurd (omega arith) }
 
-  module _ {q : ℕ} {told : Judged} where
-    pub passed-more : told ≡ judged.Kept → JudgedTold t a q told → Passed t a p q → Passed t a p (q + 1)
-    passed-more e j i =
-        let k : PlaceHolds t a q = subst (JudgedTold t a q) e j in
+pub passed-all : (t : List ℕ) (a : ℕ) {p q limit : ℕ} → Passed t a p q → limit ≤ q → LegHolds t a p limit
+passed-all t a i h s l b = i .held s l (omega arith)
+
+-- On to the next place to be looked at.
+passed-to : {t : List ℕ} {a p q s : ℕ} → Passed t a p q → NextPlace t a q s → Passed t a p s
+passed-to {q = q} i n = record {
+  from = omega (arith, i .from, n .from);
+  held = λ x l b. ⊎-elim (λ (k : x < q). i .held x l k) (λ (k : q ≤ x). n .held x k b) (lt-or-ge x q);
+}
+
+module _ {t : List ℕ} {a p q s : ℕ} (before : Passed t a p q) (next : NextPlace t a q s) where
+  pub next-past : {limit : ℕ} → limit ≤ s → LegHolds t a p limit
+  next-past h = passed-all t a (passed-to before next) h
+
+  module _ {told : Judged} where
+    pub passed-more : told ≡ judged.Kept → JudgedTold t a s told → Passed t a p (s + 1)
+    passed-more e j =
+        let k : PlaceHolds t a s = subst (JudgedTold t a s) e j in
+        let i = passed-to before next in
         record {
           from = omega (arith, i .from);
-          held = λ s l b.
+          held = λ x l b.
               ⊎-elim
-              (λ (e : s ≡ q). subst (λ (x : ℕ). PlaceHolds t a x) (sym e) k)
-              (λ (m : s < q). i .held s l m)
-              (eq-or-lt-of-le (let z : s ≤ q = omega arith in z));
+              (λ (e : x ≡ s). subst (λ (z : ℕ). PlaceHolds t a z) (sym e) k)
+              (λ (m : x < s). i .held x l m)
+              (eq-or-lt-of-le (let z : x ≤ s = omega arith in z));
         }
 
-    pub passed-broken : {limit : ℕ} {r : Rule} → told ≡ judged.Broken r → JudgedTold t a q told → Passed t a p q → q < limit → FirstBroken t a p limit q r
-    passed-broken e j i h = let k = subst (JudgedTold t a q) e j in record { first = record { above = i .from; inside = h; bad = k .0; before = i .held }; rule = k .1 }
+    pub passed-broken : {limit : ℕ} {r : Rule} → told ≡ judged.Broken r → JudgedTold t a s told → s < limit → FirstBroken t a p limit s r
+    passed-broken e j h =
+        let k = subst (JudgedTold t a s) e j in
+        let i = passed-to before next in
+        record { first = record { above = i .from; inside = h; bad = k .0; before = i .held }; rule = k .1 }
 
-  pub passed-all : {q limit : ℕ} → Passed t a p q → limit ≤ q → LegHolds t a p limit
-  passed-all i h s l b = i .held s l (omega arith)
+-- The next place is the one where we stand, or the first with the leg that was found along the chain.
+pub next-here : {t : List ℕ} {a q : ℕ} → NextPlace t a q q
+next-here = record { from = omega arith; held = λ s l h. absurd (omega arith) }
 
--- The places of leg a up to q, and then those from q on.
-held-on : (t : List ℕ) (a : ℕ) {p q x : ℕ} → LegHolds t a p q → LegHolds t a q x → LegHolds t a p x
-held-on t a {q = q} held more s l b = ⊎-elim (λ (k : s < q). held s l k) (λ (k : q ≤ s). more s k b) (lt-or-ge s q)
-
-held-and-told : (t : List ℕ) (a limit : ℕ) {p q : ℕ} → p ≤ q → LegHolds t a p q → (r : LegTold) → ToldOfLeg t a q limit r → ToldOfLeg t a p limit r
-held-and-told t a limit h held (Broken s rule) m = record {
-  first = record {
-    above = omega (arith, m .first .above);
-    inside = m .first .inside;
-    bad = m .first .bad;
-    before = held-on t a held (m .first .before);
-  };
-  rule = m .rule;
+pub next-along : {t : List ℕ} {a n m b q x s : ℕ} → BrokenFrom t a n m b → q ≡ x → x ≡ pairPlace n → s ≡ pairPlace b → NextPlace t a q s
+next-along {t} {a} {n} {b = b} w e f g = record {
+  from = omega (arith, w .above);
+  held = λ z l h. pairs-hold t a n b (w .before) z (omega arith) (omega arith);
 }
-held-and-told t a limit h held Kept m = held-on t a held m
 
--- The first places, up to the lesser of the limit and x: a broken one is the first, and else all hold below the limit, or those up to x do.
-pub head-broken : {t : List ℕ} {a p x to limit q : ℕ} {r : Rule} {told : LegTold} → told ≡ Broken q r → IsLesser limit x to → ToldOfLeg t a p to told
-    → FirstBroken t a p limit q r
-head-broken {t} {a} {p} {to = to} {q = q} {r = r} e l m =
-    let k : FirstBroken t a p to q r = subst (ToldOfLeg t a p to) e m in
-    let y = k .first in
-    record { first = record { above = y .above; inside = omega (arith, y .inside, l .left); bad = y .bad; before = y .before }; rule = k .rule }
-
-module _ (t : List ℕ) (a : ℕ) {p x to limit : ℕ} {told : LegTold} (e : told ≡ Kept) (l : IsLesser limit x to) where
-  pub head-all : limit ≤ x → ToldOfLeg t a p to told → LegHolds t a p limit
-  head-all h m = subst (LegHolds t a p) (l .is-left h) (subst (ToldOfLeg t a p to) e m)
-
-  pub head-kept : x < limit → ToldOfLeg t a p to told → LegHolds t a p x
-  head-kept h m = subst (LegHolds t a p) (l .is-right (omega arith)) (subst (ToldOfLeg t a p to) e m)
-
--- The places with leg n and all legs behind it.
-module _ {p n : ℕ} (w : WholeFrom p n) where
-  pub whole-is-leg : {t : List ℕ} {a limit : ℕ} → LegIn t a → p ≤ limit → limit ≤ placesOf a → n ≤ maxLegs
-  whole-is-leg {a = a} leg h k = omega (arith, w .lowest a (omega arith), leg .leg, leg .table .sized .limits .legs)
-
-  -- Those before x hold one by one, those with legs from n on and below b by their chain; and then those from q on.
-  module _ (t : List ℕ) (a limit : ℕ) {x m b q : ℕ} (e : x ≡ pairPlace n) (lowest : BrokenFrom t a n m b) (f : q ≡ pairPlace b) (held : LegHolds t a p x) where
-    held-to-q : LegHolds t a p q
-    held-to-q = subst (LegHolds t a p) (sym f) (held-on t a (subst (LegHolds t a p) e held) (pairs-hold t a n b (lowest .before)))
-
-    pub all-behind : limit ≤ q → LegHolds t a p limit
-    all-behind h s l k = held-to-q s l (omega arith)
-
-    pub told-behind : (r : LegTold) → ToldOfLeg t a q limit r → ToldOfLeg t a p limit r
-    told-behind r m = held-and-told t a limit (omega (arith, w .from, lowest .above)) held-to-q r m
+-- The first leg whose places are all between these is a leg of the table, or the one after the last; and so is the one that was found.
+pub whole-is-leg : {t : List ℕ} {a p n limit : ℕ} → WholeFrom p n → LegIn t a → p ≤ limit → limit ≤ placesOf a → n ≤ maxLegs
+whole-is-leg {a = a} w leg h k = omega (arith, w .lowest a (omega arith), leg .leg, leg .table .sized .limits .legs)
 
 pub broken-is-leg : {t : List ℕ} {a n m b limit : ℕ} → LegIn t a → limit ≤ placesOf a → PlaceWith limit m → BrokenFrom t a n m b → b ≤ maxLegs
 broken-is-leg leg h with-m lowest = omega (arith, lowest .inside, with-m .from, leg .leg, leg .table .sized .limits .legs)

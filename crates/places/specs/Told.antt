@@ -42,6 +42,11 @@ pub record WholeFrom (p b : ℕ) : Type 0 where
   pub from : p ≤ pairPlace b
   pub lowest : (c : ℕ) → p ≤ pairPlace c → b ≤ c
 
+-- Place s of leg a is the next to be looked at from q on: those before it hold.
+pub record NextPlace (t : List ℕ) (a q s : ℕ) : Type 0 where
+  pub from : q ≤ s
+  pub held : LegHolds t a q s
+
 -- Leg a of a table, its frame, and the chains of all legs.
 pub record LegLooked (t next : List ℕ) (a : ℕ) (f : Frame) : Type 0 where
   pub leg : LegIn t a

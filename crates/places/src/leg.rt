@@ -1,38 +1,17 @@
 // The first broken place of a leg.
-ghost use Prim.Native.Nat.{_≤_};
+ghost use Prim.Native.Nat.{_<_, _≤_};
 ghost use Rattle.table.specs.Layout.{maxLegs, legCount};
 ghost use Rattle.table.specs.Records.{legAt};
 ghost use Rattle.rules.specs.Places.{placesOf};
 ghost use Rattle.rules.specs.Steps.{LegIn, FrameOf};
 ghost use Rattle.places.specs.Chains.{NextOn, Begun, Chained};
-ghost use Rattle.places.specs.Told.{ToldOfLeg, ToldOfPairs, BrokenFrom, WholeFrom, LegLooked};
+ghost use Rattle.places.specs.Told.{ToldOfLeg, ToldOfPairs, BrokenFrom, WholeFrom, NextPlace, LegLooked};
 use crate::LegTold;
 use basics::Found;
 use basics::Holds;
 use overlap::Known;
 use rules::Frame;
 use rules::Judged;
-
-// The places of leg a from p on and below the limit, one by one.
-fn each_told(t: &[u32], a: usize, f: Frame, p: usize, limit: usize) -> LegTold
-    requires { ⌜ LegIn (now t) a ⌝ }
-    requires { ⌜ FrameOf (now t) a f ⌝ }
-    requires { ⌜ limit ≤ placesOf a ⌝ }
-    ensures { λ r. ⌜ ToldOfLeg (now (t .entry)) a p limit r ⌝ }
-{
-    let mut q = p;
-    while q < limit {
-        let told = rules::place::judged_place(t, a, f, q);
-        match told {
-            Judged::Broken(rule) => {
-                return LegTold::Broken(q, rule);
-            }
-            Judged::Kept => {}
-        }
-        q = q + 1;
-    }
-    LegTold::Kept
-}
 
 // Along the chain of link l from leg start on, the lowest leg that is not below n.
 fn chain_from(t: &[u32], next: &[usize], l: usize, start: usize, n: usize) -> usize
@@ -118,8 +97,32 @@ fn whole_from(p: usize) -> usize
     rules::place::pair_of(p - 1) + 1
 }
 
-// Internal: the first broken place of leg a from p on and below the limit. Those before the first whole leg's are looked at one by one, then the legs whose places
-// are all below the limit by their chain, and from the first with which a rule is broken, or from the last of these legs on, one by one again.
+// The next place of leg a to be looked at, from q on: q itself, but where those with leg n begin, those with the first leg from n on with which a rule is broken,
+// or with the first that has places past the limit.
+fn next_place(
+    t: &[u32],
+    first: &[usize],
+    next: &[usize],
+    a: usize,
+    f: Frame,
+    n: usize,
+    q: usize,
+    limit: usize,
+) -> usize
+    requires { ⌜ LegLooked (now t) (now next) a f ⌝ }
+    requires { ⌜ Begun (now t) (now first) 0 ⌝ }
+    requires { ⌜ n ≤ maxLegs ⌝ }
+    requires { ⌜ (q < limit) × (limit ≤ placesOf a) ⌝ }
+    ensures { λ r. ⌜ NextPlace (now (t .entry)) a q r ⌝ }
+{
+    if q != rules::place::pair_place(n) {
+        return q;
+    }
+    let b = broken_from(t, first, next, a, f, n, rules::place::pair_of(limit));
+    rules::place::pair_place(b)
+}
+
+// Internal: the first broken place of leg a from p on and below the limit. Those with the legs that have all their places between these are passed by their chain.
 pub fn judged_leg(
     t: &[u32],
     first: &[usize],
@@ -135,21 +138,20 @@ pub fn judged_leg(
 {
     let f = rules::times::frame(t, a);
     let n = whole_from(p);
-    let whole = rules::place::pair_place(n);
-    let told = each_told(t, a, f, p, crate::lesser(limit, whole));
-    match told {
-        LegTold::Broken(q, rule) => {
-            return LegTold::Broken(q, rule);
+    let mut q = p;
+    while q < limit {
+        let s = next_place(t, first, next, a, f, n, q, limit);
+        if limit <= s {
+            return LegTold::Kept;
         }
-        LegTold::Kept => {}
+        let told = rules::place::judged_place(t, a, f, s);
+        match told {
+            Judged::Broken(rule) => {
+                return LegTold::Broken(s, rule);
+            }
+            Judged::Kept => {}
+        }
+        q = s + 1;
     }
-    if limit <= whole {
-        return LegTold::Kept;
-    }
-    let b = broken_from(t, first, next, a, f, n, rules::place::pair_of(limit));
-    let q = rules::place::pair_place(b);
-    if limit <= q {
-        return LegTold::Kept;
-    }
-    each_told(t, a, f, q, limit)
+    LegTold::Kept
 }

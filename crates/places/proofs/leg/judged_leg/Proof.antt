@@ -1,70 +1,71 @@
--- `places::leg::judged_leg` meets its contract: the first places one by one, those with whole legs by their chain, and what is left one by one. Assumes nothing.
-use Rattle.places.proofs.LegLaws.{head-broken, head-all, head-kept, whole-is-leg, broken-is-leg, all-behind, told-behind}
+-- `places::leg::judged_leg` meets its contract: the places from p on and below q hold. Assumes nothing.
+use Prim.Native.Nat.{_-_}
+use Rattle.places.proofs.LegLaws.{Passed, passed-none, passed-more, passed-broken, passed-all, next-past, whole-is-leg}
 use borrow.Author.Needs.{needs}
 use Rattle.places.proofs.leg.judged_leg.Statement.{statement}
 use Rattle.places.proofs.leg.judged_leg.Tie as tie
 
-frame-requires : tie.Need-frame-requires
+abbrev Inv-loop : tie.InvT-loop
+Inv-loop t first next a p limit f n q₀ q = Passed t a p q
+
+abbrev μ-loop : tie.MeasureT-loop
+μ-loop t first next a p limit f n q₀ q = limit - q
+
+frame-requires : tie.Need-frame-requires Inv-loop μ-loop
 frame-requires c κs = search needs
 
-whole-from-requires : tie.Need-whole-from-requires
+whole-from-requires : tie.Need-whole-from-requires Inv-loop μ-loop
 whole-from-requires c κs = search needs
 
-pair-place-requires : tie.Need-pair-place-requires
-pair-place-requires c κs = search whole-is-leg
+loop-holds : tie.Need-loop-holds Inv-loop μ-loop
+loop-holds c = passed-none
 
-lesser-requires : tie.Need-lesser-requires
-lesser-requires c κs = search needs
+next-place-requires : tie.Need-next-place-requires Inv-loop μ-loop
+next-place-requires c κs = (search, (search, (search whole-is-leg, (search, search))))
 
-each-told-requires : tie.Need-each-told-requires
-each-told-requires c κs = search needs
+returns : tie.Need-returns Inv-loop μ-loop
+returns c = search next-past
 
-enum-known-told : tie.Need-enum-known-told
+judged-place-requires : tie.Need-judged-place-requires Inv-loop μ-loop
+judged-place-requires c κs = (search, (search, search needs))
+
+enum-known-told : tie.Need-enum-known-told Inv-loop μ-loop
 enum-known-told c = search needs
 
-returns : tie.Need-returns
-returns c = search head-broken
+returns-2 : tie.Need-returns-2 Inv-loop μ-loop
+returns-2 c = search passed-broken
 
-enum-told : tie.Need-enum-told
+enum-told : tie.Need-enum-told Inv-loop μ-loop
 enum-told c = search needs
 
-returns-2 : tie.Need-returns-2
-returns-2 c = search head-all
+add-q : tie.Need-add-q Inv-loop μ-loop
+add-q c = search needs
 
-pair-of-requires : tie.Need-pair-of-requires
-pair-of-requires c κs = search needs
+loop-less : tie.Need-loop-less Inv-loop μ-loop
+loop-less c = search needs
 
-broken-from-requires : tie.Need-broken-from-requires
-broken-from-requires c κs = (search, (search, (search needs, search needs)))
+loop-again : tie.Need-loop-again Inv-loop μ-loop
+loop-again c = search passed-more
 
-pair-place-requires-2 : tie.Need-pair-place-requires-2
-pair-place-requires-2 c κs = let entry : tie.Start = search in search broken-is-leg
-
-returns-3 : tie.Need-returns-3
-returns-3 c = search (all-behind, head-kept)
-
-each-told-requires-2 : tie.Need-each-told-requires-2
-each-told-requires-2 c κs = (search, (search, search))
-
-returns-4 : tie.Need-returns-4
-returns-4 c = search (told-behind, head-kept)
+returns-3 : tie.Need-returns-3 Inv-loop μ-loop
+returns-3 c = search passed-all
 
 pub judged-leg-spec : {M : Type 1} → statement M
 judged-leg-spec =
     tie.close
     (tie.spec
+    Inv-loop
+    μ-loop
     frame-requires
     whole-from-requires
-    pair-place-requires
-    lesser-requires
-    each-told-requires
-    enum-known-told
+    loop-holds
+    next-place-requires
     returns
-    enum-told
+    judged-place-requires
+    enum-known-told
     returns-2
-    pair-of-requires
-    broken-from-requires
-    pair-place-requires-2
-    returns-3
-    each-told-requires-2
-    returns-4)
+    enum-told
+    add-q
+    loop-less
+    loop-again
+    returns-3)
