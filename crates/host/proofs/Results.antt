@@ -1,4 +1,4 @@
--- Each stage of a call has its refusals: the plan file 2 and 12 to 14, the cursor 12 to 14, the room 15, and a table that was read 4 to 11. The rest is 0 to 5.
+-- Each stage of a call has its refusals: the plan file 2 and 12 to 14, the cursor 12 to 14, the room 15, and a table that was read 4 to 11. The rest are results of calls that are not refused.
 -- Assumes nothing.
 use Prim.Native.Nat.{ℕ, _-_, _≤_}
 use mathlib.Core.Path.{_≡_, ap, subst, sym}
@@ -28,7 +28,7 @@ use Rattle.places.specs.Order.{placeCount}
 use Rattle.host.specs.declared.Answer.{Answer}
 use Rattle.host.specs.Answers.{ruleResult, refusal, sliceAnswered, startAnswered, resultAlone}
 use Rattle.host.specs.Calls.{Lent, AfterMove, HostStarts, HostSlices, HostMoves}
-use Rattle.host.specs.Theorems.{IsRefusal, ResultsAreThese}
+use Rattle.host.specs.Theorems.{SliceResult, IsRefusal, ResultsAreThese}
 
 -- A refusal from 4 on, one for room, and one of the plan file.
 refused : (a : Answer) (k p : ℕ) → a ≡ refusal k p → badLink ≤ k → RefusalNumber k → IsRefusal (a .result)
@@ -48,14 +48,14 @@ start-results : (t : List ℕ) (n : ℕ) (g : Grant) (a : Answer) → Sized t �
 start-results t n (grant.Granted d) a z s e = inl (ap resultAlone e)
 start-results t n (grant.Refused k p d) a z s e = inr (refused a k p e (sized-refused t k p z (s .0)) (shape-of-table t k p (s .0) .number))
 
-rule-results : (x : Rule) → ruleResult x ≤ 5
+rule-results : (x : Rule) → SliceResult (ruleResult x)
 rule-results rule.Window = omega arith
 rule-results rule.Hop = omega arith
 rule-results rule.Deadline = omega arith
 rule-results rule.Overlap = omega arith
 
 slice-results : (t : List ℕ) (c : Cursor) (budget : ℕ) (x : SliceAnswer) (a : Answer)
-    → Sized t → Slices t c budget x → a ≡ sliceAnswered x → (a .result ≤ 5) ⊎ IsRefusal (a .result)
+    → Sized t → Slices t c budget x → a ≡ sliceAnswered x → SliceResult (a .result) ⊎ IsRefusal (a .result)
 slice-results t c budget (answer.Violated d n r) a z s e = inl (omega (arith, ap resultAlone e, rule-results r))
 slice-results t c budget (answer.NothingViolated d n) a z s e = inl (omega (arith, ap resultAlone e))
 slice-results t c budget (answer.Paused d n) a z s e = inl (omega (arith, ap resultAlone e))
@@ -76,7 +76,7 @@ start-these plan out a out′ (inr (t, f, inl r)) = inr (for-room a (r .number) 
 start-these plan out a out′ (inr (t, f, inr x)) = let s = x .1 in start-results t (placeCount t) (s .given) a (f .complete) (s .starts) (s .answer)
 
 slice-these : (plan cursor : List ℕ) (budget : ℕ) (out : List ℕ) (a : Answer) (out′ : List ℕ)
-    → HostSlices plan cursor budget out a out′ → (a .result ≤ 5) ⊎ IsRefusal (a .result)
+    → HostSlices plan cursor budget out a out′ → SliceResult (a .result) ⊎ IsRefusal (a .result)
 slice-these plan cursor budget out a out′ (inl r) = inr (of-the-plan a (r .number) (r .at) (r .answer) (plan-refused plan (r .number) (r .at) (r .fault)))
 slice-these plan cursor budget out a out′ (inr (t, f, inl r)) =
     inr (of-the-plan a (r .number) (r .at) (r .answer) (inr (cursor-refused cursor (r .number) (r .at) (r .fault))))
@@ -97,7 +97,7 @@ pub results-are-these : ResultsAreThese
 results-are-these = record {
   start = start-these;
   slice = λ plan cursor budget out r out′ x.
-      subst (λ (n : ℕ). (n ≤ 5) ⊎ IsRefusal n) (sym (x .is)) (slice-these plan cursor budget out (x .answer) out′ (x .slices));
+      subst (λ (n : ℕ). SliceResult n ⊎ IsRefusal n) (sym (x .is)) (slice-these plan cursor budget out (x .answer) out′ (x .slices));
   slice-full = slice-these;
   move-leg = move-these;
 }

@@ -83,13 +83,17 @@ FullRoomIsEnough =
 abbrev pub IsRefusal : ℕ → Type 0
 IsRefusal r = (r ≡ 102) ⊎ ((104 ≤ r) × RefusalNumber (r - 100))
 
--- Which results there are: 0 of a start and of a move, 0 to 5 of a slice, or a refusal.
+-- A slice that is not refused has one of the results 0 to 5.
+abbrev pub SliceResult : ℕ → Type 0
+SliceResult r = r ≤ 5
+
+-- Which results there are: 0 of a start and of a move, those of a slice, or a refusal.
 pub record ResultsAreThese : Type 0 where
   pub start : (plan out : List ℕ) (a : Answer) (out′ : List ℕ) → HostStarts plan out a out′ → (a .result ≡ 0) ⊎ IsRefusal (a .result)
   pub slice : (plan cursor : List ℕ) (budget : ℕ) (out : List ℕ) (r : ℕ) (out′ : List ℕ)
-      → HostSliceResult plan cursor budget out r out′ → (r ≤ 5) ⊎ IsRefusal r
+      → HostSliceResult plan cursor budget out r out′ → SliceResult r ⊎ IsRefusal r
   pub slice-full : (plan cursor : List ℕ) (budget : ℕ) (out : List ℕ) (a : Answer) (out′ : List ℕ)
-      → HostSlices plan cursor budget out a out′ → (a .result ≤ 5) ⊎ IsRefusal (a .result)
+      → HostSlices plan cursor budget out a out′ → SliceResult (a .result) ⊎ IsRefusal (a .result)
   pub move-leg : (plan cursor : List ℕ) (mv : Move) (m : Lent) (a : Answer) (m′ : Lent)
       → HostMoves plan cursor mv m a m′ → (a .result ≡ 0) ⊎ IsRefusal (a .result)
 
