@@ -61,7 +61,7 @@ run_apart() { # NUMBER COMMAND...
     local number=$1 began=$SECONDS status=0
     shift
     "$@" >"$temp/$number.said" 2>&1 || status=$?
-    echo "$status $((SECONDS - began))" >"$temp/$number.ended"
+    echo "$status $((SECONDS - began))" >"$temp/$number.new" && mv "$temp/$number.new" "$temp/$number.ended"
 }
 
 # Tells of a test that has run. What it said is shown only where it failed.
@@ -85,7 +85,7 @@ try() { # NAME COMMAND...
 # Runs tests, two at a time. Each is told of once it and those before it have ended.
 try_all() { # FILE...
     local files=("$@") started=0 running=0 told=0
-    trap 'trap - INT; kill 0' INT # A test in the background does not hear an interrupt.
+    trap 'trap "" INT; wait; echo interrupted; exit 130' INT # The tests hear it too, and clean up.
     while ((told < $#)); do
         if ((started < $# && running < 2)); then
             run_apart $((started + 1)) "./${files[started]}" &

@@ -50,7 +50,7 @@ on-good : Run begun good
 on-good = begins holdA (omega arith)
 
 to-the-end : Run (slice (at 0 1 2) 7 (NothingViolated (at 0 3 0) 7) ∷ begun) good
-to-the-end = (on-good, inl refl, ends 1 2 7 (at-1-2 holdA) (omega (arith, ranks)))
+to-the-end = (on-good, inl refl, ends _ _ _ (at-1-2 holdA) (omega (arith, ranks)))
 
 -- A leg ahead is moved, to 700. A slice from the new cursor goes on, and the old one is refused.
 move-ahead : Run (move-leg (at 0 1 2) (moveTo 2 700) (Granted (at 1 1 2)) ∷ begun) (moved good (moveTo 2 700))
@@ -73,7 +73,7 @@ stale-cursor =
 pub runs-at-numbers : RunsAtNumbers
 runs-at-numbers = record {
   twelve = ranks .3;
-  eleven = (on-good, inl refl, pauses 1 2 2 4 6 (omega arith) (omega arith) (omega arith) (omega arith) (omega (arith, ranks)) (omega (arith, ranks)));
+  eleven = (on-good, inl refl, pauses _ _ _ _ _ (omega arith) (omega arith) (omega arith) (omega arith) (omega (arith, ranks)) (omega (arith, ranks)));
   no-verdict = λ v. ⊎-elim (λ z. absurd (z .1)) (λ w. ⊎-elim (λ z. absurd (z .1)) (λ z. absurd z) w) v;
   verdict = to-the-end;
   enough = sym (ranks .3);
@@ -104,11 +104,11 @@ runs-at-numbers = record {
       stale-cursor,
     ),
     inr (inl refl),
-    goes-on-ahead 3 2 0 (omega arith) (omega arith) (omega arith) (omega (arith, ranks)) (omega (arith, ranks)),
+    goes-on-ahead _ _ _ (omega arith) (omega arith) (omega arith) (omega (arith, ranks)) (omega (arith, ranks)),
   );
   passed-over = (refl, (refl, tt));
   not-counted = refl;
-  older = (on-good, inr (inl refl), pauses 0 0 2 0 7 (omega arith) (omega arith) (omega arith) (omega arith) (omega (arith, ranks)) (omega (arith, ranks)));
+  older = (on-good, inr (inl refl), pauses _ _ _ _ _ (omega arith) (omega arith) (omega arith) (omega arith) (omega (arith, ranks)) (omega (arith, ranks)));
   not-newest = λ s. let e : _≡_ {A = ℕ} 0 1 = ap (λ (c : Cursor). c .leg) (s .0) in omega arith;
   altered = (stays-at-end _ _ _ _, λ h. starred-cases .case-5 .1 (h .overlap 2 0 (omega arith) (omega arith) (λ e. omega (arith, e))));
   begun-on-bad = begins _ (omega arith);
@@ -137,14 +137,14 @@ paused-twice : Run pausedTwice planA
 paused-twice = (
   begins 0 (omega arith),
   inl refl,
-  pause 0 0 1176 0 (rank 2 3) (before-2-3 0 0 (omega arith)) 1 2 2 3 5 (at-1-2 0) (omega arith) (omega arith) (omega (arith, ranks)) (omega (arith, ranks)),
+  pause 0 0 1176 0 (rank 2 3) (before-2-3 0 0 (omega arith)) _ _ _ _ _ (at-1-2 0) (omega arith) (omega arith) (omega (arith, ranks)) (omega (arith, ranks)),
 )
 
 run-11 : Run case11 planA
 run-11 = (
   paused-twice,
   inl refl,
-  violate 0 0 1176 0 (rank 2 3) (before-2-3 0 0 (omega arith)) 2 3 2 3 0 5 rule.Overlap (here 0 0 1176 0 2 3 (omega arith) (omega arith)) (omega arith) (omega arith) (meets-at-2-3 0) (place-rule (asked.Overlap 0)) (omega arith) (omega (arith, ranks)) (omega arith),
+  violate 0 0 1176 0 (rank 2 3) (before-2-3 0 0 (omega arith)) _ _ _ _ 0 _ rule.Overlap (here _ _ _ _ _ _ (omega arith) (omega arith)) (omega arith) (omega arith) (meets-at-2-3 0) (place-rule (asked.Overlap 0)) (omega arith) (omega (arith, ranks)) (omega arith),
 )
 
 run-12 : Run case12 (moved planA (moveTo 2 holdA))
@@ -156,8 +156,8 @@ run-12 = (
     granted 0 0 1176 0 2 3 (here 0 0 1176 0 2 3 (omega arith) (omega arith)) 2 holdA (omega arith) (omega arith) 2 0 (inr (refl, refl)) (omega arith) (omega arith),
   ),
   inl refl,
-  on (at 1 2 0) 5 (NothingViolated (at 1 3 0) 5) (moved-2 (offsetsA 0 1176 0) holdA)
-      (end 1 0 1176 holdA (rank 3 0) (accepted 1) 2 0 5 (here 1 0 1176 holdA 2 0 (omega arith) (omega arith)) (omega (arith, ranks)) (omega (arith, ranks))),
+  on (at 1 2 0) _ (NothingViolated (at 1 3 0) _) (moved-2 (offsetsA 0 1176 0) holdA)
+      (end 1 0 1176 holdA (rank 3 0) (accepted 1) 2 0 _ (here 1 0 1176 holdA 2 0 (omega arith) (omega arith)) (omega (arith, ranks)) (omega (arith, ranks))),
 )
 
 run-13 : Run case13 (moved planA (moveTo 0 600))
@@ -166,7 +166,7 @@ run-13 = (
     planA,
     paused-twice,
     inl refl,
-    granted 0 0 1176 0 2 3 (here 0 0 1176 0 2 3 (omega arith) (omega arith)) 0 600 (omega arith) (omega arith) 0 0 (inr (refl, refl)) (omega (arith, ranks))
+    granted 0 0 1176 0 _ _ (here _ _ _ _ _ _ (omega arith) (omega arith)) 0 600 (omega arith) (omega arith) 0 0 (inr (refl, refl)) (omega (arith, ranks))
         (omega arith),
   ),
   inl refl,
@@ -189,7 +189,7 @@ cases-as-runs = record {
   started-again = (
     (run-12, subst (λ (t : List ℕ). Starts t (Granted (at 1 0 0))) (sym (moved-2 (offsetsA 0 1176 0) holdA)) (shape 1 0 1176 holdA, refl)),
     inl refl,
-    on (at 1 0 0) 12 (NothingViolated (at 1 3 0) 12) (moved-2 (offsetsA 0 1176 0) holdA)
-        (end 1 0 1176 holdA (rank 3 0) (accepted 1) 0 0 12 (here 1 0 1176 holdA 0 0 (omega arith) (omega arith)) (omega (arith, ranks)) (omega (arith, ranks))),
+    on (at 1 0 0) _ (NothingViolated (at 1 3 0) _) (moved-2 (offsetsA 0 1176 0) holdA)
+        (end 1 0 1176 holdA (rank 3 0) (accepted 1) 0 0 _ (here 1 0 1176 holdA 0 0 (omega arith) (omega arith)) (omega (arith, ranks)) (omega (arith, ranks))),
   );
 }

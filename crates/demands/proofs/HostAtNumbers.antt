@@ -119,8 +119,8 @@ slice-made plan t cursor c budget r out f g s n e = record {
 
 pauses : SliceMade planAFile (saved 0 0 0) 10 (answered 1 10) (left 0 2 3)
 pauses =
-    slice-made planAFile planA (saved 0 0 0) (at 0 0 0) 10 (Paused (at 0 2 3) 10) (left 0 2 3) file-a (at-start .reads)
-    (pause 0 0 1176 0 (rank 2 3) (before-2-3 0 0 (omega arith)) 0 0 2 3 10 (here 0 0 1176 0 0 0 (omega arith) (omega arith)) (omega arith) (omega arith)
+    slice-made planAFile planA (saved 0 0 0) (at 0 0 0) _ (Paused (at 0 2 3) _) (left 0 2 3) file-a (at-start .reads)
+    (pause 0 0 1176 0 (rank 2 3) (before-2-3 0 0 (omega arith)) _ _ _ _ _ (here _ _ _ _ _ _ (omega arith) (omega arith)) (omega arith) (omega arith)
     (omega (arith, ranks)) (omega (arith, ranks)))
     (omega arith) (at-2-3 .written)
 
@@ -176,9 +176,9 @@ moves =
 
 accepts : SliceMade movedFile (saved 1 2 0) 5 (answered 0 5) (left 1 3 0)
 accepts =
-    slice-made movedFile (moved planA (moveTo 2 holdA)) (saved 1 2 0) (at 1 2 0) 5 (NothingViolated (at 1 3 0) 5) (left 1 3 0) file-moved (after-move .reads)
-    (on (at 1 2 0) 5 (NothingViolated (at 1 3 0) 5) move-2
-    (end 1 0 1176 holdA (rank 3 0) (accepted 1) 2 0 5 (here 1 0 1176 holdA 2 0 (omega arith) (omega arith)) (omega (arith, ranks)) (omega (arith, ranks))))
+    slice-made movedFile (moved planA (moveTo 2 holdA)) (saved 1 2 0) (at 1 2 0) _ (NothingViolated (at 1 3 0) _) (left 1 3 0) file-moved (after-move .reads)
+    (on (at 1 2 0) _ (NothingViolated (at 1 3 0) _) move-2
+    (end 1 0 1176 holdA (rank 3 0) (accepted 1) 2 0 _ (here 1 0 1176 holdA 2 0 (omega arith) (omega arith)) (omega (arith, ranks)) (omega (arith, ranks))))
     (omega arith) (at-new-end .written)
 
 violates-in-c : HostRun violatedInC planAFile

@@ -71,7 +71,7 @@ MoveRoomIsEnough =
     → maxCursorBytes ≤ length (m .out) → length plan + moveBytes ≤ length (m .file)
     → HostMoves plan cursor mv m a m′ → a .result ≡ refusedResult noRoom → ⊥
 
--- Nor is whoever lends as many bytes for the new file as any plan file has, and 15 for the cursor, whatever the plan.
+-- Nor is whoever lends as many bytes for the new file as the longest plan file may have, and 15 for the cursor, whatever the plan.
 abbrev pub FullRoomIsEnough : Type 0
 FullRoomIsEnough =
     (plan cursor : List ℕ) (mv : Move) (m : Lent) (a : Answer) (m′ : Lent)

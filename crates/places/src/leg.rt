@@ -87,7 +87,7 @@ fn broken_from(
     }
 }
 
-// The lowest leg all of whose places with another stand from p on.
+// The lowest leg with which all places stand from p on.
 fn whole_from(p: usize) -> usize
     ensures { λ r. ⌜ WholeFrom p r ⌝ }
 {
@@ -122,7 +122,7 @@ fn next_place(
     rules::place::pair_place(b)
 }
 
-// Internal: the first broken place of leg a from p on and below the limit. Those with the legs that have all their places between these are passed by their chain.
+// Internal: the first broken place of leg a from p on and below the limit. Of the legs with which all places stand between these, only those of its link are looked at.
 pub fn judged_leg(
     t: &[u32],
     first: &[usize],
