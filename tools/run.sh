@@ -25,7 +25,8 @@ find_runner() {
         else
             has qemu-x86_64 && has "$cross/lib64/ld-linux-x86-64.so.2" ||
                 stop "programs are for x86-64, and its emulator is missing here: apt-get install qemu-user libc6-amd64-cross"
-            runner=(qemu-x86_64 -L "$cross")
+            # The loader is named with its own libraries: others for x86-64 may stand on this machine, and do not go with it.
+            runner=(qemu-x86_64 "$cross/lib64/ld-linux-x86-64.so.2" --library-path "$cross/lib")
         fi
         ;;
     *) stop "programs run on x86_64 and aarch64, and this processor is ${machine:-unknown}" ;;
