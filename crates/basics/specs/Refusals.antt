@@ -1,4 +1,4 @@
--- Refusals in their order, a line for each number: this one is due, or it is clear and the next one speaks.
+-- Refusals in their order, a line for each number: this refusal is due, or it is not and the next one decides.
 use Prim.Native.Nat.{ℕ}
 use mathlib.Core.Path.{_≡_}
 use mathlib.Core.Logic.{_⊎_}
@@ -13,7 +13,7 @@ pub record Refusals : Type 1 where
   pub Fault : ℕ → ℕ → Type 0
   pub Clear : Type 0
 
--- Refused with n at a position, unless something is so; and at 0.
+-- Refused with n at a position, unless So holds; and the same at position 0.
 abbrev pub unlessAt : ℕ → ℕ → Type 0 → Refusals
 unlessAt n at So = record { Fault = λ k p. (k ≡ n) × (p ≡ at) × (So → ⊥); Clear = So }
 
@@ -24,11 +24,11 @@ unless n So = unlessAt n 0 So
 abbrev pub lowest : ℕ → (ℕ → Type 0) → ℕ → Refusals
 lowest n Good count = record { Fault = λ k p. (k ≡ n) × Lowest Good 0 count p; Clear = All Good count }
 
--- The first refuses, or it is clear and the second speaks.
+-- The first refuses, or it is clear and the second decides.
 abbrev pub _then_ : Refusals → Refusals → Refusals
 r then s = record { Fault = λ k p. r .Fault k p ⊎ (r .Clear × s .Fault k p); Clear = r .Clear × s .Clear }
 
--- The same, where to be clear has a name of its own.
+-- The same refusals, where being clear of them has a name of its own.
 abbrev pub _called_ : Refusals → Type 0 → Refusals
 r called Name = record { Fault = r .Fault; Clear = Name }
 
@@ -37,7 +37,7 @@ abbrev pub Told : Refusals → Checked → Type 0
 Told r checked.Clear = r .Clear
 Told r (checked.Refused k p) = r .Fault k p
 
--- Not two refusals are due, and none where it is clear.
+-- At most one refusal is due, and none where it is clear.
 pub record OneFault (r : Refusals) : Type 0 where
   pub one : {k p l q : ℕ} → r .Fault k p → r .Fault l q → (k ≡ l) × (p ≡ q)
   pub none : {k p : ℕ} → r .Clear → r .Fault k p → ⊥

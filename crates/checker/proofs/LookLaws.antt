@@ -112,7 +112,7 @@ module _ {t : List ℕ} {c : Cursor} (right : CursorRight t c) where
           within = omega arith;
         }
 
--- A turn of the loop over the legs: all that it knows, so that no proof looks behind the loop.
+-- A turn of the loop over the legs: all that it knows, so that no proof needs anything from before the loop.
 pub record Turn (t first next : List ℕ) (c : Cursor) (budget legs a p left : ℕ) : Type 0 where
   pub right : CursorRight t c
   pub looked : Looked t first next

@@ -18,7 +18,7 @@ CursorTold t c a = Told (cursorRefusals t c) a
 abbrev pub MoveTold : List ℕ → Cursor → Move → Checked → Type 0
 MoveTold t c mv a = Told (moveRefusals t c mv) a
 
--- A cursor of a revision: where c stands at a lower leg, and else at (leg,0).
+-- The cursor d has this revision. Its place is that of c, if c is at a lower leg, and otherwise (leg,0).
 pub record PulledBack (c : Cursor) (rev leg : ℕ) (d : Cursor) : Type 0 where
   pub revision : d .revision ≡ rev
   pub here : c .leg < leg → (d .leg ≡ c .leg) × (d .place ≡ c .place)

@@ -9,36 +9,36 @@ use native.Mathlib.Numerals.{add-one}
 use native.Mathlib.Omega.{arith}
 use Rattle.basics.proofs.Splits.{lt-or-ge}
 use Rattle.numbers.specs.Number.{maxWord}
-use Rattle.decimal.specs.Decimal.{zeroDigit, nineDigit, IsDigit, worthBehind, worthOf, AllDigits, FirstOther, Typed, OtherTold}
+use Rattle.decimal.specs.Decimal.{zeroDigit, nineDigit, IsDigit, worthAfter, worthOf, AllDigits, FirstOther, Typed, OtherTold}
 use Rattle.decimal.specs.declared.Other.{Other}
 use Rattle.decimal.specs.declared.Other.the-variants as other
 
 -- A digit more is worth no less.
-pub worth-grows : (s : List ℕ) (v : ℕ) → v ≤ worthBehind v s
-unfolding worthBehind
+pub worth-grows : (s : List ℕ) (v : ℕ) → v ≤ worthAfter v s
+unfolding worthAfter
 worth-grows [] v = omega arith
 worth-grows (b ∷ s) v = let g = worth-grows s (v * 10 + (b - zeroDigit)) in omega arith
 
--- The digit at i, and those behind it.
+-- The digit at i, and those after it.
 pub worth-step : (s : List ℕ) (i v : ℕ) → i < length s
-    → worthBehind v (drop i s) ≡ worthBehind (v * 10 + (getD s i 0 - zeroDigit)) (drop (i + 1) s)
-unfolding worthBehind
+    → worthAfter v (drop i s) ≡ worthAfter (v * 10 + (getD s i 0 - zeroDigit)) (drop (i + 1) s)
+unfolding worthAfter
 worth-step s i v h = rw (add-one, drop-cons s i 0)
 
 -- No digit is left.
-pub worth-end : (s : List ℕ) (i v : ℕ) → length s ≤ i → worthBehind v (drop i s) ≡ v
-unfolding worthBehind
+pub worth-end : (s : List ℕ) (i v : ℕ) → length s ≤ i → worthAfter v (drop i s) ≡ v
+unfolding worthAfter
 worth-end [] zero v h = refl
 worth-end [] (suc i) v h = refl
 worth-end (b ∷ s) zero v h = absurd (omega arith)
 worth-end (b ∷ s) (suc i) v h = worth-end s i v (omega arith)
 
--- Each turn: what was passed is worth v, and with the digits behind it that is what all of them are worth.
+-- Each turn: what was passed is worth v, and with the digits after it that is what all of them are worth.
 pub record Turn (s : List ℕ) (v i : ℕ) : Type 0 where
   pub typed : Typed s
   pub passed : i ≤ length s
   pub word : v ≤ maxWord
-  pub whole : worthBehind v (drop i s) ≡ worthOf s
+  pub whole : worthAfter v (drop i s) ≡ worthOf s
 
 pub turn-starts : {s : List ℕ} → Typed s → Turn s 0 0
 turn-starts t = record { typed = t; passed = omega arith; word = omega arith; whole = refl }
@@ -52,7 +52,7 @@ module _ {s : List ℕ} {v i : ℕ} (f : Turn s v i) where
     pub turn-digit : IsDigit d
     turn-digit = rw is (f .typed .digits .digit i more)
 
-    turn-worth : worthBehind (v * 10 + (d - zeroDigit)) (drop (i + 1) s) ≡ worthOf s
+    turn-worth : worthAfter (v * 10 + (d - zeroDigit)) (drop (i + 1) s) ≡ worthOf s
     turn-worth = rw is (sym (worth-step s i v more) ∙ f .whole)
 
     pub turn-large : maxWord < v * 10 + (d - zeroDigit) → maxWord < worthOf s

@@ -6,7 +6,7 @@ use mathlib.Core.Logic.{_⊎_, inl, inr}
 use lib.ListN.{length, getD}
 use native.Mathlib.Omega.{arith}
 use Rattle.basics.proofs.Splits.{lt-or-ge}
-use Rattle.decimal.specs.Decimal.{worthBehind, worthOf, AllDigits, FirstOther, Typed}
+use Rattle.decimal.specs.Decimal.{worthAfter, worthOf, AllDigits, FirstOther, Typed}
 use Rattle.decimal.specs.Theorems.{ReadDecimalOneAnswer, DecimalsAtNumbers}
 use Rattle.decimal.specs.declared.Decimal.the-variants as decimal
 
@@ -42,5 +42,5 @@ read-decimal-one-answer s decimal.TooLarge (decimal.NoDigit i) (t, l) o = absurd
 read-decimal-one-answer s decimal.TooLarge decimal.TooLarge (t, l) (t′, l′) = refl
 
 pub decimals-at-numbers : DecimalsAtNumbers
-unfolding worthBehind
+unfolding worthAfter
 decimals-at-numbers = (refl, refl, refl)

@@ -19,14 +19,14 @@ nineDigit = 57
 abbrev pub IsDigit : ℕ → Type 0
 IsDigit b = (zeroDigit ≤ b) × (b ≤ nineDigit)
 
--- What digits are worth after a number: each makes ten times what stands before it, and itself.
-unfoldable pub worthBehind : ℕ → List ℕ → ℕ
-worthBehind v [] = v
-worthBehind v (b ∷ bs) = worthBehind (v * 10 + (b - zeroDigit)) bs
+-- What digits are worth after the value v: each digit makes it ten times as large, and adds itself.
+unfoldable pub worthAfter : ℕ → List ℕ → ℕ
+worthAfter v [] = v
+worthAfter v (b ∷ bs) = worthAfter (v * 10 + (b - zeroDigit)) bs
 
 -- What digits are worth.
 abbrev pub worthOf : List ℕ → ℕ
-worthOf s = worthBehind 0 s
+worthOf s = worthAfter 0 s
 
 -- Every byte is a digit.
 pub record AllDigits (s : List ℕ) : Type 0 where

@@ -155,7 +155,7 @@ paused-step t made last c b d n e s g =
       at = λ h. w .place;
     }
 
--- One call more. Behind it stand the calls y ∷ ys.
+-- One call more, made after the calls y ∷ ys.
 step : (call y : Call) (ys : List Call) (t : List ℕ) (part : List Call) (last : Call)
     → Run (call ∷ y ∷ ys) t → Since (withoutRefused (call ∷ part)) last
     → (Run (y ∷ ys) t → Since (withoutRefused part) last → HasVerdict part ⊎ Progress t (withoutRefused part) last)

@@ -57,7 +57,7 @@ kept-slice t c b (answer.NothingViolated d n) k s = kept-went (s .0) k (s .1 .we
 kept-slice t c b (answer.Paused d n) k s = kept-went (s .0) k (s .1 .went)
 kept-slice t c b (answer.Refused l p d) k s = subst (Kept t) (sym (s .1)) k
 
--- A granted move: what was moved lies behind the new cursor, and older cursors are of an older revision.
+-- A granted move: the moved leg comes after every place that the new cursor has passed, and older cursors have an older revision.
 module _ (u : List ℕ) (c d : Cursor) (mv : Move) (m : MoveRight u c mv d (moved u mv)) where
   abbrev t : List ℕ
   t = moved u mv

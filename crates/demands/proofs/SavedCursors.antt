@@ -1,4 +1,4 @@
--- A saved cursor is found again in front of any bytes, behind its third byte that is below 128, and reads as the cursor that was written. Assumes nothing.
+-- A saved cursor is found again whatever bytes come after it: it ends with its third byte below 128. It reads as the cursor that was written. Assumes nothing.
 use Prim.Native.Nat.{ℕ, zero, suc, _+_, _≤_, _<_}
 use mathlib.Core.Path.{_≡_, refl, _∙_, sym, ap}
 use mathlib.Core.List.{List, [], _∷_, _++_, append-assoc}

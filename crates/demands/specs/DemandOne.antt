@@ -20,7 +20,7 @@ use Rattle.host.specs.Theorems.{HostStartOneAnswer, HostSliceOneAnswer, HostSli
 use Rattle.checker.specs.declared.Grant.the-variants as grant
 use Rattle.checker.specs.declared.SliceAnswer.the-variants as answer
 
--- Of the statement of each public call no second answer holds. That there is one is the contract of the call, which the code is proved to meet.
+-- The statement of each public call holds for one answer at most. That it holds for one is the contract of the call, which the code is proved to meet.
 pub record OneAnswerEach : Type 0 where
   pub read-number : ReadNumberOneAnswer
   pub write-number : WriteNumberOneAnswer

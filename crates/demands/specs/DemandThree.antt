@@ -44,8 +44,8 @@ RunsEndInTime =
     → Run (part ++ last ∷ earlier) t → Renews last → Since (withoutRefused part) last
     → HasSlice (withoutRefused part) → placeCount t ≤ budgets (withoutRefused part) → HasVerdict part
 
--- So nothing is lost by passing over what was refused: in a run no slice that is given the newest cursor is refused, nor a move with it that can be made: of a leg of
--- the table, where the revision can rise.
+-- So nothing is lost by passing over what was refused: in a run no slice that is given the newest cursor is refused. Nor is a move
+-- that is given it, if it can be made: the table has that leg, and its revision can rise.
 pub record RunsGoOn : Type 0 where
   pub slice : (calls : List Call) (t : List ℕ) (latest : Call) (before : List Call) (budget k p : ℕ) (d : Cursor)
       → Run calls t → withoutRefused calls ≡ latest ∷ before → Slices t (cursorOf latest) budget (answer.Refused k p d) → ⊥

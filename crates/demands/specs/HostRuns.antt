@@ -49,7 +49,7 @@ MoveOfWords mv = EachNumber (λ (n : ℕ). n ≤ maxWord) mv
 abbrev pub NotRefused : Answer → Type 0
 NotRefused a = a .result < refusedResult 0
 
--- A start, a slice and a move that were not refused. The numbers of a move are words, and the new plan is as many bytes of what it left as it says.
+-- A start, a slice and a move that were not refused. The numbers of a move are words, and the new plan is the first bytes that it left, as many as its answer says.
 pub record StartMade (plan : List ℕ) (a : Answer) (out′ : List ℕ) : Type 0 where
   pub out : List ℕ
   pub starts : HostStarts plan out a out′

@@ -83,7 +83,7 @@ abbrev pub withoutRefused : List Call → List Call
 withoutRefused [] = []
 withoutRefused (call ∷ part) = pick (refused call) (withoutRefused part) (call ∷ withoutRefused part)
 
--- Of calls that were not refused: the newest cursor is the one in the last answer, that of the latest call of the part, or of the call before the part.
+-- Of calls that were not refused, the newest cursor is the one in the last answer: of the latest call of the part or, if the part is empty, of the call before it.
 abbrev pub newest : List Call → Call → Cursor
 newest [] last = cursorOf last
 newest (call ∷ part) last = cursorOf call

@@ -1,4 +1,4 @@
--- A plan file looked through: a header and its records are the table, and what is refused behind a header is refused behind the header and
+-- A plan file looked through: a header and its records are the table, and what is refused after a header is refused after the header and
 -- the records so far.
 -- Assumes nothing.
 use Prim.Native.Nat.{ℕ, _-_, _≤_, _<_}
@@ -56,7 +56,7 @@ headed e told {s} {b} {b′} {next} r z l t = record { e = e; s = s; h = b′; n
 pub header-above : {e : Edition} {s h : List ℕ} {next : ℕ} {told : Limits} → Header e s h next told → told ≡ Above → HeaderAboveIn e s
 header-above {e} {s} {h} {next} d a = record { head = h; next = next; row = d .row; five = d .five; above = subst (LimitsTold e h) a (d .limits) }
 
--- Behind a header that is within its limits: the words that are told, and the records up to p.
+-- After a header that is within its limits: the words that are told, and the records up to p.
 module _ {e : Edition} {s h : List ℕ} {next : ℕ} {told : Limits} (d : Header e s h next told) {size : ℕ} (w : told ≡ Within size) where
   within : LimitsIn e h × (size ≡ wordsIn e h)
   within = subst (LimitsTold e h) w (d .limits)

@@ -42,8 +42,8 @@ cut-once {s = s} {k = k} {p = p} {l = l} {q = q} c d =
     (refused-once s p k l (c .no-number) (rw e (d .no-number)), e)
 
 -- What stands in front of a number that is cut short begins with any other row.
-cut-behind : {Due : List ℕ → Type 0} {s : List ℕ} {k p next : ℕ} (c : Cut Due s k p) (ws : List ℕ) → Row s 0 ws next → (us : List ℕ) × (c .ws ≡ ws ++ us)
-cut-behind {k = k} c ws r =
+cut-after : {Due : List ℕ → Type 0} {s : List ℕ} {k p next : ℕ} (c : Cut Due s k p) (ws : List ℕ) → Row s 0 ws next → (us : List ℕ) × (c .ws ≡ ws ++ us)
+cut-after {k = k} c ws r =
     let i = row-compare ws (c .ws) r (c .row) (row-stops (c .ws) ws k (c .row) (c .no-number) r) in
     (i .0, i .1)
 
@@ -58,10 +58,10 @@ above-not-due {v} h us f a (inl e) = omega (arith, length-append h us)
 above-not-due {v} h us f a (inr (l, d)) = a (limits-same v (same-header-back (header-in-front h us (omega arith))) l)
 
 cut-table : {v : Edition} {s : List ℕ} {k p next : ℕ} (t : List ℕ) → SizedIn v t → Row s 0 t next → Cut (PlanDueIn v) s k p → ⊥
-cut-table t z r c = let i = cut-behind c t r in sized-not-due t (i .0) z (rw (i .1) at (c .due))
+cut-table t z r c = let i = cut-after c t r in sized-not-due t (i .0) z (rw (i .1) at (c .due))
 
 cut-above : {v : Edition} {s : List ℕ} {k p : ℕ} → HeaderAboveIn v s → Cut (PlanDueIn v) s k p → ⊥
-cut-above a c = let i = cut-behind c (a .head) (a .row) in above-not-due (a .head) (i .0) (a .five) (a .above) (rw (i .1) at (c .due))
+cut-above a c = let i = cut-after c (a .head) (a .row) in above-not-due (a .head) (i .0) (a .five) (a .above) (rw (i .1) at (c .due))
 
 above-table : {v : Edition} {s : List ℕ} {next : ℕ} (t : List ℕ) → SizedIn v t → Row s 0 t next → HeaderAboveIn v s → ⊥
 above-table {v} t z r a =
@@ -84,7 +84,7 @@ same-table t u z y r q =
     (λ (h : length u ≤ length t). row-same t u r q (sym (not-longer u t y z q r h)))
     (lt-or-ge (length t) (length u))
 
--- Behind the file of a table nothing is left over.
+-- After the file of a table nothing is left over.
 over-file : {v : Edition} {s : List ℕ} {p : ℕ} {t : List ℕ} → Over (SizedIn v) s p → IsFile (SizedIn v) s t → ⊥
 over-file {t = t} o f =
     let e = same-table (o .ws) t (o .complete) (f .complete) (o .row) (file-is-row f) .1 in
@@ -153,9 +153,9 @@ write-plan-one-answer t b b′ b″ (written.Refused k p) (written.Refused l q) 
     let e1 = e .1 in
     (cc, g ∙ sym h)
 
--- No number of a whole cursor is due, and behind its file nothing is left over.
+-- No number of a whole cursor is due, and after its file nothing is left over.
 cut-cursor : {s : List ℕ} {k p next : ℕ} (ws : List ℕ) → CursorComplete ws → Row s 0 ws next → Cut CursorDue s k p → ⊥
-cut-cursor ws w r c = let i = cut-behind c ws r in omega (arith, ap length (i .1), length-append ws (i .0), c .due)
+cut-cursor ws w r c = let i = cut-after c ws r in omega (arith, ap length (i .1), length-append ws (i .0), c .due)
 
 over-cursor : {s : List ℕ} {p : ℕ} {ws : List ℕ} → Over CursorComplete s p → IsFile CursorComplete s ws → ⊥
 over-cursor {ws = ws} o f =

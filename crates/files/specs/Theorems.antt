@@ -42,14 +42,14 @@ WriteCursorOneAnswer =
     (c : Cursor) (b b′ b″ : List ℕ) (r r′ : CursorWritten)
     → WritesCursor c b r b′ → WritesCursor c b r′ b″ → (r ≡ r′) × (b′ ≡ b″)
 
--- For every file that the reader takes, writing what it gave is that file: whoever lends room for it gets its bytes.
+-- For every file that the reader takes, writing the table that it gave makes the same file again, where there is room for its bytes.
 abbrev pub FilesComeBack : Type 0
 FilesComeBack =
     (s words words′ bytes bytes′ : List ℕ) (n : ℕ) (r : Written)
     → ReadsPlan s words (plan.Words n) words′ → WritesPlan (take n words′) bytes r bytes′
     → length s ≤ length bytes → (r ≡ written.Bytes (length s)) × (bytes′ ≡ overlaid bytes 0 s)
 
--- For every table of words that the writer takes, reading what it wrote is that table: whoever lends room for it gets its words.
+-- For every table of words that the writer takes, reading the file that it wrote gives the same table again, where there is room for its words.
 abbrev pub TablesComeBack : Type 0
 TablesComeBack =
     (t bytes bytes′ words words′ : List ℕ) (n : ℕ) (r : PlanRead)

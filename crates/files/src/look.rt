@@ -14,12 +14,12 @@ pub fn plan_size(e: Edition, bytes: &[u8]) -> PlanRead
     let seen = numbers::series::look_through(bytes, 0, table::HEAD_WORDS);
     match seen {
         Scan::Stop(number, at) => PlanRead::Refused(number, at),
-        Scan::End(next) => behind_header(e, bytes, next),
+        Scan::End(next) => after_header(e, bytes, next),
     }
 }
 
 // The same after a header that stands from the start up to next.
-fn behind_header(e: Edition, bytes: &[u8], next: usize) -> PlanRead
+fn after_header(e: Edition, bytes: &[u8], next: usize) -> PlanRead
     requires { ⌜ Numbers (now bytes) 0 headWords next ⌝ }
     ensures { λ r. ⌜ PlanTold e (now (bytes .entry)) r ⌝ }
 {

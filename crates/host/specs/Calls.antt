@@ -61,8 +61,8 @@ pub record MovedLeg (t : List ℕ) (c : Cursor) (mv : Move) (m : Lent) (a : Answ
   pub moves : Moves t c mv given table
   pub after : AfterMove given table m a m′
 
--- The plan, and the cursor of a slice and of a move, are read: 15 where fewer than 15 bytes are lent for the cursor that comes back, then as the call. (The
--- other 15 of a move, for its new plan file, is the last of its refusals.)
+-- Once the plan is read, and for a slice or a move the cursor: refusal 15 where fewer than 15 bytes are lent for the cursor that comes back, then the call itself.
+-- (A move's other refusal 15, for its new plan file, is the last of its refusals.)
 abbrev pub StartsTable : List ℕ → List ℕ → Answer → List ℕ → Type 0
 StartsTable t out = AfterRoom (List ℕ) (length out) maxCursorBytes out (Started t out)
 

@@ -31,7 +31,7 @@ CursorUnread s k p = ReadsCursor s (read.Refused k p)
 abbrev pub After : (M : Type 0) → (ℕ → ℕ → Type 0) → M → (Answer → M → Type 0) → Answer → M → Type 0
 After M Fault m Next a m′ = RefusedFor M Fault m a m′ ⊎ Next a m′
 
--- What comes next is clear with a value, and Then speaks of it.
+-- What comes next: there is a value for which Clear holds, and Then says the rest for this value.
 abbrev pub With : (M Value : Type 0) → (Value → Type 0) → (Value → Answer → M → Type 0) → Answer → M → Type 0
 With M Value Clear Then a m′ = (v : Value) × Clear v × Then v a m′
 

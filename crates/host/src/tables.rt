@@ -1,4 +1,4 @@
-// The calls from a table and a cursor on: 15, then start, slice or move.
+// The rest of each call, once its plan and its cursor are read: refusal 15, then the start, the slice or the move.
 ghost use Prim.Native.Nat.{_≤_};
 ghost use lib.ListN.{length};
 ghost use Rattle.table.specs.Layout.{Sized};
@@ -86,7 +86,7 @@ fn write_both(t: &[u32], cursor: Cursor, file: &mut [u8], out: &mut [u8]) -> Ans
     }
 }
 
-// The table is left as the move leaves it.
+// A granted move changes the table, even where the new file then has no room.
 pub(crate) fn move_table(
     t: &mut [u32],
     cursor: Cursor,

@@ -37,7 +37,7 @@ pub record BrokenFrom (t : List ℕ) (a n m b : ℕ) : Type 0 where
   pub before : AllFrom (PairHolds t a) n b
   pub broken : b < m → PairHolds t a b → ⊥
 
--- Leg b is the lowest with which all places stand from p on.
+-- Leg b is the lowest leg such that the first place with it is p or comes after p.
 pub record WholeFrom (p b : ℕ) : Type 0 where
   pub from : p ≤ pairPlace b
   pub lowest : (c : ℕ) → p ≤ pairPlace c → b ≤ c

@@ -87,7 +87,7 @@ fn broken_from(
     }
 }
 
-// The lowest leg with which all places stand from p on.
+// The lowest leg such that the first place with it is p or comes after p.
 fn whole_from(p: usize) -> usize
     ensures { λ r. ⌜ WholeFrom p r ⌝ }
 {
@@ -97,8 +97,8 @@ fn whole_from(p: usize) -> usize
     rules::place::pair_of(p - 1) + 1
 }
 
-// The next place of leg a to be looked at, from q on: q itself, but where those with leg n begin, those with the first leg from n on with which a rule is broken,
-// or with the first that has places past the limit.
+// The next place of leg a to be looked at, from q on. It is q, except where q is the first place with leg n: then it is the first place with the lowest leg from n
+// on with which a rule is broken, or with the first leg that has places past the limit.
 fn next_place(
     t: &[u32],
     first: &[usize],
@@ -122,7 +122,7 @@ fn next_place(
     rules::place::pair_place(b)
 }
 
-// Internal: the first broken place of leg a from p on and below the limit. Of the legs with which all places stand between these, only those of its link are looked at.
+// Internal: the first broken place of leg a from p on and below the limit. Of the legs whose places all lie between these, only those on its link are looked at.
 pub fn judged_leg(
     t: &[u32],
     first: &[usize],

@@ -38,7 +38,7 @@ back (suc (suc (suc b))) = omega arith
 pub places-are-asked : PlacesAreAsked
 places-are-asked = record { asked = asked-at-place; placed = placed; there = there; back = back }
 
--- Behind the places of the leg alone stand those with the legs below it.
+-- After the places of the leg alone come those with the legs below it.
 pub past-own : (p : ℕ) → ownPlaces ≤ p → asked.Overlap (p - ownPlaces) ≡ askedAt p
 unfolding askedAt
 past-own zero h = absurd (omega arith)

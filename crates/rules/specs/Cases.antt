@@ -43,8 +43,8 @@ pub record MoreCases : Type 0 where
   pub from-first : Deadline (planWith (dueA 2352 600)) 1 × (Deadline (planWith (dueA 2351 600)) 1 → ⊥)
   pub other-links : Overlap (planWith (offsetsA 0 1176 1176)) 2 1
 
--- The places of a leg: which rule stands at each, by its name and by what it asks for. Of each of the four plans one rule is broken at the leg that is named, and
--- it is broken at its own place alone.
+-- The places of a leg: the rule at each place, by its name and by what it demands. In each of the four plans the named leg breaks one rule, and only the place of
+-- that rule does not hold.
 pub record PlacesAtNumbers : Type 0 where
   pub names : (ruleAt 0 ≡ rule.Window) × (ruleAt 1 ≡ rule.Hop) × (ruleAt 2 ≡ rule.Deadline) × ((b : ℕ) → ruleAt (3 + b) ≡ rule.Overlap)
   pub window : (PlaceHolds (planWith (fullA 1)) 0 0 → ⊥) × PlaceHolds (planWith (fullA 1)) 0 1 × PlaceHolds (planWith (fullA 1)) 0 2

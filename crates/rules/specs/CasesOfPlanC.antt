@@ -23,7 +23,7 @@ pub record CasesOfPlanC : Type 0 where
   pub other-way : Overlap (planC (offsetsC 2014 3128)) 1 0
   pub same-from : Overlap (planC (offsetsC 2014 3128)) 2 0
   pub same-to : Overlap (planC (offsetsC 2014 3128)) 4 1
-  -- Legs 4 and 5 both hold link 4 at the instant 1,300: overlap is of any two legs, and not of leg 0 with another.
+  -- Legs 4 and 5 both hold link 4 at the instant 1,300: overlap is judged for any two legs, and not only for leg 0 with another.
   pub same-link : Overlap (planC (offsetsC 2014 3128)) 5 4 → ⊥
 
 -- Which legs are read, and no others: leg 4 is a first leg, and its hop reads itself alone; the hop of leg 3 reads leg 2, and not the first leg of its route; its deadline

@@ -8,7 +8,7 @@ use Rattle.rules.specs.Places.{askedAt}
 use Rattle.rules.specs.declared.Asked.{Asked}
 use Rattle.rules.specs.declared.Asked.the-variants as asked
 
--- Beside leg a itself: a hop reads the previous leg of the stream, where there is one, the deadline of a stream's last leg its first leg, and an overlap the other leg.
+-- Besides leg a itself: a hop reads the stream's previous leg, where there is one; the deadline of a stream's last leg its first leg; an overlap the other leg.
 abbrev pub ReadsBeside : List ℕ → ℕ → Asked → ℕ → Type 0
 ReadsBeside t a asked.Window b = ⊥
 ReadsBeside t a asked.Hop b = (firstOf t a ≤ b) × (a ≡ b + 1)

@@ -27,22 +27,22 @@ use Rattle.seen.specs.declared.Parts.the-variants as parts
 pub front : (s : List ℕ) (at : ℕ) → take (at - 0) (drop 0 s) ≡ take at s
 front s at = let e : at - 0 ≡ at = omega arith in rw e
 
-behind : (s : List ℕ) (at : ℕ) → at ≤ length s → take (length s - at) (drop at s) ≡ drop at s
-behind s at h = take-all (length s - at) (drop at s) (omega (arith, length-drop at s))
+after : (s : List ℕ) (at : ℕ) → at ≤ length s → take (length s - at) (drop at s) ≡ drop at s
+after s at h = take-all (length s - at) (drop at s) (omega (arith, length-drop at s))
 
 -- Where the first part is another plan, the second tells.
 pub told-either : (s : List ℕ) (at : ℕ) (p : List ℕ) (r : Holds) → at ≤ length s
     → (take (at - 0) (drop 0 s) ≡ p → ⊥) → Tells (take (length s - at) (drop at s) ≡ p) r → Tells (KnownParts s at p) r
-told-either s at p Yes h f e = inr (sym (behind s at h) ∙ e)
+told-either s at p Yes h f e = inr (sym (after s at h) ∙ e)
 told-either s at p No h f g = either
   where
     either : KnownParts s at p → ⊥
     either (inl e) = f (front s at ∙ e)
-    either (inr e) = g (behind s at h ∙ e)
+    either (inr e) = g (after s at h ∙ e)
 
--- What stands behind the number.
-plans-behind : (s : List ℕ) {n next : ℕ} (h : NumberStands s 0 n next) → drop next s ≡ h .stands .rest
-plans-behind s {n} {next} h =
+-- What comes after the number.
+plans-after : (s : List ℕ) {n next : ℕ} (h : NumberStands s 0 n next) → drop next s ≡ h .stands .rest
+plans-after s {n} {next} h =
     let e = h .ends in
     ap (drop next) (h .stands .there) ∙ drop-at (bytesOf n) (h .stands .rest) next (omega arith)
 
@@ -52,7 +52,7 @@ kept-parts s {n} {next} h room =
     let size = length-take-le n (drop next s) room in
     record {
       size = omega (arith, h .word);
-      whole = h .stands .there ∙ rw (size, take-append-drop, plans-behind s h);
+      whole = h .stands .there ∙ rw (size, take-append-drop, plans-after s h);
     }
 
 -- The number of what was kept.
@@ -61,33 +61,33 @@ kept-number {f = f} {o = o} k =
     record { word = k .size; stands = record { rest = f ++ o; there = k .whole }; ends = refl }
 
 -- The number that was read is the one that was kept.
-kept-behind : (s f o : List ℕ) {n next : ℕ} → NumberStands s 0 n next → Kept s f o
+kept-after : (s f o : List ℕ) {n next : ℕ} → NumberStands s 0 n next → Kept s f o
     → (next ≤ length s) × (n ≡ length f) × (drop next s ≡ f ++ o)
-kept-behind s f o {n} {next} h k =
+kept-after s f o {n} {next} h k =
     let m = length f in
     let again : NumberStands s 0 m (0 + length (bytesOf m)) = record { word = k .size; stands = record { rest = f ++ o; there = k .whole }; ends = refl } in
     let one = read-number-one-answer s 0 (number.Value n next) (number.Value m (0 + length (bytesOf m))) h again in
     let n-is : n ≡ m = cc in
     let next-is : next ≡ 0 + length (bytesOf m) = cc in
     let l = ap length (k .whole) ∙ length-append (bytesOf m) (f ++ o) in
-    (omega arith, n-is, rw next-is (plans-behind s again))
+    (omega arith, n-is, rw next-is (plans-after s again))
 
 -- Where there is no number, or fewer bytes than it says, nothing was kept.
 none-kept : (s : List ℕ) (k : ℕ) → NoNumber s 0 k → (f o : List ℕ) → Kept s f o → ⊥
 none-kept s k none f o h = word-not-refused s 0 (length f) k (h .size) (record { rest = f ++ o; there = h .whole }) none
 
 cut-kept : (s : List ℕ) {n next : ℕ} → NumberStands s 0 n next → (length s < next) ⊎ (length s - next < n) → (f o : List ℕ) → Kept s f o → ⊥
-cut-kept s {n} {next} h (inl less) f o k = let b = kept-behind s f o h k in omega (arith, b .0)
+cut-kept s {n} {next} h (inl less) f o k = let b = kept-after s f o h k in omega (arith, b .0)
 cut-kept s {n} {next} h (inr less) f o k =
-    let b = kept-behind s f o h k in
+    let b = kept-after s f o h k in
     let l = ap length (b .2) ∙ length-append f o in
     omega (arith, b .0, b .1, length-drop next s)
 
 -- The two plans that were kept are the only ones.
 kept-once : (s f o g p : List ℕ) → Kept s f o → Kept s g p → (g ≡ f) × (p ≡ o)
 kept-once s f o g p k h =
-    let b = kept-behind s g p (kept-number k) h in
-    let c = kept-behind s f o (kept-number k) k in
+    let b = kept-after s g p (kept-number k) h in
+    let c = kept-after s f o (kept-number k) k in
     let both : f ++ o ≡ g ++ p = sym (c .2) ∙ b .2 in (
       sym (take-at g p (length f) (sym (b .1))) ∙ ap (take (length f)) (sym both) ∙ take-at f o (length f) refl,
       sym (drop-at g p (length f) (sym (b .1))) ∙ ap (drop (length f)) (sym both) ∙ drop-at f o (length f) refl,
@@ -109,17 +109,17 @@ pub refused-no-plan : (s : List ℕ) (room k p : ℕ) → maxTableWords ≤ room
 refused-no-plan s room k p h (inl f) (t, file) = file-no-fault file f
 refused-no-plan s room k p h (inr x) (t, file) = omega (arith, x .2 .long, table-words-at-most .1 (x .2 .table) (x .2 .file .complete))
 
--- Where a plan file stands in front, what is behind it tells.
+-- Where a plan file stands in front, what comes after it tells.
 pub told-plans : (s : List ℕ) (at : ℕ) (r : Holds) → at ≤ length s → (at ≡ length s → ⊥)
     → PlanFile (take (at - 0) (drop 0 s)) → Tells (PlanFile (take (length s - at) (drop at s))) r → Tells (PlanParts s at) r
-told-plans s at Yes h more f i = (rw (front s at) at f, inr (rw (behind s at h) at i))
+told-plans s at Yes h more f i = (rw (front s at) at f, inr (rw (after s at h) at i))
 told-plans s at No h more f none = λ x. either (x .1)
   where
     either : (drop at s ≡ []) ⊎ PlanFile (drop at s) → ⊥
     either (inl e) = let l = ap length e in more (omega (arith, length-drop at s))
-    either (inr i) = none (rw (behind s at h) i)
+    either (inr i) = none (rw (after s at h) i)
 
--- The number that was read in front, and the first plan behind it: w bytes from next on.
+-- The number that was read in front, and the first plan after it: w bytes from next on.
 module _ (s : List ℕ) {r : Number} where
   pub none-read : {k p : ℕ} → r ≡ number.Refused k p → ReadsNumber s 0 r → (f o : List ℕ) → Kept s f o → ⊥
   none-read {k} {p} e told = none-kept s k (subst (ReadsNumber s 0) e told .1)
@@ -132,8 +132,8 @@ module _ (s : List ℕ) {r : Number} where
     cut-before h = cut-kept s read-is (inl h)
 
     module _ {w : ℕ} (is : w ≡ n) where
-      pub cut-behind : length s - next < w → (f o : List ℕ) → Kept s f o → ⊥
-      cut-behind h = cut-kept s read-is (inr (omega arith))
+      pub cut-after : length s - next < w → (f o : List ℕ) → Kept s f o → ⊥
+      cut-after h = cut-kept s read-is (inr (omega arith))
 
       pub read-room : next ≤ length s → w ≤ length s - next → w ≤ length (drop next s)
       read-room h room = omega (arith, length-drop next s)
@@ -160,13 +160,13 @@ module _ (s : List ℕ) {p : Parts} where
     split-start = split-is .0
 
     pub split-room : n ≤ length (take (length s - next) (drop next s))
-    split-room = rw (behind s next split-start) (split-is .1)
+    split-room = rw (after s next split-start) (split-is .1)
 
     pub split-known : (q : List ℕ) (r : Holds) → Tells (KnownParts (take (length s - next) (drop next s)) n q) r → Tells (Known s q) r
-    split-known q r t = told-known s _ _ q r (split-is .2) (rw (behind s next split-start) at t)
+    split-known q r t = told-known s _ _ q r (split-is .2) (rw (after s next split-start) at t)
 
     pub split-copied : (r : Holds) → Tells (PlanParts (take (length s - next) (drop next s)) n) r → Tells (Copy s) r
-    split-copied r t = told-copy s _ _ r (split-is .2) (rw (behind s next split-start) at t)
+    split-copied r t = told-copy s _ _ r (split-is .2) (rw (after s next split-start) at t)
 
 -- The bytes of two strings below i are equal.
 pub record SameTo (a b : List ℕ) (i : ℕ) : Type 0 where

@@ -22,7 +22,7 @@ pub record Known (s p : List ℕ) : Type 0 where
   pub kept : Kept s first other
   pub is : (first ≡ p) ⊎ (other ≡ p)
 
--- Of two plans, one after the other, the first of which has so many bytes, p is the one or the other.
+-- Two plans stand in s, one after the other, and the first has so many bytes: p is one of the two.
 abbrev pub KnownParts : List ℕ → ℕ → List ℕ → Type 0
 KnownParts s at p = (take at s ≡ p) ⊎ (drop at s ≡ p)
 
@@ -38,11 +38,11 @@ pub record Copy (s : List ℕ) : Type 0 where
   pub plan : PlanFile first
   pub rest : (other ≡ []) ⊎ PlanFile other
 
--- Of two plans, one after the other, the first of which has so many bytes, that is a plan file, and the other is one or nothing.
+-- Two plans stand in s, one after the other, and the first has so many bytes: the first is a plan file, and the second is one or is empty.
 abbrev pub PlanParts : List ℕ → ℕ → Type 0
 PlanParts s at = PlanFile (take at s) × ((drop at s ≡ []) ⊎ PlanFile (drop at s))
 
--- Where the first plan begins in s and how many bytes it has; or s is nothing that was seen.
+-- Where the first plan begins in s and how many bytes it has; or s does not have the form of what was seen.
 abbrev pub Splits : List ℕ → Parts → Type 0
 Splits s (parts.At next n) = (next ≤ length s) × (n ≤ length (drop next s)) × Kept s (take n (drop next s)) (drop n (drop next s))
 Splits s parts.Nowhere = (first other : List ℕ) → Kept s first other → ⊥

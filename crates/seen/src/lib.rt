@@ -1,4 +1,4 @@
-// What was last seen of a plan, kept beside its cursor: one plan file, or the two between which a move goes, whole.
+// What was last seen of a plan, kept beside its cursor: one whole plan file, or two, those before and after a move.
 ghost use mathlib.Core.Path.{_≡_};
 ghost use Prim.Native.Nat.{_≤_};
 ghost use lib.ListN.{length};
@@ -8,12 +8,12 @@ use basics::Holds;
 use files::PlanRead;
 use numbers::Number;
 
-// The most bytes that how long the first plan is has as a number, and that all that was seen has.
+// The most bytes of the number in front, which says how long the first plan is, and the most bytes of all that was seen.
 pub const MAX_SIZE_BYTES: usize = 5;
 
 pub const MAX_SEEN_BYTES: usize = MAX_SIZE_BYTES + 2 * files::MAX_FILE_BYTES;
 
-// Internal: the two plans in what was seen: where the first begins and how many bytes it has; or nothing was seen so.
+// Internal: the two plans in what was seen: where the first begins and how many bytes it has; or the bytes do not have that form.
 pub enum Parts {
     At(usize, usize),
     Nowhere,

@@ -43,7 +43,7 @@ module _ (t : List ℕ) {size : Checked} (s : Told (sizeRefusals t) size) where
           pub links-passed : double ≡ Nowhere → LinksPassed t
           links-passed e = record { sized = sized; links = links; new-links = all-of (subst (Finds (LinkNew t) 0 (linkCount t)) e d) }
 
--- 6 and 7: what is due behind the links, and that it is a fault of the table.
+-- 6 and 7: what is due after the links, and that it is a fault of the table.
 abbrev pub AfterLinks : List ℕ → ℕ → ℕ → Type 0
 AfterLinks t k p =
     (lowest badStream (StreamRight t) (streamCount t) then unlessAt badStream (streamCount t) (CountsAddUp t) then lowest badLeg (LegRight t) (legCount t)) .Fault k p

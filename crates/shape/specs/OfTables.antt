@@ -11,11 +11,11 @@ RefusalNumber k = k ≤ noRoom
 abbrev pub maxRefusal : ℕ
 maxRefusal = 15
 
--- 12 to 15 are of bytes.
+-- The refusals 12 to 15 concern bytes, not tables.
 abbrev pub OfBytes : ℕ → Type 0
 OfBytes k = (bytesEnd ≤ k) × (k ≤ noRoom)
 
--- A refusal of a table has one of these numbers and is none of bytes, and its number and its position are small.
+-- A refusal of a table has one of these numbers, but not 12 to 15. Its number and its position are small.
 pub record OfTable (k p : ℕ) : Type 0 where
   pub number : RefusalNumber k
   pub small : k ≤ maxRefusal

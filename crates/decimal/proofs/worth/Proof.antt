@@ -1,4 +1,4 @@
--- `decimal::worth` meets its contract: what was passed is worth `value`, and with the digits behind it that is what all of them are worth.
+-- `decimal::worth` meets its contract: what was passed is worth `value`, and with the digits after it that is what all of them are worth.
 -- Assumes nothing.
 use Prim.Native.Nat.{_-_}
 use lib.ListN.{length}

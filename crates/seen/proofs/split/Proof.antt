@@ -1,6 +1,6 @@
 -- `seen::split` meets its contract: the number in front says where the first plan ends. Assumes nothing.
 use borrow.Author.Needs.{needs}
-use Rattle.seen.proofs.Laws.{none-read, cut-before, cut-behind, read-room, read-kept}
+use Rattle.seen.proofs.Laws.{none-read, cut-before, cut-after, read-room, read-kept}
 use Rattle.seen.proofs.split.Statement.{statement}
 use Rattle.seen.proofs.split.Tie as tie
 
@@ -23,7 +23,7 @@ sub-if2 : tie.Need-sub-if2
 sub-if2 c = search needs
 
 returns-2 : tie.Need-returns-2
-returns-2 c = search cut-behind
+returns-2 c = search cut-after
 
 returns-3 : tie.Need-returns-3
 returns-3 c = search none-read

@@ -1,4 +1,4 @@
--- `files::look::plan_size` meets its contract: a header that is cut short is the first refusal, and the rest is told behind the header.
+-- `files::look::plan_size` meets its contract: a header that is cut short is the first refusal, and after a whole header `after_header` tells the rest.
 -- Assumes nothing.
 use mathlib.Core.Logic.{inl}
 use borrow.Author.Needs.{needs}
@@ -14,8 +14,8 @@ enum-known-seen c = search needs
 enum-known-seen-2 : tie.Need-enum-known-seen-2
 enum-known-seen-2 c = search needs
 
-behind-header-requires : tie.Need-behind-header-requires
-behind-header-requires c κs =
+after-header-requires : tie.Need-after-header-requires
+after-header-requires c κs =
     let looked : tie.After-look-through = search in
     rw (c .before .seen2 .given .1) at (looked .look-through .ensures)
 
@@ -35,6 +35,6 @@ plan-size-spec =
     look-through-requires
     enum-known-seen
     enum-known-seen-2
-    behind-header-requires
+    after-header-requires
     returns
     returns-2)

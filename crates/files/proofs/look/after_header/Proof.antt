@@ -1,11 +1,11 @@
--- `files::look::behind_header` meets its contract: the header was taken into five words, so its limits and its length are told, and the
--- records behind it are looked through. Assumes nothing.
+-- `files::look::after_header` meets its contract: the header was taken into five words, so its limits and its length are told, and the
+-- records after it are looked through. Assumes nothing.
 use mathlib.Core.Path.{refl}
 use mathlib.Core.Logic.{inl, inr}
 use Rattle.files.proofs.Looking.{Headed, headed, header-above, header-first, table-cut, table-over, table-file}
 use borrow.Author.Needs.{needs}
-use Rattle.files.proofs.look.behind_header.Statement.{statement}
-use Rattle.files.proofs.look.behind_header.Tie as tie
+use Rattle.files.proofs.look.after_header.Statement.{statement}
+use Rattle.files.proofs.look.after_header.Tie as tie
 
 -- The header, once it is told.
 abbrev header : tie.After-header-words → Headed
@@ -68,8 +68,8 @@ returns-4 c =
     let r = rw (c .before .before .seen2 .given .1) at (looked .look-through .ensures) in
     search (table-file (d .header))
 
-pub behind-header-spec : {M : Type 1} → statement M
-behind-header-spec =
+pub after-header-spec : {M : Type 1} → statement M
+after-header-spec =
     tie.close
     (tie.spec
     slice-aggregate-fill
