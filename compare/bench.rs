@@ -7,6 +7,7 @@
 mod check;
 mod format;
 mod paper;
+mod reasons;
 mod rules;
 mod shape;
 
@@ -15,7 +16,7 @@ use format::{cursor_bytes, Cursor};
 use paper::{CURSOR_BYTES, NOTHING_VIOLATED, PAUSED};
 use std::time::Duration;
 
-/// A time of the C library: seconds, and the ns behind them.
+/// A time of the C library: seconds, and the ns after them.
 #[repr(C)]
 struct Timespec {
     seconds: i64,

@@ -50,8 +50,8 @@ fn low(answer: u64) -> u32 {
 /// The cursor in the first bytes of a buffer that a call wrote.
 fn given(out: &[u8]) -> Cursor {
     let ends = |at: &usize| out[*at] < MORE;
-    let behind = (0..out.len()).filter(ends).nth(2).expect("a cursor has three numbers") + 1;
-    Plain.read_cursor(&out[..behind]).expect("a call gives a cursor that reads")
+    let after = (0..out.len()).filter(ends).nth(2).expect("a cursor has three numbers") + 1;
+    Plain.read_cursor(&out[..after]).expect("a call gives a cursor that reads")
 }
 
 fn places(plan: &Plan) -> u32 {
@@ -272,7 +272,7 @@ impl Batch {
         (after, from)
     }
 
-    /// Slices that look at a place whose rule just holds, or just does not, and at those behind it.
+    /// Slices that look at a place whose rule just holds, or just does not, and at those after it.
     fn at_an_edge(&mut self) {
         let mut plan = small(&mut self.chance);
         for _ in 0..6 {
@@ -304,7 +304,7 @@ impl Batch {
         }
     }
 
-    /// Slices from behind each violated place to the next, so that all rules are judged for offsets of any size.
+    /// Slices from the place after each violated one to the next, so that all rules are judged for offsets of any size.
     fn beyond_the_period(&mut self) {
         let mut plan = small(&mut self.chance);
         beyond(&mut self.chance, &mut plan);

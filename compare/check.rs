@@ -2,9 +2,10 @@
 
 use crate::format::{self, cursor_bytes, plan_bytes, refused, Cursor, Leg, Link, Move, Outcome, Plan, Refusal, Stream};
 use crate::paper::{
-    Limits, Rule, CURSOR_BYTES, DEADLINE, GRANTED, HOP, LAST_REVISION, LIMITS, NOTHING_VIOLATED, NO_LEG, NO_PLACE,
-    OVERLAP, OVERLAPS, PAUSED, REFUSED, RULES, STALE, WINDOW,
+    Limits, Rule, CURSOR_BYTES, DEADLINE, GRANTED, HEADER_WORDS, HOP, LAST_REVISION, LIMITS, NOTHING_VIOLATED, NO_LEG,
+    NO_PLACE, OVERLAP, OVERLAPS, PAUSED, REFUSED, RULES, STALE, WINDOW,
 };
+use crate::reasons;
 use crate::rules::{self, sent, Sent};
 use crate::shape;
 
@@ -87,6 +88,17 @@ decisions! {
     slice(plan: &Plan, from: Cursor, budget: u32) -> Sliced = slice;
     fits(plan: &Plan, cursor: Cursor) -> Outcome<()> = fits;
     moved(plan: &mut Plan, cursor: Cursor, wanted: Move) -> Outcome<Cursor> = moved;
+    // What is said of a refusal.
+    cause_told(refusal: u32, causes: &[Option<String>]) -> Option<String> = reasons::cause_told;
+    numbered(records: &str, count: usize) -> Option<String> = reasons::numbered;
+    unread(bytes: &[u8], refusal: Refusal) -> String = reasons::unread;
+    name(header: &[u32; HEADER_WORDS], before: usize) -> String = reasons::name;
+    is_too_long(bytes: &[u8], at: usize) -> bool = reasons::is_too_long;
+    twin(links: &[Link], at: usize) -> Option<usize> = reasons::twin;
+    legs_before(plan: &Plan, stream: usize) -> u64 = reasons::legs_before;
+    last_leg(stream: &Stream) -> u64 = reasons::last_leg;
+    owner(plan: &Plan, leg: usize) -> usize = reasons::owner;
+    met(plan: &Plan, first: usize, leg: usize) -> Vec<u32> = reasons::met;
     // The calls for C.
     room(least: usize, lent: usize) -> Outcome<()> = format::room;
     opened(plan: &[u8], cursor: &[u8], lent: usize) -> Outcome<(Plan, Cursor)> = opened;
@@ -116,7 +128,7 @@ pub fn places_before(cursor: Cursor) -> u64 {
     places(&Plain, u64::from(cursor.leg)) + u64::from(cursor.place)
 }
 
-/// The next place. The end is place 0 of the leg behind the last.
+/// The next place. The end is place 0 of the leg after the last.
 pub fn next(cursor: Cursor) -> Cursor {
     if cursor.place + 1 < places_of(cursor.leg) {
         return Cursor { place: cursor.place + 1, ..cursor };

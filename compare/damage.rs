@@ -22,7 +22,7 @@ fn some_record(chance: &mut Chance, count: usize) -> usize {
     }
 }
 
-/// A table with each word behind its header at each value that lies at an edge of its range.
+/// A table with each word after its header at each value that lies at an edge of its range.
 pub fn each_edge(words: &[u32]) -> Vec<Vec<u32>> {
     let mut tables = Vec::new();
     for (at, width) in WIDTHS.into_iter().enumerate() {
@@ -203,8 +203,8 @@ pub fn damage_bytes(chance: &mut Chance, bytes: &mut Vec<u8>) {
         4 => {
             let last = chance.of(&[0x00, 0x01, 0x0F, 0x10, 0x7F, 0x80, 0x8F, 0xFF]);
             let number = [chance.next() as u8 | 0x80, 0x80, 0xFF, 0x80, last];
-            let behind = (at + chance.of(&[0, 1])).min(bytes.len());
-            bytes.splice(at.min(behind)..behind, number);
+            let after = (at + chance.of(&[0, 1])).min(bytes.len());
+            bytes.splice(at.min(after)..after, number);
         }
         5 => {
             bytes.truncate(at);

@@ -166,7 +166,7 @@ pub fn table_words(header: &[u32; HEADER_WORDS]) -> u64 {
 
 // ---- Reading
 
-/// Gives the number that starts at a position, and the position behind it.
+/// Gives the number that starts at a position, and the position after it.
 pub fn number<C: Checker>(c: &C, bytes: &[u8], start: usize) -> Outcome<(u32, usize)> {
     let mut value = 0;
     for group in 0..NUMBER_BYTES {
@@ -186,7 +186,7 @@ pub fn number<C: Checker>(c: &C, bytes: &[u8], start: usize) -> Outcome<(u32, us
     unreachable!("a fifth byte either ends the number or is refused")
 }
 
-/// Reads numbers one behind the other.
+/// Reads numbers one after the other.
 pub struct Numbers<'a, C> {
     pub checker: &'a C,
     pub bytes: &'a [u8],
@@ -195,8 +195,8 @@ pub struct Numbers<'a, C> {
 
 impl<C: Checker> Numbers<'_, C> {
     pub fn next(&mut self) -> Outcome<u32> {
-        let (value, behind) = self.checker.number(self.bytes, self.at)?;
-        self.at = behind;
+        let (value, after) = self.checker.number(self.bytes, self.at)?;
+        self.at = after;
         Ok(value)
     }
 
@@ -244,7 +244,7 @@ fn in_limits<C: Checker>(c: &C, header: &[u32; HEADER_WORDS]) -> Outcome<()> {
     Ok(())
 }
 
-/// Refusal 14: bytes left over behind the last number.
+/// Refusal 14: bytes left over after the last number.
 pub fn ends<C: Checker>(_: &C, at: usize, length: usize) -> Outcome<()> {
     if at < length {
         return refused(LEFT_OVER, at);

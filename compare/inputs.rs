@@ -1,13 +1,15 @@
-//! Plan files for the programs, in families. Each wrong checker is told from the right one by one of them at least.
+//! Plan files for the programs, in families. Each wrong checker is told from the right one by one of them at least: by what
+//! is printed, or by what is said of a refusal.
 
 use crate::chance::Chance;
-use crate::check::{Checker, Plain};
+use crate::check::{Bent, Checker, Plain};
 use crate::damage::{any_bytes, bend_route, damage_bytes, damage_table, double_links, each_edge, routes, shift_legs};
 use crate::drafts::{accepted, alike, full_line, large, medium, one_link, plan_a, row, small, to_an_edge};
 use crate::format::{encoded, is_whole, plan_bytes, table_words, Plan};
 use crate::paper::{GROUP_BITS, HEADER_WORDS, LIMITS, MORE, NUMBER_BYTES};
-use crate::told::{printed, Verb};
-use crate::wrong::{self, given};
+use crate::reasons::kind;
+use crate::told::{printed, said, Verb};
+use crate::wrong::{self, given, Wrong};
 use std::collections::BTreeSet;
 
 type Family = Vec<Vec<u8>>;
@@ -18,33 +20,43 @@ pub struct Inputs {
     pub at_large: Vec<String>,
 }
 
-/// Gives so many files of each family at the most, evenly, and those that tell wrong checkers.
+/// Drops each wrong checker that gives something else than the right one. Says whether there is one.
+fn drop_told<T: PartialEq>(wrong: &mut Vec<Wrong>, right: &T, gives: impl Fn(&Bent) -> T) -> bool {
+    let before = wrong.len();
+    wrong.retain(|one| given(|| gives(&one.checker)).as_ref() == Some(right));
+    wrong.len() < before
+}
+
+/// Gives so many files of each family at the most, evenly, those that tell wrong checkers, and the first one of each kind of
+/// sentence that is said of a refusal.
 pub fn inputs(verb: Verb, seed: u64, most: usize) -> Inputs {
     let most = most.max(1);
     let families = families(verb, &mut Chance::new(seed, verb as u64));
-    let mut wrong = match verb {
-        Verb::Words => wrong::readers(),
-        Verb::Shape => wrong::judges(),
-        Verb::Check => wrong::checkers(),
+    let all_tellers = || wrong::tellers_of_files().into_iter().chain(wrong::tellers_of_tables()).collect();
+    let (mut wrong, mut tellers) = match verb {
+        Verb::Words => (wrong::readers(), wrong::tellers_of_files()),
+        Verb::Shape => (wrong::judges(), wrong::tellers_of_tables()),
+        Verb::Check => (wrong::checkers(), all_tellers()),
     };
-    let mut files = Vec::new();
+    let (mut files, mut kinds) = (Vec::new(), BTreeSet::new());
     for family in families {
         let step = ((family.len() + most - 1) / most).max(1);
         for (number, bytes) in family.into_iter().enumerate() {
-            let before = wrong.len();
-            let right = printed(&Plain, verb, Plain.read_plan(&bytes));
-            wrong.retain(|one| {
-                let told = given(|| printed(&one.checker, verb, one.checker.read_plan(&bytes)));
-                told.as_ref() == Some(&right)
-            });
-            if number % step == 0 || wrong.len() < before {
+            let (right, right_said) = (printed(&Plain, verb, Plain.read_plan(&bytes)), said(&Plain, verb, &bytes));
+            let is_kept = [
+                number % step == 0,
+                drop_told(&mut wrong, &right, |c| printed(c, verb, c.read_plan(&bytes))),
+                drop_told(&mut tellers, &right_said, |c| said(c, verb, &bytes)),
+                right_said.err().map_or(false, |sentence| kinds.insert(kind(&sentence))),
+            ];
+            if is_kept.contains(&true) {
                 files.push(bytes);
             }
         }
     }
     let mut seen = BTreeSet::new();
     files.retain(|bytes| seen.insert(bytes.clone()));
-    Inputs { files, at_large: wrong.into_iter().map(|one| one.name).collect() }
+    Inputs { files, at_large: wrong.into_iter().chain(tellers).map(|one| one.name).collect() }
 }
 
 fn families(verb: Verb, chance: &mut Chance) -> Vec<Family> {
@@ -54,6 +66,7 @@ fn families(verb: Verb, chance: &mut Chance) -> Vec<Family> {
             cut_or_edited(),
             headers(),
             forms(),
+            each_number(),
             around_the_largest(),
             (0..600).map(|_| encoded(&any_table(chance, [5, 5, 9]))).collect(),
             (0..8).map(|_| encoded(&any_table(chance, [LIMITS.links, LIMITS.streams, LIMITS.legs]))).collect(),
@@ -62,6 +75,7 @@ fn families(verb: Verb, chance: &mut Chance) -> Vec<Family> {
         ],
         Verb::Shape => vec![
             of_the_paper(),
+            each_cause(),
             edges_of_tables(chance),
             (0..600).map(|_| plan_bytes(&routes(chance))).collect(),
             (0..600).map(|_| damaged(chance, |chance| row(chance), 2)).collect(),
@@ -74,6 +88,8 @@ fn families(verb: Verb, chance: &mut Chance) -> Vec<Family> {
         ],
         Verb::Check => vec![
             of_the_paper(),
+            each_number(),
+            each_cause(),
             each_edge(&plan_a().words()).iter().map(|words| encoded(words)).collect(),
             (0..800).map(|_| at_edges(chance, |chance| small(chance))).collect(),
             (0..300).map(|_| at_edges(chance, |chance| medium(chance))).collect(),
@@ -112,7 +128,7 @@ fn cut_or_edited() -> Family {
     family
 }
 
-/// Headers around each limit, alone and together, and far above; each with nothing behind it, with too little, with what it
+/// Headers around each limit, alone and together, and far above; each with nothing after it, with too little, with what it
 /// asks for, and with too much.
 fn headers() -> Family {
     let limits = [LIMITS.links, LIMITS.streams, LIMITS.legs, LIMITS.precision];
@@ -142,7 +158,7 @@ fn headers() -> Family {
     let mut family = Vec::new();
     for header in headers {
         let (start, rest) = (encoded(&header), table_words(&header) - HEADER_WORDS as u64);
-        family.extend([&[][..], &[MORE], &[1]].map(|behind| [&start[..], behind].concat()));
+        family.extend([&[][..], &[MORE], &[1]].map(|after| [&start[..], after].concat()));
         if rest < 20_000 {
             let whole = [start, vec![0; rest as usize]].concat();
             family.extend([whole.clone(), [whole, vec![0]].concat()]);
@@ -152,7 +168,7 @@ fn headers() -> Family {
 }
 
 /// Numbers in longer forms than they need, and of five bytes with each kind of last one: first, at the end of the header,
-/// behind it and last in Plan A, and last of all bytes.
+/// after it and last in Plan A, and last of all bytes.
 fn forms() -> Family {
     let edges =
         [0, 7, 14, 21, 28].map(|bits| 1u32 << bits).into_iter().flat_map(|edge| [edge - 1, edge]).chain([u32::MAX]);
@@ -178,7 +194,22 @@ fn forms() -> Family {
     family
 }
 
-/// The largest file, cut, with its last number damaged, and with bytes behind it, and strings of about its length.
+/// Plan A up to each of its numbers, and in the place of that one nothing, a part of a number, a longer form than it needs,
+/// or a number that is too high.
+fn each_number() -> Family {
+    let words = plan_a().words();
+    let high = [[0xFF, 0xFF, 0xFF, 0xFF, LIMITS.last_byte + 1], [MORE; NUMBER_BYTES]];
+    let long = [[MORE, MORE, MORE, MORE, 0], [1 | MORE, 0, 1, 1, 1]];
+    let mut family = Vec::new();
+    for at in 0..words.len() {
+        let until = encoded(&words[..at]);
+        family.extend([&[][..], &[MORE], &[MORE; 4]].map(|part| [&until[..], part].concat()));
+        family.extend(high.iter().chain(&long).map(|form| [&until[..], form, &encoded(&words[at + 1..])].concat()));
+    }
+    family
+}
+
+/// The largest file, cut, with its last number damaged, and with bytes after it, and strings of about its length.
 fn around_the_largest() -> Family {
     let header = [u32::MAX, LIMITS.links, LIMITS.streams, LIMITS.legs, LIMITS.precision];
     let rest = table_words(&header) as usize - HEADER_WORDS;
@@ -241,6 +272,53 @@ fn edges_of_tables(chance: &mut Chance) -> Family {
             let mut twin = plan.clone();
             twin.links[one] = plan.links[other];
             family.push(plan_bytes(&twin));
+        }
+    }
+    family
+}
+
+/// Plan A with each fault of the header, a link, a stream or a leg, alone and with each other one of the same record, and
+/// without links, legs or its last stream.
+fn each_cause() -> Family {
+    let of_headers: [fn(&mut Plan); 4] = [
+        |plan| plan.links.resize(LIMITS.links as usize + 1, plan.links[0]),
+        |plan| plan.streams.resize(LIMITS.streams as usize + 1, plan.streams[0]),
+        |plan| plan.legs.resize(LIMITS.legs as usize + 1, plan.legs[0]),
+        |plan| plan.precision = LIMITS.precision + 1,
+    ];
+    let of_links: [fn(&mut Plan); 6] = [
+        |plan| plan.links[1].from = LIMITS.node + 1,
+        |plan| plan.links[1].to = LIMITS.node + 1,
+        |plan| plan.links[1].to = plan.links[1].from,
+        |plan| plan.links[1].ns_per_octet = 0,
+        |plan| plan.links[1].propagation = LIMITS.propagation + 1,
+        |plan| plan.links[1] = plan.links[0],
+    ];
+    let of_streams: [fn(&mut Plan); 7] = [
+        |plan| plan.streams[1].period = LIMITS.period.1 + 1,
+        |plan| plan.streams[1].deadline = u32::MAX,
+        |plan| plan.streams[1].octets = LIMITS.octets.0 - 1,
+        |plan| plan.streams[1].first_leg -= 1,
+        |plan| plan.streams[1].leg_count = 0,
+        |plan| plan.streams[1].leg_count = LIMITS.route.1 + 1,
+        |plan| plan.streams[1].leg_count += 1,
+    ];
+    // Leg 1 is the second one of its route.
+    let of_legs: [fn(&mut Plan); 4] = [
+        |plan| plan.legs[1].stream += 1,
+        |plan| plan.legs[1].link += 1,
+        |plan| plan.links[1].from = plan.links[1].to + 1,
+        |plan| plan.links[1].to = plan.links[0].from,
+    ];
+    let without: [fn(&mut Plan); 3] =
+        [|plan| plan.links.clear(), |plan| plan.legs.clear(), |plan| plan.streams.truncate(1)];
+    let mut family = Vec::new();
+    for faults in [&of_headers[..], &of_links, &of_streams, &of_legs, &without] {
+        for (one, other) in (0..faults.len()).flat_map(|one| (0..=one).map(move |other| (one, other))) {
+            let mut plan = plan_a();
+            faults[other](&mut plan);
+            faults[one](&mut plan);
+            family.push(plan_bytes(&plan));
         }
     }
     family

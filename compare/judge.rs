@@ -12,8 +12,12 @@
 //!   places LEGS                     how many places there are
 //!   word PLAN stream 0 octets       which word of the table this is; also word PLAN revision
 //!   plan SEED STREAMS               a table in which nothing is violated, of so many streams or fewer
+//!   why words|shape|check PLAN      the sentence that the program says on standard error, or none where it does not refuse
+//!   why slice PLAN CURSOR           likewise for a slice: the sentence of the plan, or that of the cursor
+//!   why move PLAN CURSOR LEG OFFSET likewise for a move: the sentence of the plan, of the cursor, or that of the move
 //!
-//! PLAN and CURSOR are bytes, x0AFF or @FILE, or words, w0,2,2. Each may be refused: refused NUMBER AT.
+//! PLAN and CURSOR are bytes, x0AFF or @FILE, or words, w0,2,2. Each may be refused: refused NUMBER AT. Where the question
+//! is why, words are the file that has them, and bytes of a cursor have to be readable: reasons.rs has no sentence for others.
 //!
 //! These commands are no questions:
 //!
@@ -35,6 +39,7 @@ mod inputs;
 mod layout;
 mod list;
 mod paper;
+mod reasons;
 mod rules;
 mod shape;
 mod told;
@@ -44,8 +49,9 @@ use chance::Chance;
 use check::{begin, Checker, Plain};
 use format::{encoded, index_of, table, write_cursor, write_plan, Cursor, Move, Outcome, Plan, HEADER};
 use paper::{CURSOR_WORDS, NOTHING_VIOLATED, PAUSED};
+use reasons::Said;
 use std::io::{BufRead, Read, Write};
-use told::{joined, printed, rule_named, Verb};
+use told::{joined, printed, rule_named, said, Verb};
 
 /// What is wrong with a question.
 type Asked<T> = Result<T, String>;
@@ -70,6 +76,14 @@ impl Given {
         match self {
             Given::Bytes(bytes) => Plain.read_plan(bytes),
             Given::Words(words) => table(&Plain, words),
+        }
+    }
+
+    /// The plan file that this is.
+    fn file(self) -> Vec<u8> {
+        match self {
+            Given::Bytes(bytes) => bytes,
+            Given::Words(words) => encoded(&words),
         }
     }
 
@@ -143,6 +157,36 @@ fn moved(mut plan: Plan, cursor: Cursor, wanted: Move) -> Outcome<String> {
     Ok(format!("granted {}\nw{}\n", told(cursor), joined(&plan.words(), ",")))
 }
 
+/// What a slice or a move says of the plan, of the cursor, and of the move.
+fn said_of_call(plan: Given, cursor: &Given, wanted: Option<Move>) -> Asked<Said<()>> {
+    let (plan, cursor) = match (reasons::read(&Plain, &plan.file()), cursor.cursor()?) {
+        (Err(sentence), _) => return Ok(Err(sentence)),
+        (Ok(_), Err(_)) => return Err("a cursor that cannot be read has no sentence".to_string()),
+        (Ok(plan), Ok(cursor)) => (plan, cursor),
+    };
+    let said = || {
+        reasons::judge(&Plain, &plan)?;
+        reasons::fits(&Plain, &plan, cursor)?;
+        wanted.map_or(Ok(()), |wanted| reasons::moved(&Plain, &plan, cursor, wanted))
+    };
+    Ok(said())
+}
+
+/// The sentence of a refusal, or none.
+fn why(question: &[&str]) -> Asked<String> {
+    let given = |at: usize| Given::of(question[at]);
+    let said = match question {
+        ["slice", _, _] => said_of_call(given(1)?, &given(2)?, None)?,
+        ["move", _, _, leg, offset] => {
+            let wanted = Move { leg: number(leg)?, offset: number(offset)? };
+            said_of_call(given(1)?, &given(2)?, Some(wanted))?
+        }
+        [verb, _] => said(&Plain, Verb::named(verb).ok_or("no program of this name")?, &given(1)?.file()),
+        _ => return Err("this is no refusal".to_string()),
+    };
+    Ok(said.err().unwrap_or_else(|| "none".to_string()) + "\n")
+}
+
 /// Which word of a table has this name.
 fn index(plan: &Plan, name: &[&str]) -> Asked<String> {
     let found = match name {
@@ -187,6 +231,7 @@ fn answer(question: &[&str]) -> Asked<String> {
                 drafts::accepted(&mut Chance::new(seed.parse().map_err(|_| "no seed")?, 0), number(streams)? as usize);
             Ok(format!("w{}\n", joined(&plan.words(), ",")))
         }
+        ["why", refused @ ..] => Ok(why(refused)?),
         ["places", legs] => Ok(format!("{}\n", Plain.places(u64::from(number(legs)?)))),
         [verb, _] => match Verb::named(verb) {
             Some(verb) => Ok(printed(&Plain, verb, given(1)?.plan())),

@@ -47,7 +47,7 @@ pub fn opinion(call: &Call) -> Opinion {
 fn laid_out(a: &Sent, b: &Sent) -> Option<bool> {
     let (a_period, b_period) = (u64::from(a.period), u64::from(b.period));
     let multiple = a_period / u64::from(rules::divisor(a.period, b.period)) * b_period;
-    // Two repeats that meet behind this end are repeats of two that meet before it.
+    // Two repeats that meet after this end are repeats of two that meet before it.
     let end = a.offset.max(b.offset) + multiple + a.hold.max(b.hold);
     let (mut a_start, mut b_start) = (a.offset, b.offset);
     if (end - a_start) / a_period + (end - b_start) / b_period > REPEATS_MAX {

@@ -1,8 +1,9 @@
-//! What the programs print of a plan, or of the refusal that its file met.
+//! What the programs print of a plan, or of the refusal that its file met, and what they say of that refusal.
 
 use crate::check::{whole, Checker};
 use crate::format::{Outcome, Plan, Refusal};
 use crate::paper::VIOLATED;
+use crate::reasons::{self, Said};
 
 #[derive(Clone, Copy, Debug, PartialEq, Eq)]
 pub enum Verb {
@@ -30,6 +31,15 @@ pub fn printed<C: Checker>(c: &C, verb: Verb, plan: Outcome<Plan>) -> String {
         Verb::Check => plan.and_then(|plan| check(c, &plan)),
     };
     told.unwrap_or_else(refusal)
+}
+
+/// What the program says on standard error of a file that it refuses.
+pub fn said<C: Checker>(c: &C, verb: Verb, bytes: &[u8]) -> Said<()> {
+    let plan = reasons::read(c, bytes)?;
+    match verb {
+        Verb::Words => Ok(()),
+        Verb::Shape | Verb::Check => reasons::judge(c, &plan),
+    }
 }
 
 pub fn refusal(refusal: Refusal) -> String {

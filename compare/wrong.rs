@@ -1,5 +1,6 @@
 //! Checkers that are wrong on purpose, each in one thing. The comparison has to catch every one; those of the first three
-//! groups have to be caught by what the programs print, too.
+//! groups have to be caught by what the programs print, too. Those of the last group say something wrong of a refusal, and
+//! have to be caught by what the programs say on standard error.
 
 use crate::check::{self, begin, next, packed, places_before, places_of, rule_at, Bent, Checker, Plain, Sliced, RIGHT};
 use crate::format::{
@@ -10,6 +11,7 @@ use crate::paper::{
     LEFT_OVER, LEG_WRONG, LIMITS, LINK_RANGE, LINK_TWICE, MORE, NOTHING_VIOLATED, NO_PLACE, NO_ROOM, NUMBER_BYTES,
     OVERLAP, OVERLAPS, PAUSED, PREAMBLE, REFUSED, RULES, STREAM_WRONG, VIOLATED, WINDOW,
 };
+use crate::reasons;
 use crate::rules::{arrival, divisor, sent, Sent};
 use crate::shape;
 use std::cell::Cell;
@@ -27,7 +29,7 @@ fn wrong(name: &str, bend: impl Fn(&mut Bent)) -> Wrong {
     Wrong { name: name.to_string(), checker }
 }
 
-/// All wrong checkers.
+/// All wrong checkers that give a wrong result.
 pub fn all() -> Vec<Wrong> {
     readers().into_iter().chain(judges()).chain(checkers()).chain(callers()).collect()
 }
@@ -141,7 +143,7 @@ pub fn readers() -> Vec<Wrong> {
         wrong("a fifth byte of 0F refused", |c| c.limits.last_byte = 0x0E),
         wrong("12 and 13 before 2", |c| c.read_plan = |c, bytes| read_on(c, bytes, &[ENDS_EARLY, BAD_FORM])),
         wrong("14 before 2", |c| c.read_plan = |c, bytes| read_on(c, bytes, &[LEFT_OVER])),
-        wrong("bytes left over behind a plan taken", |c| c.plan_ends = |_, _, _| Ok(())),
+        wrong("bytes left over after a plan taken", |c| c.plan_ends = |_, _, _| Ok(())),
     ];
     readers.extend(moved_limits(&[
         ("the most links", |limits| &mut limits.links, EACH_WAY),
@@ -192,7 +194,7 @@ fn first_legs_mended(plan: &Plan) -> Plan {
     mended
 }
 
-/// Compares the sum of the counts with the legs behind all streams, and never at a stream.
+/// Compares the sum of the counts with the legs after all streams, and never at a stream.
 fn sum_alone(c: &Bent, plan: &Plan) -> Outcome<()> {
     let mended = first_legs_mended(plan).streams;
     let is_wrong = |at: &usize| !c.stream_in_range(&plan.streams[*at]) || plan.streams[*at] != mended[*at];
@@ -310,7 +312,7 @@ fn of_streams() -> Vec<Wrong> {
         let out_of_range = plan.streams.iter().position(|stream| !c.stream_in_range(stream));
         shape::streams(c, plan).map_err(|refusal| Refusal { at: out_of_range.unwrap_or(refusal.at), ..refusal })
     };
-    let deadline_behind = |c: &Bent, stream: &Stream| {
+    let deadline_after = |c: &Bent, stream: &Stream| {
         shape::stream_in_range(c, &Stream { deadline: stream.deadline.min(stream.period), ..*stream })
     };
     let deadline_before =
@@ -333,7 +335,7 @@ fn of_streams() -> Vec<Wrong> {
         wrong("7 before counts below G", |c| c.judge = seven_before_sum),
         wrong("6 for all ranges before the first legs", |c| c.streams = ranges_first),
         wrong("any first leg taken", |c| c.streams = |c, plan| shape::streams(c, &first_legs_mended(plan))),
-        wrong("a deadline behind the period taken", |c| c.stream_in_range = deadline_behind),
+        wrong("a deadline after the period taken", |c| c.stream_in_range = deadline_after),
         wrong("a deadline as long as the period refused", |c| c.stream_in_range = deadline_before),
         wrong("counts below G taken", |c| c.streams = legs_unused),
         wrong("counts below G at 0", |c| c.streams = |c, plan| sum_at(c, plan, 0)),
@@ -655,16 +657,16 @@ fn of_slices() -> Vec<Wrong> {
         let right = check::slice(c, plan, from, budget);
         Sliced { steps: right.steps - u32::from(right.result >= VIOLATED), ..right }
     };
-    let behind_the_violated = |c: &Bent, plan: &Plan, from: Cursor, budget: u32| {
+    let after_the_violated = |c: &Bent, plan: &Plan, from: Cursor, budget: u32| {
         let right = check::slice(c, plan, from, budget);
         Sliced { cursor: if right.result >= VIOLATED { next(right.cursor) } else { right.cursor }, ..right }
     };
     let last_place_unseen = |c: &Bent, plan: &Plan, from: Cursor, budget: u32| {
         let right = check::slice(c, plan, from, budget);
-        let behind = next(right.cursor);
-        let is_last = right.result >= VIOLATED && behind.leg as usize == plan.legs.len();
+        let after = next(right.cursor);
+        let is_last = right.result >= VIOLATED && after.leg as usize == plan.legs.len();
         if is_last {
-            Sliced { result: NOTHING_VIOLATED, cursor: behind, ..right }
+            Sliced { result: NOTHING_VIOLATED, cursor: after, ..right }
         } else {
             right
         }
@@ -688,7 +690,7 @@ fn of_slices() -> Vec<Wrong> {
     vec![
         wrong("paused at the end when the budget is just used up", |c| c.slice = paused_at_the_end),
         wrong("steps one less at a violated place", |c| c.slice = steps_one_less),
-        wrong("the cursor behind the violated place", |c| c.slice = behind_the_violated),
+        wrong("the cursor after the violated place", |c| c.slice = after_the_violated),
         wrong("a budget of 0 looks at one place", |c| {
             c.slice = |c, plan, from, budget| check::slice(c, plan, from, budget.max(1))
         }),
@@ -788,21 +790,129 @@ fn of_lent_memory() -> Vec<Wrong> {
         check::give(c, lent, bytes);
     };
     vec![
-        wrong("bytes left over behind a cursor taken", |c| c.cursor_ends = |_, _, _| Ok(())),
+        wrong("bytes left over after a cursor taken", |c| c.cursor_ends = |_, _, _| Ok(())),
         wrong("the cursor read before the plan", |c| c.opened = cursor_first),
         wrong("15 one byte off", |c| c.room = |c, least, lent| format::room(c, least + 1, lent)),
         wrong("14 bytes taken as enough for a cursor", |c| {
             c.room =
                 |c, least, lent| format::room(c, if least == CURSOR_BYTES { CURSOR_BYTES - 1 } else { least }, lent)
         }),
-        wrong("15 behind 1 to 7", |c| c.opened = room_last),
+        wrong("15 after 1 to 7", |c| c.opened = room_last),
         wrong("the room of a new plan judged by the old one", |c| c.moved = room_of_the_old_plan),
         wrong("a byte written on a refusal", |c| c.refuse = written_on_refusal),
-        wrong("the bytes behind what is written set to 0", |c| c.give = rest_cleared),
+        wrong("the bytes after what is written set to 0", |c| c.give = rest_cleared),
         wrong("every refusal at 0", |c| c.refuse = |_, refusal, _| packed(REFUSED + refusal.number, 0)),
     ]
 }
 
 pub fn callers() -> Vec<Wrong> {
     of_far_offsets().into_iter().chain(of_slices()).chain(of_moves()).chain(of_lent_memory()).collect()
+}
+
+// ---- What is said of a refusal
+
+/// The first cause of a refusal, but that a later one is told in the place of an earlier one where both are there.
+fn told_before<const REFUSAL: u32, const EARLIER: usize, const LATER: usize>(
+    _: &Bent,
+    refusal: u32,
+    causes: &[Option<String>],
+) -> Option<String> {
+    let gives_way = refusal == REFUSAL && causes.iter().position(Option::is_some) == Some(EARLIER);
+    let later = causes.get(LATER).cloned().flatten().filter(|_| gives_way);
+    later.or_else(|| Plain.cause_told(refusal, causes))
+}
+
+/// One for each two causes of a refusal that follow each other: whatever order is wrong is wrong for two of these. Some that
+/// follow each other are never there at once, or only with one before them; then the causes next to them are taken.
+macro_rules! told_before {
+    ($refusal:ident: $($earlier:literal $later:literal),*) => {
+        [$(wrong(&format!("of refusal {} cause {} told before cause {}", $refusal, $later, $earlier), |c| {
+            c.cause_told = told_before::<$refusal, $earlier, $later>
+        })),*]
+    };
+}
+
+/// What is said of a file that cannot be read, with another byte where it meets the refusal of this number.
+fn unread_at(c: &Bent, bytes: &[u8], refusal: Refusal, number: u32, at: usize) -> String {
+    let at = if refusal.number == number { at } else { refusal.at };
+    reasons::unread(c, bytes, Refusal { at, ..refusal })
+}
+
+pub fn tellers_of_files() -> Vec<Wrong> {
+    let at_bad_byte: fn(&Bent, &[u8], Refusal) -> _ = |c, bytes, refusal| {
+        let bad_byte = refusal.at + groups_before_last(bytes, refusal.at).min(NUMBER_BYTES - 1);
+        unread_at(c, bytes, refusal, BAD_FORM, bad_byte)
+    };
+    let counts_exchanged: fn(&Bent, &[u32; HEADER_WORDS], usize) -> _ = |c, header, before| {
+        let [revision, links, streams, legs, precision] = *header;
+        reasons::name(c, &[revision, links, legs, streams, precision], before)
+    };
+    let more_is_needless: fn(&Bent, &[u8], usize) -> _ =
+        |c, bytes, at| reasons::is_too_long(c, bytes, at) || bytes.get(at + NUMBER_BYTES - 1) == Some(&MORE);
+    let zero_is_high: fn(&Bent, &[u8], usize) -> _ =
+        |c, bytes, at| reasons::is_too_long(c, bytes, at) && groups_before_last(bytes, at) + 1 < NUMBER_BYTES;
+    let mut tellers = vec![
+        wrong("the name of the number before told", |c| {
+            c.name = |c, header, before| reasons::name(c, header, before.saturating_sub(1))
+        }),
+        wrong("the name of the next number told", |c| {
+            c.name = |c, header, before| reasons::name(c, header, before + 1)
+        }),
+        wrong("names told with the numbers of streams and legs exchanged", |c| c.name = counts_exchanged),
+        wrong("a file that ends inside a number told to end before it", |c| {
+            c.unread = |c, bytes, refusal| unread_at(c, bytes, refusal, ENDS_EARLY, bytes.len())
+        }),
+        wrong("a number that is cut told to begin one byte later", |c| {
+            c.unread = |c, bytes, refusal| unread_at(c, bytes, refusal, ENDS_EARLY, refusal.at + 1)
+        }),
+        wrong("a number of a bad form told to begin one byte later", |c| {
+            c.unread = |c, bytes, refusal| unread_at(c, bytes, refusal, BAD_FORM, refusal.at + 1)
+        }),
+        wrong("a number of a bad form told at its bad byte", |c| c.unread = at_bad_byte),
+        wrong("a plan told to end where the file does", |c| {
+            c.unread = |c, bytes, refusal| unread_at(c, bytes, refusal, LEFT_OVER, bytes.len())
+        }),
+        wrong("a fifth byte of 80 told to be needless", |c| c.is_too_long = more_is_needless),
+        wrong("a fifth byte of 0 told to be too high", |c| c.is_too_long = zero_is_high),
+        wrong("a number of six bytes told to be above the largest", |c| {
+            c.unread = |c, bytes, refusal| {
+                reasons::unread(c, bytes, refusal).replace("takes more than five bytes", "is above 4294967295")
+            }
+        }),
+    ];
+    tellers.extend(told_before!(ABOVE_LIMIT: 0 1, 1 2, 2 3));
+    tellers
+}
+
+pub fn tellers_of_tables() -> Vec<Wrong> {
+    let owner_before = |_: &Bent, plan: &Plan, leg: usize| {
+        let own = Plain.owner(plan, leg);
+        own.saturating_sub(usize::from(plan.streams[own].first_leg as usize == leg))
+    };
+    let at_first_node = |_: &Bent, plan: &Plan, first: usize, leg: usize| {
+        let mut met = Plain.met(plan, first, leg);
+        met.reverse();
+        met
+    };
+    let mut tellers = vec![
+        wrong("the twin of a link told to be the link before it", |c| c.twin = |_, _, at| at.checked_sub(1)),
+        wrong("the legs of a stream told with those before it", |c| {
+            c.legs_before = |c, plan, stream| reasons::legs_before(c, plan, stream + 1)
+        }),
+        wrong("the last leg of a stream told one too high", |c| {
+            c.last_leg = |c, stream| reasons::last_leg(c, stream) + 1
+        }),
+        wrong("links and legs told to go up to their number", |c| {
+            c.numbered = |c, records, count| reasons::numbered(c, records, count + 1)
+        }),
+        wrong("links and legs told to be 0 to 0 where there are none", |c| {
+            c.numbered = |c, records, count| reasons::numbered(c, records, count.max(1))
+        }),
+        wrong("the first leg of a stream told to be of the stream before", |c| c.owner = owner_before),
+        wrong("a route told to be at its first node", |c| c.met = at_first_node),
+    ];
+    tellers.extend(told_before!(LINK_RANGE: 0 1, 0 2, 1 3, 2 3, 3 4));
+    tellers.extend(told_before!(STREAM_WRONG: 0 1, 1 2, 2 3, 3 4, 4 5));
+    tellers.extend(told_before!(LEG_WRONG: 0 1, 0 2, 2 3));
+    tellers
 }

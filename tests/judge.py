@@ -195,6 +195,18 @@ def check(words):
     return slice(words, begun[1], WORD_MAX) if begun[0] == "granted" else begun
 
 
+# ---- What is said of a refusal
+
+
+def why(call, *given):
+    """Gives the sentence that goes to standard error with a refusal, or None where nothing is refused.
+
+    The call is words, shape or check, given a plan; slice, given a plan and a cursor; or move, given a leg and an offset too.
+    """
+    line = ask("why", call, *(part if isinstance(part, int) else told(part) for part in given))[0]
+    return None if line == "none" else line
+
+
 # ---- Files for the programs
 
 

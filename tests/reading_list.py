@@ -3,6 +3,7 @@
 
 It begins at the contracts of the public calls (docs/CALLS.md) and at the demands, and follows every name that they use, name by name: through the
 `use` lines to definitions in specs/, and to the structs and enums in src/. A form that it does not know, or a name that it cannot find, is an error.
+The rows of docs/CALLS.md are held to it too: each has a public call, its statement, the theorem of one answer, and two must-fail edits.
 
 tests/reading_list.py prints the list; with --write it writes the list into docs/TRUST.md.
 """
@@ -613,13 +614,18 @@ def faults():
     """What is wrong with the pages, and how many definitions and signs were held against them."""
     try:
         reading, page, told = Reading(), content(TRUST), []
+        edits = {os.path.basename(path)[:-len(".edit")] for path in glob.glob(os.path.join(ROOT, "crates/*/must-fail/*.edit"))}
         named = {}
         for row in re.findall(r"^\| `\w+::.*$", content(CALLS), re.M):
-            form = re.fullmatch(r"\| `([\w:]+)` \| `([\w-]+)`, (\S+) \| `([\w-]+)`, (\S+) \|", row)
-            if form:
-                named[form.group(1)] = form.groups()[1:]
-            else:
+            form = re.fullmatch(r"\| `([\w:]+)` \| `([\w-]+)`, (\S+) \| `([\w-]+)`, (\S+) \| `(\w+)`, `(\w+)` \|", row)
+            if not form:
                 told.append(f"{CALLS}: a row that is not known: {row}")
+                continue
+            call, *statement_and_theorem, one, other = form.groups()
+            named[call] = statement_and_theorem
+            told += [f"{CALLS}: no crates/*/must-fail/{edit}.edit, which the row of {call} names" for edit in (one, other) if edit not in edits]
+            if one == other:
+                told.append(f"{CALLS}: the row of {call} names {one} twice")
         calls = {"::".join([crate] + ([] if module == "lib" else module.split("/")) + [name]): (crate, module, name) for crate, module, name in reading.calls}
         told += [f"{CALLS}: no row for the public call {call}" for call in calls if call not in named]
         told += [f"{CALLS}: a row for {call}, which is no public call" for call in named if call not in calls]

@@ -19,8 +19,8 @@ from judge import HOME
 COMMAND = str(HOME / "conepalhui")
 STATUS = {"granted": 0, "nothing violated": 0, "violated": 1, "refused": 2, "paused": 3}
 
-# An answer's kind, the words of its first line, and its revision or None.
-Answer = namedtuple("Answer", "kind words revision")
+# An answer's kind, the words of its first line, its revision or None, and its third line or nothing.
+Answer = namedtuple("Answer", "kind words revision last")
 
 
 def streams(count, hops=2):
@@ -41,11 +41,13 @@ def verdict(words):
 
 
 def read(out):
-    """Gives the answer in what was printed. Without two whole lines there is none, and the kind is nothing."""
-    line = out.split("\n")[0] if out.count("\n") == 2 else ""
+    """Gives the answer in what was printed. Without two or three whole lines there is none, and the kind is nothing."""
+    lines = out.split("\n")
+    whole = len(lines) in (3, 4) and lines[-1] == ""
+    line = lines[0] if whole else ""
     kind = next((kind for kind in STATUS if line.startswith(kind + " ")), "nothing")
     revision = re.search(r" revision (\d+)$", line)
-    return Answer(kind, line.split(), int(revision.group(1)) if revision else None)
+    return Answer(kind, line.split(), int(revision.group(1)) if revision else None, lines[2] if whole else "")
 
 
 def told(answer):

@@ -50,6 +50,39 @@ is_fresh() { # FILE SOURCES
     [[ -f .built/$1 && $built == "$2" ]] && { ! has rt || [[ $kit == "$(rt version </dev/null)" ]]; }
 }
 
+# Prints how many crates a log of rt says are proved.
+proved_in() { # LOG
+    local line count=0
+    while IFS= read -r line; do [[ $line != 'rt: '*' proved'* ]] || count=$((count + 1)); done <"$1"
+    printf %d "$count"
+}
+
+# Says on the terminal, each second, how far rt is, for as long as this command runs. It does not keep the lock.
+show_build() { # LOG CRATES
+    local began=$SECONDS
+    exec 9>&-
+    while kill -0 $$ 2>/dev/null; do
+        printf '\rproved %d of %d crates, %d:%02d so far\033[K' "$(proved_in "$1")" "$2" $(((SECONDS - began) / 60)) $(((SECONDS - began) % 60)) >&2
+        sleep 1
+    done
+}
+
+# Runs rt, which takes minutes: says so at once, and on a terminal how far it is. What rt says goes to the log.
+run_rt() { # COMMAND CRATE LOG
+    local used status=0 shower='' began=$SECONDS
+    mapfile -t used < <(uses "$2")
+    note "proving and building '$2' first, from ${#used[@]} crates. It is done once, until the sources change, and takes two to three minutes on two cores"
+    : >"$3"
+    [[ ! -t 2 ]] || { show_build "$3" ${#used[@]} & shower=$!; }
+    rt "$1" "$2" >"$3" 2>&1 </dev/null || status=$?
+    if [[ -n $shower ]]; then
+        { kill $shower && wait $shower; } 2>/dev/null
+        printf '\r\033[K' >&2
+    fi
+    ((status != 0)) || note "'$2' is built, after $((SECONDS - began)) s"
+    return $status
+}
+
 # Proves and builds the program NAME as .built/NAME, unless it is fresh. Another COMMAND of rt builds another PRODUCT of the crate, which is FILE there.
 build() { # NAME [COMMAND PRODUCT FILE]
     local stamp command=${2-check} product=${3-target/bin/$1} file=${4-$1}
@@ -59,7 +92,7 @@ build() { # NAME [COMMAND PRODUCT FILE]
     # While this process waited, another may have built the program, and the sources may have changed.
     stamp=$(sources "$1" </dev/null) || stop "cannot read the sources of the crates"
     if ! is_fresh "$file" "$stamp"; then
-        if ! rt "$command" "$1" >".built/$file.log" 2>&1 </dev/null; then
+        if ! run_rt "$command" "$1" ".built/$file.log"; then
             cat ".built/$file.log" >&2
             stop "the program $1 cannot be built (see above)"
         fi
@@ -103,13 +136,13 @@ about_install() {
 Puts the following into the folder DIR, which is made where it is not there. A machine without the Rattle kit can run and link
 it; on Arm that takes Debian's packages qemu-user and libc6-amd64-cross.
 
-  bin/conepalhui                     this command, for check, start, slice, move, run, words and shape
+  bin/conepalhui                     this command, for whatever needs no kit
   lib/conepalhui                     its parts: the programs, and the scripts that run them
   lib/libconepalhui.a                the calls for C, for x86-64
   lib/pkgconfig/conepalhui.pc        their flags: cc program.c $(pkg-config --cflags --libs conepalhui)
   include/conepalhui.h               their header
   share/man/man1/conepalhui.1        a man page
-  share/doc/conepalhui               docs/OPERATIONS.md and docs/REFUSALS.md
+  share/doc/conepalhui               ACCEPTED.md, OPERATIONS.md and REFUSALS.md of docs/
 
 Programs and calls are proved and built first where their sources changed. The folder may be moved as a whole. Exit status: 0
 installed, 4 where something cannot be built or written.
@@ -124,7 +157,7 @@ man_page() { # VERSION
     local name
     printf '.TH CONEPALHUI 1 "" "Conepalhui %s"\n.SH NAME\nconepalhui \\- a verified checker of network timetables\n.SH COMMANDS\n.nf\n' "$1"
     list_commands | sed '1,2d' | as_roff
-    for name in "${commands[@]%%|*}"; do
+    for name in "${commands[@]%%|*}" answers; do
         printf '.fi\n.SH %s\n.nf\n' "${name^^}"
         tell_command "$name" | as_roff
     done
@@ -156,7 +189,7 @@ put() { # SOURCE FILE [MODE]
 # Makes what is written for the copy alone, in the folder $temp: the command, the flags for pkg-config and the man page.
 write_copy() {
     local version
-    version=$(sed -n 's/^#define CONEPALHUI_VERSION "\(.*\)"$/\1/p' include/conepalhui.h) && [[ -n $version ]] &&
+    version=$(defined CONEPALHUI_VERSION) &&
         sed 's|^parts=tools .*|parts=../lib/conepalhui|' conepalhui >"$temp/command" && [[ $(<"$temp/command") == *$'\nparts=../lib/conepalhui\n'*$'\nmain "$@"; exit' ]] &&
         package_config "$version" >"$temp/flags" &&
         (set -o pipefail && is_installed() { true; } && called=conepalhui && . tools/help.sh && man_page "$version") >"$temp/page"
@@ -178,7 +211,7 @@ do_install() {
     put .built/libconepalhui.a lib/libconepalhui.a
     put "$temp/flags" lib/pkgconfig/conepalhui.pc
     put include/conepalhui.h include/conepalhui.h
-    for name in OPERATIONS REFUSALS; do put "docs/$name.md" "share/doc/conepalhui/$name.md"; done
+    for name in ACCEPTED OPERATIONS REFUSALS; do put "docs/$name.md" "share/doc/conepalhui/$name.md"; done
     put "$temp/page" share/man/man1/conepalhui.1
     put "$temp/command" bin/conepalhui 755 # The last: without it nothing is run.
     printf 'installed %s\n' "$to" || stop "cannot write to standard output"

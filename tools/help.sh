@@ -4,18 +4,21 @@
 # and a function about_NAME, which prints what 'help NAME' says of it.
 commands=(
     'check|[PLAN]|check a plan whole: accepted, or the first violated place'
-    'start|PLAN CURSOR [--anew]|start a check that is paused and resumed: CURSOR keeps where it stands'
-    'slice|PLAN CURSOR BUDGET|look at so many places from there on'
-    'move|PLAN CURSOR LEG OFFSET|set the offset of one leg'
-    'run|PLAN CURSOR --budget N [--rate R]|slices until there is a verdict'
-    'words|< PLAN|print the words of a plan'
-    'shape|< PLAN|say whether a plan is well-formed'
+    'start|PLAN CURSOR [--anew]|start a check in slices: CURSOR keeps how far it is'
+    'slice|PLAN CURSOR BUDGET|look at the next BUDGET places'
+    'move|PLAN CURSOR LEG OFFSET|give one leg another offset, in ns'
+    'run|PLAN CURSOR --budget N [--rate R]|slices of N places until there is a verdict'
+    'words|[PLAN]|print the numbers of a plan, a record to a line'
+    'shape|[PLAN]|say whether a plan is well-formed'
 )
 is_installed || commands+=(
     'library||prove and build the calls for C'
     'install|DIR|put the command, the calls for C and a man page into a folder'
 )
-commands+=('help|[COMMAND]|say what is offered, or what one command does')
+commands+=(
+    'help|[COMMAND]|list the commands, or say what one does'
+    'version||print the version and the edition of the rules (also --version)'
+)
 is_installed || commands+=(
     'test||prove every crate and run every test'
     'compare|[OPTION N]|hold the calls for C against a plain checker'
@@ -54,13 +57,15 @@ list_commands() {
         IFS='|' read -r name arguments summary <<<"$line"
         printf '  %s %-38s %s\n' "$called" "$name $arguments" "$summary"
     done
-    printf '\n%s\n%s\n' 'Exit status: 0 done, accepted, granted or nothing violated; 1 a violated plan, or a test that failed; 2 the input was' \
+    printf '\n%s\n' "'$called help answers' explains what start, slice, move and run print."
+    printf '%s\n%s\n' 'Exit status: 0 done, accepted, granted or nothing violated; 1 a violated plan, or a test that failed; 2 the input was' \
         'refused; 3 paused; 4 bad arguments, a file that cannot be read or written, or a program that cannot be built or run.'
 }
 
-# Prints what one command does.
+# Prints what one command does, or what answers there are.
 tell_command() { # NAME
     local line name arguments summary
+    [[ $1 != answers ]] || { as_called "$(about_answers)" && return; }
     for line in "${commands[@]}"; do
         IFS='|' read -r name arguments summary <<<"$line"
         [[ $1 == "$name" ]] || continue
@@ -72,7 +77,7 @@ tell_command() { # NAME
 do_help() {
     (($# <= 1)) || stop "help takes one command at most"
     (($# == 1)) || { list_commands; return; }
-    is_command "$1" || stop "unknown command '$1': '$called help' lists them"
+    is_command "$1" || [[ $1 == answers ]] || stop "unknown command '$1': '$called help' lists them"
     tell_command "$1"
 }
 
@@ -80,18 +85,18 @@ about_check() {
     cat <<'END'
 Reads the plan file PLAN, or standard input, and checks it whole. It prints two lines: 'legs G places N', and
 'accepted' or 'violated LEG PLACE RULE' with the first violated place. The places of leg a are 0 window, 1 hop,
-2 deadline, and 3 + b for the overlap with each leg b below it. A plan that cannot be checked gives one line,
-'refused NUMBER AT'. Exit status: 0 accepted, 1 violated, 2 refused, 4 where the plan cannot be read.
+2 deadline, and 3 + b for the overlap with each leg b below it. docs/ACCEPTED.md says what the rules are and what
+'accepted' does not cover. A plan that cannot be checked gives one line, 'refused NUMBER AT', and standard error says
+why. Exit status: 0 accepted, 1 violated, 2 refused, 4 where the plan cannot be read.
 END
 }
 
-# What start, slice, move and run have in common.
 about_answers() {
     cat <<'END'
+What start, slice, move and run print on standard output, and their exit status:
 
-The first line of standard output is the answer, and the second says how far the check is, or what a refusal lies in:
-
-  granted LEG PLACE revision R                     places DONE of ALL       exit status 0
+  first line                                       second line              exit status
+  granted LEG PLACE revision R                     places DONE of ALL       0
   nothing violated steps N revision R              places ALL of ALL        0
   violated LEG PLACE RULE steps N revision R       places DONE of ALL       1
   refused NUMBER AT [revision R]                   in the plan|cursor|move  2
@@ -99,80 +104,100 @@ The first line of standard output is the answer, and the second says how far the
   refused begun LEG PLACE revision R               in the cursor            2
   paused LEG PLACE steps N revision R              places DONE of ALL       3
 
-LEG and PLACE are where the cursor stands now, N is how many places the slice looked at (of a run the last one), R the
-revision of the plan that was judged, and after 'begun' the cursor's own. Bad arguments, and a file that cannot be read or written or is not ours, give
-no line and the exit status 4. A refusal changes no file. docs/REFUSALS.md has the numbers. 'changed' is a plan that is
-not the one last seen with this cursor: it was edited, restored or exchanged outside of our moves; 'unseen' is a cursor
-without CURSOR.seen, the plan that is kept beside it: no cursor of these commands, or one that was copied. Standard error
-names the next call: after 'changed', 8 and 9 './conepalhui start PLAN CURSOR --anew', after 'unseen' a start with another
-name. 'begun' is a start on a cursor that has gone further than the first place. A cursor is never renamed, copied or put
-back from a backup: beside another CURSOR.seen it would be believed.
+LEG and PLACE are where the cursor is now. N is how many places the slice looked at; after a run, its last slice. R is
+the revision of the plan that was judged; after a move it is the new one, and after 'begun' the cursor's. DONE is how
+many places come before the cursor. 'in the ...' says where a refusal lies.
+A move has a third line, 'leg LEG from OLD to NEW ns'. A run has one too, 'looked at N places in K slices'.
 
-Files are replaced whole and lastingly (docs/OPERATIONS.md). They are written beside the old ones first, under
-their names and .conepalhui-new: what a call that was cut off left there is removed. One call at a time works on the
-files of a folder. Others wait, for each of the two folders 10 seconds at the most, or as many as the variable CONEPALHUI_WAIT
-says, and then end with 4 and nothing changed. A build of the program is waited for as long as it takes.
+A refusal changes no file. Standard error says what is wrong and, where another call is needed, which one.
+docs/REFUSALS.md has the numbers. The three words:
+
+  changed   the plan is not the one last seen with this cursor: it was edited, restored or exchanged, and not by 'move'
+  unseen    there is no CURSOR.seen, the copy of the plan beside the cursor: these commands did not make this cursor,
+            or somebody copied it
+  begun     a start on a cursor that is past the first place
+
+NEVER RENAME OR COPY A CURSOR, OR PUT ONE BACK FROM A BACKUP. Beside another CURSOR.seen it would be believed, and slots
+that were moved would never be looked at again.
+
+Exit status 4, with a message and no answer: an argument is bad, or a file cannot be read or written or is not ours.
+Files are replaced whole and lastingly; docs/OPERATIONS.md says what each crash leaves. One call at a time works on the
+files of a folder. Others wait, for each folder 10 seconds at most or as many as the variable CONEPALHUI_WAIT says, and
+then end with 4 and nothing changed.
 END
 }
 
+# The last line of what is said of each of these commands.
+see_answers() { printf '\n%s\n' "'./conepalhui help answers' explains the answer and the exit status."; }
+
 about_start() {
     cat <<'END'
-Starts a check of the plan file PLAN at its first place. CURSOR is made, and CURSOR.seen beside it, which keeps the plan as
-it was seen. A plan that is not well-formed is refused, and then nothing is made.
+Starts a check of the plan file PLAN at its first place. It makes CURSOR, which keeps how far the check is, and
+CURSOR.seen beside it, a copy of the plan. A plan that is not well-formed is refused, and nothing is made.
 
-A cursor that has gone further than the first place is replaced only with --anew, which drops how far the check is; without
-it the answer is 'refused begun'. A file CURSOR that is no saved cursor, and a file CURSOR.seen that is no such copy, are
-never replaced, nor is a cursor without CURSOR.seen: the exit status is 4. Start with another name for the cursor then, or
-remove that file by hand.
+A cursor that is past the first place is replaced only with --anew, which drops how far that check was; without it the
+answer is 'refused begun'. A file CURSOR that is no saved cursor, a file CURSOR.seen that is no such copy, and a cursor
+without CURSOR.seen are never replaced: the exit status is 4. Take another name for the cursor then, or remove that
+file by hand.
 END
-    about_answers
+    see_answers
 }
 
 about_slice() {
     cat <<'END'
-Looks at places in order from CURSOR on, as many as BUDGET says (0 to 4294967295), and stops sooner only at a violated
-place or at the end. CURSOR then says where to go on. 'nothing violated' says that the whole plan holds, as it is now,
-where cursor and CURSOR.seen are as these commands left them.
+Looks at the next BUDGET places (0 to 4294967295) from CURSOR on, and stops sooner only at a violated place or at the
+end. CURSOR then says where to go on. 'nothing violated' says that the whole plan holds as it is now, where only these
+commands have written CURSOR and CURSOR.seen. Without a CURSOR there is no slice: start first.
 END
-    about_answers
+    see_answers
 }
 
 about_move() {
     cat <<'END'
-Sets the offset of leg LEG to OFFSET (0 to 4294967295) and raises the plan's revision by one. PLAN and CURSOR are replaced;
-where CURSOR stood past the start of that leg it goes back to it. 'granted' says that both are on the disk. A move that
-ended with 4, or was cut off, may be in the plan: look at the revision of the next answer before it is made again.
+Sets the offset of leg LEG to OFFSET, in ns (0 to 4294967295), and raises the plan's revision by one. PLAN and CURSOR
+are replaced; a CURSOR past the start of that leg goes back to it. 'granted' says that both are on the disk, and the
+third line has the old offset and the new one. A move that ended with 4, or was cut off, may be in the plan: look at
+the revision of the next answer before you make it again.
 END
-    about_answers
+    see_answers
 }
 
 about_run() {
     cat <<'END'
-Slices of N places each, one after the other, until the answer is another than paused, which is then printed. Where there is
-no CURSOR it starts one. With --rate each slice is looked at in one go, and the next begins N / R seconds after it began, or
-later. Between two slices the plan is free for others: whoever moves a leg with the same CURSOR meanwhile is taken into
-account. Where PLAN or CURSOR is a link and leads to another file meanwhile, the run ends with 4. It can be ended at any
-time, and goes on where it was. On a terminal it says on standard error how far it is.
+Makes slices of N places, one after the other, until the check is no longer paused, and prints the last answer. Where
+there is no CURSOR it starts a check. With --rate each slice is looked at in one go, and the next begins N / R seconds
+after it began, or later. Between two slices the plan is free for others: a move with the same CURSOR is taken into
+account. Where PLAN or CURSOR is a link that leads to another file meanwhile, the run ends with 4. It can be stopped at
+any time, and goes on from there. Standard error says how far it is: on a terminal after each slice, elsewhere about
+every ten seconds.
 END
-    about_answers
+    see_answers
 }
 
 about_words() {
     cat <<'END'
-Reads a plan from standard input and prints its words. A plan that is not accepted gives one line,
-'refused NUMBER AT', and the exit status 2. The program is proved and built first where its sources changed.
+Reads the plan file PLAN, or standard input, and prints its numbers, a record to a line: the header, the links, the
+streams, the legs. docs/ACCEPTED.md names them. Bytes that are no plan file give one line, 'refused NUMBER AT', and the
+exit status 2; standard error says why. Links, streams and legs are not judged.
 END
 }
 
 about_shape() {
     cat <<'END'
-Reads a plan from standard input and prints 'well-formed', or one line, 'refused NUMBER AT', with the first of the
-refusals 4 to 7 or of the file's own, and the exit status 2. The timetable's rules are not judged.
+Reads the plan file PLAN, or standard input, and prints 'well-formed', or one line, 'refused NUMBER AT', with the exit
+status 2; standard error says why. The rules are not judged: that is 'check'.
 END
 }
 
 about_help() {
     cat <<'END'
-With no COMMAND it lists the commands. With one it says what that command does.
+Without a COMMAND it lists the commands. With one it says what that command does. 'answers' in its place explains what
+start, slice, move and run print.
+END
+}
+
+about_version() {
+    cat <<'END'
+Prints the version, and the edition of the rules. A saved cursor is worth nothing under another edition.
 END
 }

@@ -47,8 +47,8 @@ run_program() { # NAME ARGUMENT...
     )
 }
 
-# Takes the last line, and a byte behind it, off what a program wrote, $wrote. It says the exit status that goes with the answer,
-# $status, and what else goes by it, $why. A program always ends with status 0: without this line its answer is not whole.
+# Takes the last line, and the byte after it, off what a program wrote, $wrote. That line has the exit status that goes with the answer, $status, and what this
+# command does next, $why. A program always ends with status 0: without this line its answer is not whole.
 take_status() {
     local rest=${wrote%$'\n.'} line
     [[ $rest != "$wrote" ]] || return 1
@@ -73,27 +73,39 @@ answer() { # PROGRAM ARGUMENT...
 
 # ---- Plans
 
-do_check() {
-    (($# <= 1)) || stop "check takes one plan at most"
-    if (($# == 1)); then
-        [[ $1 == /* ]] || set -- "$from/$1"
-        [[ -f $1 || -p $1 || -c $1 ]] && exec <"$1" || stop "cannot read the plan $1"
+# Makes the plan that a command is given its standard input, where one is given.
+take_plan() { # COMMAND [PLAN]
+    local plan=${2-}
+    (($# <= 2)) || stop "$1 takes one plan at most: $(usage "$1")"
+    if (($# == 2)); then
+        [[ $plan == /* ]] || plan=$from/$plan
+        [[ -f $plan || -p $plan || -c $plan ]] && exec <"$plan" || stop "cannot read the plan $plan"
+    elif [[ -t 0 ]]; then
+        note "the plan is read from this terminal: to give a file, $(usage "$1")"
     fi
-    answer timetable
 }
 
-# Asks for something of the plan on standard input.
-of_plan() { # VERB ARGUMENT...
-    (($# == 1)) || stop "$1 takes no argument: the plan comes on standard input"
-    answer operator "$1"
+do_check() { take_plan check "$@" && answer timetable; }
+do_words() { take_plan words "$@" && answer operator words; }
+do_shape() { take_plan shape "$@" && answer operator shape; }
+
+# Prints what the header defines by a name, without quotes.
+defined() { # NAME
+    local word name value
+    while read -r word name value _; do
+        [[ $word != '#define' || $name != "$1" ]] || { value=${value#\"} && printf %s "${value%\"}" && return; }
+    done <"$header"
+    return 1
 }
 
-do_words() { of_plan words "$@"; }
-do_shape() { of_plan shape "$@"; }
+do_version() {
+    (($# == 0)) || stop "version takes no argument"
+    printf 'conepalhui %s, edition %s of the rules\n' "$(defined CONEPALHUI_VERSION)" "$(defined CONEPALHUI_EDITION)" || stop "cannot write to standard output"
+}
 
 # ---- The files of an operator: a plan and a cursor
 
-# Prints the real path of a file, which need not be there, and a byte behind it.
+# Prints the real path of a file, which need not be there, and a byte after it.
 real_path() { # PATH
     local path=$1
     [[ $path == /* ]] || path=$from/$path
@@ -153,22 +165,27 @@ release() {
     for file in "${held[@]}"; do exec {file}<&-; done
 }
 
-# Asks the program operator. Its answer is $wrote, the exit status that goes with it $status, and $why says what else goes by it. What it makes is as
-# private as the plan, and its owner may read and write it. What it says on standard error is passed on, and $complained is whether that was anything.
+# Asks the program operator. Its answer is $wrote, the exit status that goes with it $status, and $why says what this command does next. What it makes is as
+# private as the plan, and its owner may read and write it. What it says on standard error is passed on, on lines of its own.
 consult() { # VERB WORD...
-    local mode pipe line ended
+    local mode pipe line ended said=0
     mode=$(stat -c %a -- "$plan") && umask "$(printf %o $((~(0$mode | 0600) & 0777)))" || stop "cannot read the plan $plan"
     exec {pipe}<> <(:) || stop "cannot make a pipe"
     wrote=$(run_program operator "$1" "$plan" "$cursor" "${@:2}" 2>&"$pipe" && printf .)
-    ended=$? complained=0
+    ended=$?
     while read -t 0 -u "$pipe"; do
         IFS= read -r -t 1 -u "$pipe" line # Where the program was killed, the last line may have no end.
+        end_progress
         printf '%s\n' "$line" >&2
-        complained=1
+        said=1
     done
     exec {pipe}>&-
     ((ended == 0)) || stop "the program operator ended early: what stands in the files is whole"
-    take_status || stop "there is no answer (see above)"
+    take_status && return
+    end_progress
+    [[ $1 == start || -e $cursor ]] || stop "a check begins with: $(shown_call start "${given[@]}")"
+    ((said == 0)) || exit 4
+    stop "the program operator gave no answer"
 }
 
 # Prints a call of this command that can be pasted. A file whose name begins with a dash is no option.
@@ -182,38 +199,39 @@ shown_call() { # VERB PLAN CURSOR WORD...
     [[ -z ${*:4} ]] || printf ' %s' "${*:4}"
 }
 
-# Says how to start anew. A file of which the program said that it was left as it is stands in the way, and so may the cursor once it is gone.
+# Says how to start anew where nothing is in the way.
 start_anew() { # PLAN CURSOR
-    if ((complained)); then
-        printf 'To check the plan as it is now, from its first place, remove %q by hand, and %q if it is there, unless they are something else of yours. Then: %s' "$cursor" "$cursor.seen" "$(shown_call start "$@")"
-    else
-        printf 'To check the plan as it is now, from its first place: %s' "$(shown_call start "$@" --anew)"
-    fi
+    printf 'To check the plan as it is now, from its first place: %s' "$(shown_call start "$@" --anew)"
+}
+
+# Says the same where the program has said that it leaves a file as it is. Once that is gone, the cursor beside it is in the way too.
+start_by_hand() { # PLAN CURSOR
+    printf 'To check the plan as it is now, from its first place, remove %q by hand, and %q if it is there, unless they are something else of yours. Then: %s' "$cursor" "$cursor.seen" "$(shown_call start "$@")"
 }
 
 # Prints the answer, and after a refusal that asks for it how to go on or to start anew. The files are named as they were given.
 pass_on() { # PLAN CURSOR
-    local leg place revision
+    local leg place revision other="this is not the plan that was last seen with this cursor: it was changed outside of our moves, or $cursor.seen was."
     printf '%s' "$wrote" || stop "cannot write to standard output"
     case $why in
-    changed) note "this is not the plan that was last seen with this cursor: it was changed outside of our moves, or $cursor.seen was. $(start_anew "$@")" ;;
-    unseen) note "there is no $cursor.seen, so it cannot be told whether the plan was changed. To check the plan as it is now, from its first place, with a cursor of its own: $(shown_call start "$1" "$2-anew")" ;;
+    changed) note "$other $(start_anew "$@")" ;;
+    damaged) note "$other $(start_by_hand "$@")" ;;
+    unseen) note "there is no $cursor.seen, so nobody can say whether the plan was changed. To check the plan as it is now, from its first place, with a cursor of its own: $(shown_call start "$1" "$2-anew")" ;;
     'begun '*)
         read -r _ leg place revision <<<"$why"
-        note "the cursor $2 stands at leg $leg, place $place of a check at revision $revision. Nothing was changed." \
-            "Where the plan is still the same, this goes on: $(shown_call run "$@" --budget 300)." \
+        note "the cursor $2 is at leg $leg, place $place of a check at revision $revision. Nothing was changed." \
+            "If the plan is still the same, this goes on: $(shown_call run "$@" --budget 300)." \
             "To drop that and start at the first place: $(shown_call start "$@" --anew)"
         ;;
-    'cursor 8') note "the cursor is not of this revision: a move was made with another cursor or was cut off, or the plan fell back. $(start_anew "$@")" ;;
-    'cursor 9') note "the cursor is not of this plan. $(start_anew "$@")" ;;
-    'cursor '*) note "the file $2 is no whole cursor. $(complained=1 start_anew "$@")" ;;
+    stale) note "a move was made with another cursor or was cut off, or the plan or the cursor was exchanged. $(start_anew "$@")" ;;
+    foreign) note "$(start_by_hand "$@")" ;;
     esac
     return $status
 }
 
 # One call on a plan and a cursor.
 call() { # VERB PLAN CURSOR WORD...
-    local plan cursor held wrote status why complained
+    local plan cursor held wrote status why given=("$2" "$3")
     prepare operator
     find_files "$2" "$3"
     [[ $1 != move || -w $plan ]] || stop "the plan $2 may not be written"
@@ -254,18 +272,39 @@ now() {
     read -r seconds _ </proc/uptime && printf %s "$((10#${seconds/./}))0000"
 }
 
-# Says on a terminal how far the check is, and how long it takes from here on at the pace since the first answer.
-say_progress() {
-    local passed all left='' seconds
-    [[ -t 2 && $why == 'places '* ]] || return 0
-    read -r _ passed all <<<"$why"
-    if [[ -z $first_passed ]] || ((passed < first_passed)); then
-        first_passed=$passed first_time=$(now)
-    elif ((passed > first_passed)); then
-        seconds=$((($(now) - first_time) * (all - passed) / (passed - first_passed) / 1000000))
-        left=$(printf ', %d:%02d:%02d left' $((seconds / 3600)) $((seconds / 60 % 60)) $((seconds % 60)))
+# Where there is no terminal, a run says how far it is about every so many seconds.
+quiet=10
+
+# Ends the line of progress on a terminal.
+end_progress() {
+    [[ -z ${progress-} ]] || printf '\n' >&2
+    progress=''
+}
+
+# Says how far the check is, and how long it takes from here on at the pace since the first answer: on a terminal after each slice, on a line that the next one
+# replaces, and elsewhere now and then.
+say_progress() { # PASSED ALL
+    local left='' seconds time
+    time=$(now)
+    if [[ -z $first_passed ]] || (($1 < first_passed)); then
+        first_passed=$1 first_time=$time
+    elif (($1 > first_passed)); then
+        seconds=$(((time - first_time) * ($2 - $1) / ($1 - first_passed) / 1000000))
+        printf -v left ', %d:%02d:%02d left' $((seconds / 3600)) $((seconds / 60 % 60)) $((seconds % 60))
     fi
-    printf '\rplaces %d of %d, %d %%%s\033[K' "$passed" "$all" $((all == 0 ? 100 : passed * 100 / all)) "$left" >&2
+    printf -v left 'places %d of %d, %d %%%s' "$1" "$2" $(($2 == 0 ? 100 : $1 * 100 / $2)) "$left"
+    if [[ -t 2 ]]; then
+        printf '\r%s\033[K' "$left" >&2
+        progress=shown
+    elif ((time - said_time >= quiet * 1000000)); then
+        note "$left"
+        said_time=$time
+    fi
+}
+
+# Prints a number of things.
+counted() { # NUMBER THING
+    if (($1 == 1)); then printf '1 %s' "$2"; else printf '%d %ss' "$1" "$2"; fi
 }
 
 # Sleeps until the places of one slice are due at the rate.
@@ -278,8 +317,8 @@ keep_pace() { # BEGAN BUDGET RATE
 is_positive() { [[ $1 =~ ^0*([1-9][0-9]{0,9})$ ]] && ((BASH_REMATCH[1] <= 4294967295)); } # TEXT
 
 do_run() {
-    local budget='' rate='' files=() began first_passed='' first_time
-    local plan cursor held wrote status why complained verb=()
+    local budget='' rate='' files=() began first_passed='' first_time said_time progress='' looked steps passed all slices=0 places=0
+    local plan cursor held wrote status why given=() verb=()
     while (($# > 0)); do
         case $1 in
         --budget | --rate)
@@ -293,7 +332,9 @@ do_run() {
     done
     ((${#files[@]} == 2)) && [[ -n $budget ]] || stop "run takes a plan, a cursor and a budget: $(usage run)"
     prepare operator
+    given=("${files[@]}")
     find_files "${files[@]}"
+    said_time=$(now)
     while :; do
         began=$(now) || stop "cannot read /proc/uptime"
         hold_found "${files[@]}"
@@ -301,10 +342,13 @@ do_run() {
         consult "${verb[@]}"
         release
         [[ $verb != start || $status != 0 ]] || continue
+        read -r looked steps passed all <<<"$why"
+        [[ $looked != looked ]] || slices=$((slices + 1)) places=$((places + steps))
         ((status == 3)) || break
-        say_progress
+        say_progress "$passed" "$all"
         [[ -z $rate ]] || keep_pace "$began" "$budget" "$rate"
     done
-    [[ -z $first_passed ]] || printf '\n' >&2
+    end_progress
+    ((slices == 0)) || wrote+="looked at $(counted "$places" place) in $(counted "$slices" slice)"$'\n'
     pass_on "${files[@]}"
 }

@@ -1,4 +1,5 @@
-// Reading to the end. No contract can say what a call of the operating system reads, so this promises only to be safe and to end.
+// Reading to the end. No contract can say what a call of the operating system reads, so this promises only to be safe and to end. Why a plan file is refused is
+// said on standard error.
 use files::PlanRead;
 use libc::STDIN_FILENO;
 
@@ -16,7 +17,10 @@ fn read_in(bytes: &[u8], words: &mut [u32]) -> Given {
     let read = files::read_plan(bytes, words);
     match read {
         PlanRead::Words(n) => Given::Words(n),
-        PlanRead::Refused(number, at) => Given::Refused(number, at),
+        PlanRead::Refused(number, at) => {
+            reasons::file::why(bytes, number, at);
+            Given::Refused(number, at)
+        }
     }
 }
 

@@ -20,29 +20,42 @@ enum Beside {
 }
 
 fn left_as_it_is() {
-    show::complaint(
+    reasons::text(
         b". It was left as it is: start with another name for the cursor, or remove this file by hand\n",
     );
 }
 
+// Begins what is said of a file.
+fn begin(path: &[u8]) {
+    reasons::begin();
+    reasons::text(path);
+}
+
+pub(crate) fn missing(path: &[u8]) {
+    reasons::begin();
+    reasons::text(b"there is no cursor ");
+    reasons::text(path);
+    reasons::text(b"\n");
+}
+
 pub(crate) fn no_cursor(path: &[u8]) {
-    show::complaint(path);
-    show::complaint(b" is no saved cursor");
+    begin(path);
+    reasons::text(b" is no saved cursor");
     left_as_it_is();
 }
 
 fn no_copy(path: &[u8]) {
-    show::complaint(path);
-    show::complaint(b".seen is no copy of a plan as it is kept beside a cursor");
+    begin(path);
+    reasons::text(b".seen is no copy of a plan as it is kept beside a cursor");
     left_as_it_is();
 }
 
 // Three bytes of any text have the form of a saved cursor, so one is ours only where its copy stands beside it.
 fn perhaps_no_cursor(path: &[u8]) {
-    show::complaint(path);
-    show::complaint(b" is no saved cursor of these commands: there is no ");
-    show::complaint(path);
-    show::complaint(b".seen");
+    begin(path);
+    reasons::text(b" is no saved cursor of these commands: there is no ");
+    reasons::text(path);
+    reasons::text(b".seen");
     left_as_it_is();
 }
 

@@ -49,12 +49,12 @@ pub fn cursor(path: &[u8]) -> Saved {
     match at {
         Saved::At(c) => Saved::At(c),
         Saved::Refused(number, position) => {
-            answers::unread(number, position, Part::Cursor);
             ours::no_cursor(path);
+            answers::unread(number, position, Part::Foreign);
             Saved::Failed
         }
         Saved::Missing => {
-            os::fail(path);
+            ours::missing(path);
             Saved::Failed
         }
         Saved::Failed => Saved::Failed,
@@ -70,8 +70,11 @@ fn known_in(path: &[u8], bytes: &[u8], n: usize, plan: &[u8], revision: u32) -> 
     match told {
         Holds::Yes => true,
         Holds::No => {
-            answers::unknown(b"changed", revision);
-            ours::is_copy(path, bytes, n);
+            if ours::is_copy(path, bytes, n) {
+                answers::unknown(b"changed", revision, b"changed");
+            } else {
+                answers::unknown(b"changed", revision, b"damaged");
+            }
             false
         }
     }
@@ -91,7 +94,7 @@ pub fn is_known(path: &[u8], plan: &[u8], revision: u32) -> bool {
     match read {
         FileRead::Bytes(n) => known_in(path, &bytes, n, plan, revision),
         FileRead::Missing => {
-            answers::unknown(b"unseen", revision);
+            answers::unknown(b"unseen", revision, b"unseen");
             false
         }
         FileRead::Failed => false,

@@ -11,6 +11,8 @@ use kept::ours::Standing;
 use kept::saved;
 use kept::saved::Saved;
 use numbers::Written;
+use reasons::cursor;
+use reasons::records;
 use show::answers;
 use show::answers::Part;
 use table::Move;
@@ -26,26 +28,37 @@ pub(crate) fn are_same(a: &[u8], b: &[u8]) -> bool {
     }
 }
 
-// A word of the header.
-fn header_word(t: &[u32], at: usize) -> u32 {
-    if at < t.len() {
-        return t[at];
+// What is refused is said on standard error before the answer is written.
+fn judged(t: &[u32], number: u32, at: usize, part: Part) {
+    answers::judged(
+        number,
+        at,
+        records::header_word(t, table::REVISION_AT),
+        part,
+    );
+}
+
+fn plan_refused(t: &[u32], number: u32, at: usize) {
+    records::why(t, number, at);
+    judged(t, number, at, Part::Plan);
+}
+
+// A cursor that is refused is to be replaced by a start. Where it is none of ours, that is said and not why it is refused: a start will leave it as it is.
+fn cursor_refused(cursor_path: &[u8], t: &[u32], number: u32, at: usize, c: Cursor) {
+    let found = ours::judged(cursor_path);
+    match found {
+        Standing::NotOurs => {
+            judged(t, number, at, Part::Foreign);
+        }
+        Standing::Free => {
+            cursor::why(t, c);
+            judged(t, number, at, Part::Cursor);
+        }
+        Standing::Begun(_) => {
+            cursor::why(t, c);
+            judged(t, number, at, Part::Cursor);
+        }
     }
-    0
-}
-
-fn legs_of(t: &[u32]) -> usize {
-    table::wide(header_word(t, table::LEGS_AT))
-}
-
-fn refused(t: &[u32], number: u32, at: usize, part: Part) {
-    answers::judged(number, at, header_word(t, table::REVISION_AT), part);
-}
-
-// A cursor that is refused is to be replaced by a start; where that will leave it, this is said at once.
-fn cursor_refused(cursor_path: &[u8], t: &[u32], number: u32, at: usize) {
-    refused(t, number, at, Part::Cursor);
-    ours::judged(cursor_path);
 }
 
 // Whether the plan is well-formed. Where it is not, that is the answer, and it is written. What is refused after this does not lie in the plan.
@@ -54,7 +67,7 @@ fn plan_stands(t: &[u32]) -> bool {
     match told {
         Grant::Granted(_) => true,
         Grant::Refused(number, at, _) => {
-            refused(t, number, at, Part::Plan);
+            plan_refused(t, number, at);
             false
         }
     }
@@ -63,8 +76,8 @@ fn plan_stands(t: &[u32]) -> bool {
 // Whether the cursor is one of the plan, which is well-formed. What is refused after this lies in the move.
 fn cursor_stands(cursor_path: &[u8], t: &[u32], c: Cursor) -> bool {
     let told = checker::slice(t, c, 0);
-    if let SliceAnswer::Refused(number, at, _) = told {
-        cursor_refused(cursor_path, t, number, at);
+    if let SliceAnswer::Refused(number, at, given) = told {
+        cursor_refused(cursor_path, t, number, at, given);
         return false;
     }
     true
@@ -106,12 +119,12 @@ fn start(cursor_path: &[u8], plan: &[u8], t: &[u32], anew: bool) {
     let told = checker::start(t);
     match told {
         Grant::Refused(number, at, _) => {
-            refused(t, number, at, Part::Plan);
+            plan_refused(t, number, at);
         }
         Grant::Granted(c) => {
             if may_begin(cursor_path, t, anew) {
                 if begun(cursor_path, plan, c) {
-                    answers::granted(c, legs_of(t));
+                    answers::granted(c, records::leg_count(t));
                 }
             }
         }
@@ -131,22 +144,22 @@ fn gone_on(cursor_path: &[u8], plan: &[u8], c: Cursor) -> bool {
 
 fn sliced(cursor_path: &[u8], plan: &[u8], t: &[u32], told: SliceAnswer) {
     match told {
-        SliceAnswer::Refused(number, at, _) => {
-            cursor_refused(cursor_path, t, number, at);
+        SliceAnswer::Refused(number, at, given) => {
+            cursor_refused(cursor_path, t, number, at, given);
         }
         SliceAnswer::Violated(c, steps, rule) => {
             if gone_on(cursor_path, plan, c) {
-                answers::violated(c, steps, rule, legs_of(t));
+                answers::violated(c, steps, rule, records::leg_count(t));
             }
         }
         SliceAnswer::NothingViolated(c, steps) => {
             if gone_on(cursor_path, plan, c) {
-                answers::nothing_violated(c, steps, legs_of(t));
+                answers::nothing_violated(c, steps, records::leg_count(t));
             }
         }
         SliceAnswer::Paused(c, steps) => {
             if gone_on(cursor_path, plan, c) {
-                answers::paused(c, steps, legs_of(t));
+                answers::paused(c, steps, records::leg_count(t));
             }
         }
     }
@@ -181,7 +194,15 @@ fn replaced(plan_path: &[u8], cursor_path: &[u8], old: &[u8], new: &[u8], c: Cur
     durable::put_in_place(cursor_path)
 }
 
-fn written(plan_path: &[u8], cursor_path: &[u8], old: &[u8], t: &[u32], c: Cursor) {
+fn written(
+    plan_path: &[u8],
+    cursor_path: &[u8],
+    old: &[u8],
+    t: &[u32],
+    c: Cursor,
+    mv: Move,
+    from: u32,
+) {
     let mut new = [0u8; files::MAX_FILE_BYTES];
     let told = files::write_plan(t, &mut new);
     match told {
@@ -191,7 +212,7 @@ fn written(plan_path: &[u8], cursor_path: &[u8], old: &[u8], t: &[u32], c: Curso
                 return;
             }
             if replaced(plan_path, cursor_path, old, &new[0..n], c) {
-                answers::granted(c, legs_of(t));
+                answers::moved(c, records::leg_count(t), mv, from);
             }
         }
     }
@@ -205,14 +226,16 @@ fn may_move(cursor_path: &[u8], t: &[u32], c: Cursor) -> bool {
 }
 
 fn moved(plan_path: &[u8], cursor_path: &[u8], old: &[u8], t: &mut [u32], c: Cursor, mv: Move) {
+    let from = records::leg_at(t, mv.leg).offset;
     let told = checker::move_leg(t, c, mv);
     match told {
         Grant::Refused(number, at, _) => {
-            refused(t, number, at, Part::Move);
+            cursor::why_move(t, mv);
+            judged(t, number, at, Part::Move);
         }
         Grant::Granted(d) => {
             if saved::is_known(cursor_path, old, c.revision) {
-                written(plan_path, cursor_path, old, t, d);
+                written(plan_path, cursor_path, old, t, d, mv, from);
             }
         }
     }
@@ -267,6 +290,7 @@ fn on_bytes(order: Order, plan_path: &[u8], cursor_path: &[u8], bytes: &[u8], n:
     let read = files::read_plan(plan, &mut words);
     match read {
         PlanRead::Refused(number, at) => {
+            reasons::file::why(plan, number, at);
             answers::unread(number, at, Part::Plan);
         }
         PlanRead::Words(m) => {

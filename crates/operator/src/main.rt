@@ -34,10 +34,11 @@ const FIRST_NUMBER_AT: usize = 4;
 const ANEW_AT: usize = 4;
 
 fn not_a_number(what: &[u8], why: &[u8]) -> Word {
-    show::complaint(what);
-    show::complaint(b" is no number from 0 to 4294967295: ");
-    show::complaint(why);
-    show::complaint(b"\n");
+    reasons::begin();
+    reasons::text(what);
+    reasons::text(b" is no number from 0 to 4294967295: ");
+    reasons::text(why);
+    reasons::text(b"\n");
     Word::Wrong
 }
 
@@ -70,7 +71,7 @@ fn start_order() -> Order {
     if calls::are_same(&text[..n], b"--anew") {
         return Order::Start(true);
     }
-    show::complaint(b"after the files a start takes --anew and nothing else\n");
+    reasons::text(b"after the files a start takes --anew and nothing else\n");
     Order::Wrong
 }
 
@@ -102,7 +103,7 @@ fn plan_order(verb: &[u8]) -> Order {
     if calls::are_same(verb, b"shape") {
         return Order::Shape;
     }
-    show::complaint(b"the first argument is words, shape, start, slice or move\n");
+    reasons::text(b"the first argument is words, shape, start, slice or move\n");
     Order::Wrong
 }
 

@@ -1,6 +1,7 @@
 // The plan on standard input: its words, and whether it is well-formed.
 use checker::Grant;
 use input::Given;
+use reasons::records;
 use show::answers;
 
 // Reads the plan, and answers how many words it has. Where it is refused, that is the answer, and it is written; then, and where it cannot be read, it
@@ -38,6 +39,7 @@ fn told_shape(t: &[u32]) {
             answers::well_formed();
         }
         Grant::Refused(number, at, _) => {
+            records::why(t, number, at);
             answers::plan_refused(number, at);
         }
     }

@@ -8,11 +8,13 @@ use crate::text;
 use crate::told;
 use files::Cursor;
 use rules::Rule;
+use table::Move;
 
-// What a refusal lies in.
+// What a refusal lies in: the plan, a cursor of ours, a file in the cursor's place that is none, or the move.
 pub enum Part {
     Plan,
     Cursor,
+    Foreign,
     Move,
 }
 
@@ -84,35 +86,52 @@ pub fn well_formed() {
     text(b"well-formed\nstatus 0\n");
 }
 
-// Internal: a start or a move that is granted.
-pub fn granted(at: Cursor, legs: usize) {
+fn grant(at: Cursor, legs: usize) {
     told::place(b"granted", at);
     progress(at, legs);
+}
+
+// Internal: a start that is granted.
+pub fn granted(at: Cursor, legs: usize) {
+    grant(at, legs);
     text(b"status 0\n");
+}
+
+// Internal: a move that is granted, with the offset that its leg had before.
+pub fn moved(at: Cursor, legs: usize, mv: Move, from: u32) {
+    grant(at, legs);
+    labelled(b"leg ", mv.leg);
+    labelled(b" from ", from);
+    labelled(b" to ", mv.offset);
+    text(b" ns\nstatus 0\n");
+}
+
+// Ends the answer of a slice: its exit status, how many places it looked at, how many lie before the cursor, and how many there are.
+fn looked(status: &[u8], at: Cursor, steps: u32, legs: usize) {
+    labelled(b" steps ", steps);
+    progress(at, legs);
+    text(status);
+    labelled(b" looked ", steps);
+    text(b" ");
+    passed(at, b" ", legs);
 }
 
 // Internal: a slice that used up its budget.
 pub fn paused(at: Cursor, steps: u32, legs: usize) {
     told::place(b"paused", at);
-    labelled(b" steps ", steps);
-    progress(at, legs);
-    text(b"status 3 places ");
-    passed(at, b" ", legs);
+    looked(b"status 3", at, steps, legs);
 }
 
 // Internal: a slice that found nothing violated.
 pub fn nothing_violated(at: Cursor, steps: u32, legs: usize) {
-    labelled(b"nothing violated steps ", steps);
-    progress(at, legs);
-    text(b"status 0\n");
+    text(b"nothing violated");
+    looked(b"status 0", at, steps, legs);
 }
 
 // Internal: a slice that found a violated place.
 pub fn violated(at: Cursor, steps: u32, rule: Rule, legs: usize) {
     told::violated(at, rule);
-    labelled(b" steps ", steps);
-    progress(at, legs);
-    text(b"status 1\n");
+    looked(b"status 1", at, steps, legs);
 }
 
 fn part_word(part: Part) {
@@ -123,25 +142,41 @@ fn part_word(part: Part) {
         Part::Cursor => {
             text(b"cursor");
         }
+        Part::Foreign => {
+            text(b"cursor");
+        }
         Part::Move => {
             text(b"move");
         }
     }
 }
 
-fn lies_in(part: Part, number_of: u32) {
+// What the command goes by after a refusal: only one of the cursor asks for a start.
+fn next_step(part: Part) {
+    match part {
+        Part::Plan => {}
+        Part::Cursor => {
+            text(b" stale");
+        }
+        Part::Foreign => {
+            text(b" foreign");
+        }
+        Part::Move => {}
+    }
+}
+
+fn lies_in(part: Part) {
     text(b"in the ");
     part_word(part);
-    text(b"\nstatus 2 ");
-    part_word(part);
-    labelled(b" ", number_of);
+    text(b"\nstatus 2");
+    next_step(part);
     end_line();
 }
 
 // Internal: a refusal by the reader of a file: no revision was judged.
 pub fn unread(number_of: u32, at: usize, part: Part) {
     refused(number_of, at);
-    lies_in(part, number_of);
+    lies_in(part);
 }
 
 // Internal: a refusal of what was read, by the stage that refused.
@@ -149,16 +184,17 @@ pub fn judged(number_of: u32, at: usize, revision: u32, part: Part) {
     refusal(number_of, at);
     labelled(b" revision ", revision);
     end_line();
-    lies_in(part, number_of);
+    lies_in(part);
 }
 
-// Internal: the refusal of the guard: the plan is not the one that was last seen with this cursor, or none was.
-pub fn unknown(why: &[u8], revision: u32) {
+// Internal: the refusal of the guard, in one word: the plan is not the one that was last seen with this cursor, or none was. What the command goes by is another
+// word where the copy is damaged.
+pub fn unknown(why: &[u8], revision: u32, next: &[u8]) {
     text(b"refused ");
     text(why);
     labelled(b" revision ", revision);
     text(b"\nin the plan\nstatus 2 ");
-    text(why);
+    text(next);
     end_line();
 }
 

@@ -2,7 +2,6 @@
 // safe and to end; the programs' expected output tests the rest.
 ghost use Rattle.table.specs.Layout.{Sized};
 use basics::Checked;
-use libc::STDERR_FILENO;
 use libc::STDOUT_FILENO;
 
 pub mod answers;
@@ -11,11 +10,6 @@ pub mod told;
 // Internal: prints text as it is.
 pub fn text(bytes: &[u8]) {
     io::write_all(STDOUT_FILENO, bytes);
-}
-
-// Internal: says something on standard error.
-pub fn complaint(bytes: &[u8]) {
-    io::write_all(STDERR_FILENO, bytes);
 }
 
 // Internal: prints a number in decimal.

@@ -1,20 +1,14 @@
 // Reads a plan file from standard input, checks it whole, and writes what document 01 says: the number of legs and places, and accepted or the first
-// violated place with its rule; or a refusal's number and position. A last line says the exit status, and ./conepalhui takes it off. Where the input cannot
-// be read it writes nothing. It takes no argument: so it rests on the contracts of read and write alone.
+// violated place with its rule; or a refusal's number and position, and on standard error why. A last line says the exit status, and ./conepalhui takes it off.
+// Where the input cannot be read it writes nothing. It takes no argument: so it rests on the contracts of read and write alone.
 use checker::Grant;
 use checker::SliceAnswer;
 use input::Given;
+use reasons::records;
 use show::answers;
 
 // More than any table has places.
 const ENOUGH: u32 = 4294967295;
-
-fn legs_of(t: &[u32]) -> usize {
-    if table::LEGS_AT < t.len() {
-        return table::wide(t[table::LEGS_AT]);
-    }
-    0
-}
 
 // A whole check has no other verdict: the budget is more than the places, and the cursor is the start's.
 fn verdict(answer: SliceAnswer) {
@@ -34,10 +28,11 @@ fn checked(t: &[u32]) {
     let started = checker::start(t);
     match started {
         Grant::Refused(number, at, given) => {
+            records::why(t, number, at);
             answers::plan_refused(number, at);
         }
         Grant::Granted(cursor) => {
-            answers::counts(legs_of(t));
+            answers::counts(records::leg_count(t));
             verdict(checker::slice(t, cursor, ENOUGH));
         }
     }

@@ -1,0 +1,55 @@
+// Why a cursor or a move is refused: 8 to 11.
+use crate::line;
+use crate::records::header_word;
+use crate::small;
+use files::Cursor;
+use table::Move;
+
+// The last place of a leg. No leg is without one.
+fn last_place(a: usize) -> u32 {
+    if a < table::MAX_LEGS {
+        return small(std::num::wrapping_sub_usize(places::places_of(a), 1));
+    }
+    0
+}
+
+// Internal: why a cursor is refused.
+pub fn why(t: &[u32], c: Cursor) {
+    let revision = header_word(t, table::REVISION_AT);
+    if c.revision != revision {
+        line(
+            b"the cursor is of revision #, and the plan is of revision #",
+            &[c.revision, revision],
+        );
+        return;
+    }
+    let legs = header_word(t, table::LEGS_AT);
+    if c.leg < legs {
+        line(
+            b"the cursor is at leg #, place #, and leg # has the places 0 to #",
+            &[c.leg, c.place, c.leg, last_place(table::wide(c.leg))],
+        );
+        return;
+    }
+    line(
+        b"the cursor is at leg #, place #, and the plan ends at leg #, place 0",
+        &[c.leg, c.place, legs],
+    );
+}
+
+// Internal: why a move is refused.
+pub fn why_move(t: &[u32], mv: Move) {
+    let legs = header_word(t, table::LEGS_AT);
+    if mv.leg < legs {
+        line(
+            b"the plan is of revision #, which is the last",
+            &[header_word(t, table::REVISION_AT)],
+        );
+        return;
+    }
+    if legs == 0 {
+        line(b"there is no leg #: the plan has no legs", &[mv.leg]);
+        return;
+    }
+    line(b"there is no leg #: legs are 0 to #", &[mv.leg, legs - 1]);
+}
