@@ -72,8 +72,8 @@
 #define CONEPALHUI_VERSION_NUMBER 10000
 
 /*
- * The edition of the rules: 1 is document 01 as it stands. What a plan file, a place and a cursor mean belongs to an
- * edition. After an upgrade to another edition destroy every saved cursor and start the check anew.
+ * The edition of the rules. What a plan file, a place and a cursor mean belongs to an edition; docs/ACCEPTED.md says what
+ * they mean in this one. After an upgrade to another edition destroy every saved cursor and start the check anew.
  */
 #define CONEPALHUI_EDITION 1
 
@@ -274,7 +274,9 @@ static inline const char *conepalhui_text(uint32_t result)
     case CONEPALHUI_REFUSED + 13: return "a number in more bytes than it needs, or above 4,294,967,295";
     case CONEPALHUI_REFUSED + 14: return "bytes left over after the last number";
     case CONEPALHUI_REFUSED + 15: return "out has fewer than 15 bytes, or new_plan has no room for the new plan";
-    default: return "this is no result of Conepalhui";
+    default: return result > CONEPALHUI_PAUSED && result < CONEPALHUI_REFUSED
+                        ? "violated: a rule of a later edition, which this header does not know"
+                        : "this is no result of Conepalhui";
     }
 }
 
