@@ -69,9 +69,10 @@ show_build() { # LOG CRATES
 
 # Runs rt, which takes minutes: says so at once, and on a terminal how far it is. What rt says goes to the log.
 run_rt() { # COMMAND CRATE LOG
-    local used status=0 shower='' began=$SECONDS
+    local used status=0 shower='' began=$SECONDS what="the program $2"
+    [[ $2 != host ]] || what="the calls for C"
     mapfile -t used < <(uses "$2")
-    note "proving and building '$2' first, from ${#used[@]} crates. It is done once, until the sources change, and takes two to three minutes on two cores"
+    note "proving and building $what first, from ${#used[@]} crates. This is done once, until the sources change. It takes up to three minutes on two cores"
     : >"$3"
     [[ ! -t 2 ]] || { show_build "$3" ${#used[@]} & shower=$!; }
     rt "$1" "$2" >"$3" 2>&1 </dev/null || status=$?
@@ -79,7 +80,7 @@ run_rt() { # COMMAND CRATE LOG
         { kill $shower && wait $shower; } 2>/dev/null
         printf '\r\033[K' >&2
     fi
-    ((status != 0)) || note "'$2' is built, after $((SECONDS - began)) s"
+    ((status != 0)) || note "built after $((SECONDS - began)) s"
     return $status
 }
 
