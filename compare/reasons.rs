@@ -130,11 +130,13 @@ pub fn unread<C: Checker>(c: &C, bytes: &[u8], refusal: Refusal) -> String {
     let (at, end) = (refusal.at, bytes.len());
     match refusal.number {
         ENDS_EARLY if end == 0 => {
-            format!("the file is empty, and a plan begins with {} numbers", IN_WORDS[HEADER_WORDS])
+            format!("the file is empty, but a plan begins with {} numbers", IN_WORDS[HEADER_WORDS])
         }
-        ENDS_EARLY if at >= end => format!("the file ends at byte {}, where {} is due", end, name_at(c, bytes, at)),
+        ENDS_EARLY if at >= end => {
+            format!("the file ends too early: {} is due at byte {}", name_at(c, bytes, at), at)
+        }
         ENDS_EARLY => {
-            format!("the file ends at byte {}, inside {}, which begins at byte {}", end, name_at(c, bytes, at), at)
+            format!("the file ends too early, inside {}, which begins at byte {}", name_at(c, bytes, at), at)
         }
         BAD_FORM if c.is_too_long(bytes, at) => {
             format!("{}, at byte {}, is written in more bytes than it needs", name_at(c, bytes, at), at)
@@ -144,7 +146,7 @@ pub fn unread<C: Checker>(c: &C, bytes: &[u8], refusal: Refusal) -> String {
         }
         BAD_FORM => format!("{}, at byte {}, is above {}", name_at(c, bytes, at), at, u32::MAX),
         ABOVE_LIMIT => the_one_told(c, ABOVE_LIMIT, above_limits(c, &header(c, bytes))),
-        LEFT_OVER => format!("the plan ends at byte {}, and the file goes on", at),
+        LEFT_OVER => format!("by its header the plan has {} bytes, but the file has more", at),
         other => unreachable!("the reader does not give refusal {}", other),
     }
 }
@@ -152,14 +154,14 @@ pub fn unread<C: Checker>(c: &C, bytes: &[u8], refusal: Refusal) -> String {
 fn above_limits<C: Checker>(c: &C, header: &[u32; HEADER_WORDS]) -> Causes {
     let (limits, [_, links, streams, legs, precision]) = (c.limits(), *header);
     let too_many = |at: usize, count: u32, most: u32| {
-        (count > most).then(|| format!("{} is {}, and a plan has at most {}", HEADER[at], count, most))
+        (count > most).then(|| format!("{} is {}, but a plan has at most {}", HEADER[at], count, most))
     };
     let most = limits.precision;
     vec![
         too_many(1, links, limits.links),
         too_many(2, streams, limits.streams),
         too_many(3, legs, limits.legs),
-        (precision > most).then(|| format!("{} is {} ns, and it is at most {} ns", HEADER[4], precision, most)),
+        (precision > most).then(|| format!("{} is {} ns, but at most {} ns are allowed", HEADER[4], precision, most)),
     ]
 }
 
@@ -182,14 +184,17 @@ fn out_of_range<C: Checker>(c: &C, at: usize, link: &Link) -> Causes {
     let Link { from, to, ns_per_octet, propagation } = *link;
     let most = c.limits();
     vec![
-        missed((0, most.node), from).map(|nodes| format!("link {} is from node {}, and nodes are {}", at, from, nodes)),
-        missed((0, most.node), to).map(|nodes| format!("link {} is to node {}, and nodes are {}", at, to, nodes)),
+        missed((0, most.node), from).map(|nodes| format!("link {} is from node {}, but nodes are {}", at, from, nodes)),
+        missed((0, most.node), to).map(|nodes| format!("link {} is to node {}, but nodes are {}", at, to, nodes)),
         (from == to).then(|| format!("link {} is from node {} to itself", at, from)),
         (!most.rates.contains(&ns_per_octet)).then(|| {
-            format!("link {} takes {} ns per octet, and a link takes {}", at, ns_per_octet, either(most.rates))
+            format!("link {} takes {} ns per octet, but a link takes {}", at, ns_per_octet, either(most.rates))
         }),
         (propagation > most.propagation).then(|| {
-            format!("link {} has a propagation of {} ns, and it is at most {} ns", at, propagation, most.propagation)
+            format!(
+                "link {} has a propagation of {} ns, but at most {} ns are allowed",
+                at, propagation, most.propagation
+            )
         }),
     ]
 }
@@ -219,20 +224,20 @@ fn stream_wrong<C: Checker>(c: &C, at: usize, plan: &Plan) -> Causes {
     let (limits, before, legs) = (c.limits(), c.legs_before(plan, at), plan.legs.len());
     vec![
         missed(limits.period, period)
-            .map(|periods| format!("stream {} has a period of {} ns, and periods are {} ns", at, period, periods)),
+            .map(|periods| format!("stream {} has a period of {} ns, but periods are {} ns", at, period, periods)),
         missed((limits.deadline_least, period), deadline).map(|deadlines| {
-            format!("stream {} has a deadline of {} ns, and its period allows {} ns", at, deadline, deadlines)
+            format!("stream {} has a deadline of {} ns, but its period allows {} ns", at, deadline, deadlines)
         }),
         missed(limits.octets, octets)
-            .map(|frames| format!("stream {} has frames of {} octets, and frames have {}", at, octets, frames)),
+            .map(|frames| format!("stream {} has frames of {} octets, but frames have {}", at, octets, frames)),
         (u64::from(first_leg) != before).then(|| {
-            format!("stream {} begins at leg {}, and the leg counts before it add up to {}", at, first_leg, before)
+            format!("stream {} begins at leg {}, but the leg counts before it add up to {}", at, first_leg, before)
         }),
         missed(limits.route, leg_count)
-            .map(|counts| format!("stream {} has a leg count of {}, and leg counts are {}", at, leg_count, counts)),
+            .map(|counts| format!("stream {} has a leg count of {}, but leg counts are {}", at, leg_count, counts)),
         (u64::from(first_leg) + u64::from(leg_count) > legs as u64).then(|| {
             let all = numbered_or_none(c, "legs", legs);
-            format!("stream {} has the legs {} to {}, and {}", at, first_leg, c.last_leg(stream), all)
+            format!("stream {} has the legs {} to {}, but {}", at, first_leg, c.last_leg(stream), all)
         }),
     ]
 }
@@ -240,7 +245,7 @@ fn stream_wrong<C: Checker>(c: &C, at: usize, plan: &Plan) -> Causes {
 /// Refusal 6 for legs that no stream has.
 fn left_out<C: Checker>(c: &C, plan: &Plan) -> String {
     let sum = c.legs_before(plan, plan.streams.len());
-    format!("the leg counts add up to {}, and the number of legs is {}", sum, plan.legs.len())
+    format!("the leg counts add up to {}, but the number of legs is {}", sum, plan.legs.len())
 }
 
 /// The stream that a leg is of, by the first legs and the counts.
@@ -262,12 +267,16 @@ fn leg_wrong<C: Checker>(c: &C, at: usize, plan: &Plan) -> Causes {
     let links = || numbered_or_none(c, "links", plan.links.len());
     let from_elsewhere = |taken: &Link| {
         let here = met.last().filter(|here| **here != taken.from)?;
-        Some(format!("leg {} takes link {} from node {}, and its route is at node {}", at, link, taken.from, here))
+        Some(format!(
+            "leg {} takes link {} from node {}, but its route has reached node {}",
+            at, link, taken.from, here
+        ))
     };
     vec![
-        (stream as usize != owner)
-            .then(|| format!("leg {} names stream {}, and it is a leg of stream {}", at, stream, owner)),
-        taken.is_none().then(|| format!("leg {} names link {}, and {}", at, link, links())),
+        (stream as usize != owner).then(|| {
+            format!("leg {} names stream {}, but by the leg counts it is a leg of stream {}", at, stream, owner)
+        }),
+        taken.is_none().then(|| format!("leg {} names link {}, but {}", at, link, links())),
         taken.and_then(from_elsewhere),
         taken
             .filter(|taken| met.contains(&taken.to))
@@ -281,13 +290,13 @@ fn misplaced(plan: &Plan, cursor: Cursor, refusal: Refusal) -> String {
     let Cursor { revision, leg, place } = cursor;
     let legs = plan.legs.len();
     match refusal.number {
-        STALE => format!("the cursor is of revision {}, and the plan is of revision {}", revision, plan.revision),
+        STALE => format!("the cursor belongs to revision {}, but the plan has revision {}", revision, plan.revision),
         NO_PLACE if (leg as usize) < legs => {
             let last = places_of(leg) - 1;
-            format!("the cursor is at leg {}, place {}, and leg {} has the places 0 to {}", leg, place, leg, last)
+            format!("the cursor is at leg {}, place {}, but leg {} has the places 0 to {}", leg, place, leg, last)
         }
         NO_PLACE => {
-            format!("the cursor is at leg {}, place {}, and the plan ends at leg {}, place 0", leg, place, legs)
+            format!("the cursor is at leg {}, place {}, but the plan ends at leg {}, place 0", leg, place, legs)
         }
         other => unreachable!("a cursor does not meet refusal {}", other),
     }
@@ -298,7 +307,7 @@ fn unmoved<C: Checker>(c: &C, plan: &Plan, wanted: Move, refusal: Refusal) -> St
         NO_LEG => {
             format!("there is no leg {}: {}", wanted.leg, numbered_or_none(c, "legs", plan.legs.len()))
         }
-        LAST_REVISION => format!("the plan is of revision {}, which is the last", plan.revision),
+        LAST_REVISION => format!("the plan has revision {}, the last one: no move is possible", plan.revision),
         other => unreachable!("a move does not meet refusal {}", other),
     }
 }

@@ -15,8 +15,8 @@
  *
  * The program may be killed at any moment, and is then called again. While it does not run, the plan may be edited or
  * exchanged. This costs time, and never a wrong verdict. Only this program writes cursor and seen: neither is ever put
- * back from a backup, and after anything was put back both are removed. It saves the files in a fixed order, and each
- * is on the disk before the next is touched:
+ * back from a backup, and after one of them was put back both are removed. It saves the files in a fixed order, and
+ * each is on the disk before the next is touched:
  *
  *   a move saves plan, seen, cursor. Killed between two of them, it leaves a cursor that is older than the plan, which
  *   the library refuses with 8.

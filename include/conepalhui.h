@@ -18,10 +18,14 @@
  *         memcpy(cursor, next, conepalhui_cursor_length(next));
  *     } while (answer.result == CONEPALHUI_PAUSED);
  *
+ * The verdict is then answer.result; where a rule is violated, conepalhui_cursor_place(cursor) is its place. A whole
+ * check is a start and one slice, whose budget is the number that the start gave. A program that checks so and saves
+ * nothing keeps the rules below anyway.
+ *
  * A frame may be given another slot while the check is paused: conepalhui_move gives the new plan file and the cursor
  * to go on with, and the verdict will be that of a whole check of the new plan.
  *
- * ---- WHAT THE CALLER MUST KEEP TO. OTHERWISE A PLAN THAT BREAKS A RULE MAY BE TOLD AS 'NOTHING VIOLATED'. ----
+ * ---- WHAT THE CALLER MUST KEEP TO. OTHERWISE 'NOTHING VIOLATED' MAY BE SAID OF A PLAN THAT BREAKS A RULE. ----
  *
  *   1. The run. It begins with a start that is granted. Starts, slices and moves follow, in any order. A refused call
  *      writes nothing and is no part of the run.
@@ -31,9 +35,9 @@
  *   3. The cursor. Each slice and each move is given a cursor that an earlier call of this run left, the first start
  *      included: the first bytes of that call's out, as many as conepalhui_cursor_length says, unaltered. A cursor from
  *      before the last granted move is refused with 8.
- *   4. Other cursors. Before the start that begins a run, destroy every saved cursor of this plan, of its earlier and
- *      later versions, and of whatever else stood under its name. None of them is used again. Checks of plans under
- *      other names go on: their cursors are never given with this plan, nor those of this run with another plan.
+ *   4. Other cursors. Before the first cursor of a run is saved, destroy every saved cursor of this plan, of its
+ *      earlier and later versions, and of whatever else had its name. None of them is used again. Checks of plans
+ *      under other names go on: their cursors are never given with this plan, nor those of this run with another plan.
  *   5. Backups. A cursor from a backup is never put back. A plan that was put back goes on only where it is byte by
  *      byte the plan of rule 2; otherwise remove the saved cursor and begin a new run.
  *
@@ -53,10 +57,11 @@
  * and one number of legs, of which the first keeps the rules and the second does not. The last cursor of the first,
  * given with the second, is answered with 0: nothing violated.
  *
- * So whoever keeps plan and cursor in files also keeps a whole copy of the plan that the cursor is of. Before a saved
- * cursor is used, plan and copy are compared byte by byte, and where they differ a new check is started.
- * examples/host.c does so: it shows in which order the three files are saved, and may be killed at any moment. Like the
- * cursor, the copy is never put back from a backup.
+ * So whoever keeps plan and cursor in files also keeps a whole copy of the plan that the cursor belongs to. Before the
+ * answer to a saved cursor is believed, plan and copy are compared byte by byte; if they differ, a new check starts.
+ * examples/host.c does so, and may be killed at any moment: a move saves the plan, the copy and the cursor, in this
+ * order; a start first removes the old cursor, so that it lasts (its folder is synced), then saves the copy and the new
+ * cursor. Like the cursor, the copy is never put back from a backup.
  */
 #ifndef CONEPALHUI_H
 #define CONEPALHUI_H
@@ -72,8 +77,8 @@
 #define CONEPALHUI_VERSION_NUMBER 10000
 
 /*
- * The edition of the rules. What a plan file, a place and a cursor mean belongs to an edition; docs/ACCEPTED.md says what
- * they mean in this one. After an upgrade to another edition destroy every saved cursor and start the check anew.
+ * The edition of the rules: what a plan file, a place and a cursor mean. docs/ACCEPTED.md says what they mean in this
+ * one. After an upgrade to another edition destroy every saved cursor and start the check anew: nothing checks it.
  */
 #define CONEPALHUI_EDITION 1
 
@@ -102,6 +107,8 @@
  * libraries:
  *
  *     cc -Iinclude program.c .built/libconepalhui.a
+ *
+ * and of an installed copy: cc program.c $(pkg-config --cflags --libs conepalhui)
  */
 
 #define CONEPALHUI_CURSOR_BYTES 15   /* room for every cursor; out must have this many bytes or more */
@@ -110,9 +117,9 @@
 #define CONEPALHUI_STACK_BYTES 98304 /* a thread that calls should have this much stack left */
 
 /*
- * The results. Each call tells one of them: conepalhui_slice returns it, and the others give it in an answer. The
- * results 6 to 99 are kept for rules of later editions: a host that is told one which it does not know has a plan that
- * is not accepted.
+ * The results. Each call gives one of them: conepalhui_slice returns it, and the others have it in an answer. The
+ * results 6 to 99 are kept for rules of later editions: treat a result that you do not know as a plan that is not
+ * accepted.
  */
 enum {
     CONEPALHUI_NOTHING_VIOLATED = 0, /* a slice: nothing is violated from its cursor on, and the check is done */
@@ -131,60 +138,6 @@ struct conepalhui_answer {
     uint32_t number; /* after a refusal its position; otherwise places, steps or bytes, as each call says below */
 };
 typedef struct conepalhui_answer conepalhui_answer;
-
-/*
- * Plans, places and cursors
- *
- * A number is 0 to 4,294,967,295, written in groups of seven bits, the lowest group first, the top bit set on all bytes
- * but the last, in as few bytes as possible: 300 is AC 02. A plan file is these numbers and nothing else, times in ns:
- *
- *   the header    revision, links (0 to 256), streams (0 to 512), legs (0 to 2,048), clock precision (0 to 1,000,000)
- *   each link     from node, to node (0 to 65,535), ns per octet (8, 80 or 800), propagation (0 to 100,000)
- *   each stream   period (1 to 1,000,000,000), deadline (1 to the period), octets of its frame (64 to 1,522), the
- *                 number of its first leg, how many legs it has (1 to 8)
- *   each leg      stream, link, offset (any)
- *
- * A link joins two different nodes, and no other link joins the same two in this direction. The legs stand in the order
- * of their streams. The legs of a stream are a route: each link begins where the previous one ended, and no node is met
- * twice.
- *
- * Leg a has the places 0 (window), 1 (hop), 2 (deadline) and 3 + b (overlap with leg b) for each leg b below a. A check
- * looks at them by leg, and then by place. G legs have G(G - 1)/2 + 3G places. The end is leg G, place 0.
- *
- * A cursor is three numbers: the plan's revision, a leg, and a place of that leg. It ends with the third byte below
- * 0x80.
- */
-
-/*
- * The refusals, each with its position, which an answer has as its number. docs/REFUSALS.md has examples, and what to
- * do.
- *
- *   no.   cause                                                                     position
- *    1    the table has fewer than five words                                       0
- *    2    more links, streams or legs than are allowed, or too high a precision     0
- *    3    the table has another length than its header says                         0
- *    4    a link out of range, or from a node to itself                             the lowest such link
- *    5    a link from and to the same nodes as an earlier one                       the lowest later link
- *    6    a stream out of range, or its first leg or leg count is wrong             the lowest such stream
- *         all streams are right, and have fewer legs than the header says           the number of streams
- *    7    a leg's stream, its link or its route is wrong                            the lowest such leg
- *    8    the cursor is of another revision than the plan                           0
- *    9    the cursor is at no place of the plan, nor at its end                     0
- *   10    there is no such leg to move                                              0
- *   11    a move at revision 4,294,967,295                                          0
- *   12    the bytes end before the numbers do                                       the start of that number
- *   13    a number in more bytes than it needs, or above 4,294,967,295              the start of that number
- *   14    bytes left over after the last number                                     the first such byte
- *   15    out has fewer than 15 bytes, or new_plan has no room for the new plan     0
- *
- * 1 and 3 are of tables in memory, and no call here gives them: a plan file that is too short or too long is refused
- * with 12 or 14.
- *
- * Where several are due the first is told: of the plan 12 and 13 from left to right, 2 after the fifth number, 14;
- * of the cursor 12, 13, 14; 15 for out; then 4 to 11 in their order; and last 15 for new_plan. A 12, 13 or 14 of a
- * slice or a move lies in the plan exactly when conepalhui_start refuses that plan with it too, and otherwise in the
- * cursor.
- */
 
 #ifdef __cplusplus
 extern "C" {
@@ -313,5 +266,59 @@ static inline struct conepalhui_place conepalhui_cursor_place(const uint8_t *cur
     place.place = numbers[2];
     return place;
 }
+
+/*
+ * Plans, places and cursors
+ *
+ * A number is 0 to 4,294,967,295, written in groups of seven bits, the lowest group first, the top bit set on all bytes
+ * but the last, in as few bytes as possible: 300 is AC 02. A plan file is these numbers and nothing else, times in ns:
+ *
+ *   the header    revision, links (0 to 256), streams (0 to 512), legs (0 to 2,048), clock precision (0 to 1,000,000)
+ *   each link     from node, to node (0 to 65,535), ns per octet (8, 80 or 800), propagation (0 to 100,000)
+ *   each stream   period (1 to 1,000,000,000), deadline (1 to the period), octets of its frame (64 to 1,522), the
+ *                 number of its first leg, how many legs it has (1 to 8)
+ *   each leg      stream, link, offset (any)
+ *
+ * A link joins two different nodes, and no other link joins the same two in this direction. The legs stand in the order
+ * of their streams. The legs of a stream are a route: each link begins where the previous one ended, and no node is met
+ * twice.
+ *
+ * Leg a has the places 0 (window), 1 (hop), 2 (deadline) and 3 + b (overlap with leg b) for each leg b below a. A check
+ * looks at them by leg, and then by place. G legs have G(G - 1)/2 + 3G places. The end is leg G, place 0.
+ *
+ * A cursor is three numbers: the plan's revision, a leg, and a place of that leg. It ends with the third byte below
+ * 0x80.
+ */
+
+/*
+ * The refusals, each with its position, which an answer has as its number. docs/REFUSALS.md has examples, and what to
+ * do.
+ *
+ *   no.   cause                                                                     position
+ *    1    the table has fewer than five words                                       0
+ *    2    more links, streams or legs than are allowed, or too high a precision     0
+ *    3    the table has another length than its header says                         0
+ *    4    a link out of range, or from a node to itself                             the lowest such link
+ *    5    a link from and to the same nodes as an earlier one                       the lowest later link
+ *    6    a stream out of range, or its first leg or leg count is wrong             the lowest such stream
+ *         all streams are right, and have fewer legs than the header says           the number of streams
+ *    7    a leg's stream, its link or its route is wrong                            the lowest such leg
+ *    8    the cursor is of another revision than the plan                           0
+ *    9    the cursor is at no place of the plan, nor at its end                     0
+ *   10    there is no such leg to move                                              0
+ *   11    a move at revision 4,294,967,295                                          0
+ *   12    the bytes end before the numbers do                                       the start of that number
+ *   13    a number in more bytes than it needs, or above 4,294,967,295              the start of that number
+ *   14    bytes left over after the last number                                     the first such byte
+ *   15    out has fewer than 15 bytes, or new_plan has no room for the new plan     0
+ *
+ * 1 and 3 concern tables in memory, and no call here gives them: a plan file that is too short or too long is refused
+ * with 12 or 14.
+ *
+ * Where several are due the first is told: of the plan 12 and 13 from left to right, 2 after the fifth number, 14;
+ * of the cursor 12, 13, 14; 15 for out; then 4 to 11 in their order; and last 15 for new_plan. A 12, 13 or 14 of a
+ * slice or a move lies in the plan exactly when conepalhui_start refuses that plan with it too, and otherwise in the
+ * cursor.
+ */
 
 #endif

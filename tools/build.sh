@@ -62,7 +62,7 @@ show_build() { # LOG CRATES
     local began=$SECONDS
     exec 9>&-
     while kill -0 $$ 2>/dev/null; do
-        printf '\rproved %d of %d crates, %d:%02d so far\033[K' "$(proved_in "$1")" "$2" $(((SECONDS - began) / 60)) $(((SECONDS - began) % 60)) >&2
+        printf '\rproved %d of %d parts, %d:%02d so far\033[K' "$(proved_in "$1")" "$2" $(((SECONDS - began) / 60)) $(((SECONDS - began) % 60)) >&2
         sleep 1
     done
 }
@@ -70,9 +70,13 @@ show_build() { # LOG CRATES
 # Runs rt, which takes minutes: says so at once, and on a terminal how far it is. What rt says goes to the log.
 run_rt() { # COMMAND CRATE LOG
     local used status=0 shower='' began=$SECONDS what="the program $2"
-    [[ $2 != host ]] || what="the calls for C"
+    case $2 in
+    timetable) what="the checker" ;;
+    operator) what="the program for slices, moves, words and shape" ;;
+    host) what="the calls for C" ;;
+    esac
     mapfile -t used < <(uses "$2")
-    note "proving and building $what first, from ${#used[@]} crates. This is done once, until the sources change. It takes up to three minutes on two cores"
+    note "proving and building $what first. This is done once, until the sources change, and takes two to three minutes on two idle cores. If you stop it, what is proved stays proved"
     : >"$3"
     [[ ! -t 2 ]] || { show_build "$3" ${#used[@]} & shower=$!; }
     rt "$1" "$2" >"$3" 2>&1 </dev/null || status=$?
@@ -143,7 +147,7 @@ it; on Arm that takes Debian's packages qemu-user and libc6-amd64-cross.
   lib/pkgconfig/conepalhui.pc        their flags: cc program.c $(pkg-config --cflags --libs conepalhui)
   include/conepalhui.h               their header
   share/man/man1/conepalhui.1        a man page
-  share/doc/conepalhui               ACCEPTED.md, OPERATIONS.md and REFUSALS.md of docs/
+  share/doc/conepalhui               the pages of docs/
 
 Programs and calls are proved and built first where their sources changed. The folder may be moved as a whole. Exit status: 0
 installed, 4 where something cannot be built or written.
@@ -212,7 +216,7 @@ do_install() {
     put .built/libconepalhui.a lib/libconepalhui.a
     put "$temp/flags" lib/pkgconfig/conepalhui.pc
     put include/conepalhui.h include/conepalhui.h
-    for name in ACCEPTED OPERATIONS REFUSALS; do put "docs/$name.md" "share/doc/conepalhui/$name.md"; done
+    for name in docs/*.md; do put "$name" "share/doc/conepalhui/${name#docs/}"; done
     put "$temp/page" share/man/man1/conepalhui.1
     put "$temp/command" bin/conepalhui 755 # The last: without it nothing is run.
     printf 'installed %s\n' "$to" || stop "cannot write to standard output"

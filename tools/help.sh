@@ -8,7 +8,7 @@ commands=(
     'slice|PLAN CURSOR BUDGET|look at the next BUDGET places'
     'move|PLAN CURSOR LEG OFFSET|give one leg another offset, in ns'
     'run|PLAN CURSOR --budget N [--rate R]|slices of N places until there is a verdict'
-    'words|[PLAN]|print the numbers of a plan, a record to a line'
+    'words|[PLAN]|print the numbers of a plan, one record per line'
     'shape|[PLAN]|say whether a plan is well-formed'
 )
 is_installed || commands+=(
@@ -21,7 +21,7 @@ commands+=(
 )
 is_installed || commands+=(
     'test||prove every crate and run every test'
-    'compare|[OPTION N]|hold the calls for C against a plain checker'
+    'compare|[OPTION N]|compare the calls for C with a plain checker'
     'bench|[OPTION N]|time the check beside a plain one'
 )
 
@@ -106,13 +106,13 @@ What start, slice, move and run print on standard output, and their exit status:
 
 LEG and PLACE are where the cursor is now. N is how many places the slice looked at; after a run, its last slice. R is
 the revision of the plan that was judged; after a move it is the new one, and after 'begun' the cursor's. DONE is how
-many places come before the cursor. 'in the ...' says where a refusal lies.
+many places come before the cursor. 'in the ...' says which of the three was refused.
 A move has a third line, 'leg LEG from OLD to NEW ns'. A run has one too, 'looked at N places in K slices'.
 
 A refusal changes no file. Standard error says what is wrong and, where another call is needed, which one.
 docs/REFUSALS.md has the numbers. The three words:
 
-  changed   the plan is not the one last seen with this cursor: it was edited, restored or exchanged, and not by 'move'
+  changed   the plan is not the one last seen with this cursor: it was edited, restored or exchanged
   unseen    there is no CURSOR.seen, the copy of the plan beside the cursor: these commands did not make this cursor,
             or somebody copied it
   begun     a start on a cursor that is past the first place
@@ -120,10 +120,10 @@ docs/REFUSALS.md has the numbers. The three words:
 NEVER RENAME OR COPY A CURSOR, OR PUT ONE BACK FROM A BACKUP. Beside another CURSOR.seen it would be believed, and slots
 that were moved would never be looked at again.
 
-Exit status 4, with a message and no answer: an argument is bad, or a file cannot be read or written or is not ours.
-Files are replaced whole and lastingly; docs/OPERATIONS.md says what each crash leaves. One call at a time works on the
-files of a folder. Others wait, for each folder 10 seconds at most or as many as the variable CONEPALHUI_WAIT says, and
-then end with 4 and nothing changed.
+Exit status 4, with a message and no answer: an argument is bad, or a file cannot be read or written or was not made
+by these commands. Files are replaced whole, so that they survive a power cut; docs/OPERATIONS.md says what each crash
+leaves. One call at a time works on the files of a folder. Others wait, for each folder 10 seconds at most or as many
+as the variable CONEPALHUI_WAIT says, and then end with 4 without having changed anything.
 END
 }
 
@@ -135,10 +135,8 @@ about_start() {
 Starts a check of the plan file PLAN at its first place. It makes CURSOR, which keeps how far the check is, and
 CURSOR.seen beside it, a copy of the plan. A plan that is not well-formed is refused, and nothing is made.
 
-A cursor that is past the first place is replaced only with --anew, which drops how far that check was; without it the
-answer is 'refused begun'. A file CURSOR that is no saved cursor, a file CURSOR.seen that is no such copy, and a cursor
-without CURSOR.seen are never replaced: the exit status is 4. Take another name for the cursor then, or remove that
-file by hand.
+A cursor that is past the first place is replaced only with --anew, which drops how far that check was. A file that
+these commands did not make is never replaced (docs/OPERATIONS.md).
 END
     see_answers
 }
@@ -165,19 +163,18 @@ END
 about_run() {
     cat <<'END'
 Makes slices of N places, one after the other, until the check is no longer paused, and prints the last answer. Where
-there is no CURSOR it starts a check. With --rate each slice is looked at in one go, and the next begins N / R seconds
-after it began, or later. Between two slices the plan is free for others: a move with the same CURSOR is taken into
-account. Where PLAN or CURSOR is a link that leads to another file meanwhile, the run ends with 4. It can be stopped at
-any time, and goes on from there. Standard error says how far it is: on a terminal after each slice, elsewhere about
-every ten seconds.
+there is no CURSOR it starts a check. R is places per second: slices begin at least N / R seconds apart. Between two
+slices the plan is free for others: a move with the same CURSOR is taken into account. If PLAN or CURSOR is a link and
+leads to another file before the next slice, the run ends with 4. It can be stopped at any time, and goes on from
+there. Standard error says how far it is: on a terminal after each slice, elsewhere about every ten seconds.
 END
     see_answers
 }
 
 about_words() {
     cat <<'END'
-Reads the plan file PLAN, or standard input, and prints its numbers, a record to a line: the header, the links, the
-streams, the legs. docs/ACCEPTED.md names them. Bytes that are no plan file give one line, 'refused NUMBER AT', and the
+Reads the plan file PLAN, or standard input, and prints its numbers, one record per line: the header, the links,
+the streams, the legs. docs/ACCEPTED.md names them. Bytes that are no plan file give one line, 'refused NUMBER AT', and the
 exit status 2; standard error says why. Links, streams and legs are not judged.
 END
 }
@@ -198,6 +195,7 @@ END
 
 about_version() {
     cat <<'END'
-Prints the version, and the edition of the rules. A saved cursor is worth nothing under another edition.
+Prints the version, and the edition of the rules. Never go on with a saved cursor under another edition: nothing checks
+that, and it would be believed.
 END
 }

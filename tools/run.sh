@@ -120,10 +120,10 @@ find_files() { # PLAN CURSOR
     cursor=$(real_path "$2") || stop "cannot find the folder of the cursor $2"
     plan=${plan%$'\n.'} cursor=${cursor%$'\n.'}
     for path in "$plan" "$cursor"; do
-        [[ $path != *.conepalhui-new && $path != *.seen ]] || stop "$path has the name of a file that is written beside others: give it another name"
+        [[ $path != *.conepalhui-new && $path != *.seen ]] || stop "names that end in .conepalhui-new or .seen are kept for files of these commands: give $path another name"
     done
     [[ -f $plan ]] || stop "there is no plan file $1"
-    [[ ! -e $cursor || -f $cursor && -w $cursor ]] || stop "the cursor $2 is no file that may be written"
+    [[ ! -e $cursor || -f $cursor && -w $cursor ]] || stop "the cursor $2 is not a file that can be written"
     [[ -f $cursor.seen || ! -e $cursor.seen && ! -L $cursor.seen ]] || stop "$cursor.seen is no file, and the copy of the plan has this name: give the cursor another name"
     [[ ! $plan -ef $cursor ]] || stop "the plan $1 and the cursor $2 are one file"
 }
@@ -136,7 +136,7 @@ hold_folder() { # FOLDER
     flock -w "$patience" "$file"
     case $? in
     0) ;;
-    1) stop "others have worked in $1 for $patience seconds: nothing was changed, so try again" ;;
+    1) stop "waited $patience seconds for other calls in $1. This call changed nothing: try again" ;;
     *) stop "cannot lock the folder $1" ;;
     esac
 }
@@ -180,7 +180,7 @@ consult() { # VERB WORD...
         said=1
     done
     exec {pipe}>&-
-    ((ended == 0)) || stop "the program operator ended early: what stands in the files is whole"
+    ((ended == 0)) || stop "the program operator was stopped. Each file is whole, the old one or the new one, and a move may have been made"
     take_status && return
     end_progress
     [[ $1 == start || -e $cursor ]] || stop "a check begins with: $(shown_call start "${given[@]}")"
@@ -206,12 +206,12 @@ start_anew() { # PLAN CURSOR
 
 # Says the same where the program has said that it leaves a file as it is. Once that is gone, the cursor beside it is in the way too.
 start_by_hand() { # PLAN CURSOR
-    printf 'To check the plan as it is now, from its first place, remove %q by hand, and %q if it is there, unless they are something else of yours. Then: %s' "$cursor" "$cursor.seen" "$(shown_call start "$@")"
+    printf 'Once neither %q nor %q is there, this checks the plan as it is now, from its first place: %s' "$cursor" "$cursor.seen" "$(shown_call start "$@")"
 }
 
 # Prints the answer, and after a refusal that asks for it how to go on or to start anew. The files are named as they were given.
 pass_on() { # PLAN CURSOR
-    local leg place revision other="this is not the plan that was last seen with this cursor: it was changed outside of our moves, or $cursor.seen was."
+    local leg place revision other="this is not the plan that was last seen with this cursor: something other than a move changed it, or $cursor.seen was damaged."
     printf '%s' "$wrote" || stop "cannot write to standard output"
     case $why in
     changed) note "$other $(start_anew "$@")" ;;
@@ -223,7 +223,9 @@ pass_on() { # PLAN CURSOR
             "If the plan is still the same, this goes on: $(shown_call run "$@" --budget 300)." \
             "To drop that and start at the first place: $(shown_call start "$@" --anew)"
         ;;
-    stale) note "a move was made with another cursor or was cut off, or the plan or the cursor was exchanged. $(start_anew "$@")" ;;
+    ended) note "the check with the cursor $2 has ended, and a slice gives its verdict again. $(start_anew "$@")" ;;
+    'cursor 8') note "a move was made with another cursor or was cut off. If the cursor's revision is the higher one, this is an old plan, and moves are missing in it. $(start_anew "$@")" ;;
+    'cursor '*) note "the cursor was altered, or belongs to another plan. $(start_anew "$@")" ;;
     foreign) note "$(start_by_hand "$@")" ;;
     esac
     return $status
@@ -234,7 +236,7 @@ call() { # VERB PLAN CURSOR WORD...
     local plan cursor held wrote status why given=("$2" "$3")
     prepare operator
     find_files "$2" "$3"
-    [[ $1 != move || -w $plan ]] || stop "the plan $2 may not be written"
+    [[ $1 != move || -w $plan ]] || stop "the plan $2 is read-only: it can be checked, but not moved"
     hold_found "$2" "$3"
     consult "$1" "${@:4}"
     release

@@ -21,7 +21,7 @@ enum Beside {
 
 fn left_as_it_is() {
     reasons::text(
-        b". It was left as it is: start with another name for the cursor, or remove this file by hand\n",
+        b". It was left as it is. Take another name for the cursor, or remove this file by hand\n",
     );
 }
 
@@ -40,20 +40,20 @@ pub(crate) fn missing(path: &[u8]) {
 
 pub(crate) fn no_cursor(path: &[u8]) {
     begin(path);
-    reasons::text(b" is no saved cursor");
+    reasons::text(b" is not a saved cursor");
     left_as_it_is();
 }
 
 fn no_copy(path: &[u8]) {
     begin(path);
-    reasons::text(b".seen is no copy of a plan as it is kept beside a cursor");
+    reasons::text(b".seen is not a copy of a plan as these commands keep it");
     left_as_it_is();
 }
 
 // Three bytes of any text have the form of a saved cursor, so one is ours only where its copy stands beside it.
 fn perhaps_no_cursor(path: &[u8]) {
     begin(path);
-    reasons::text(b" is no saved cursor of these commands: there is no ");
+    reasons::text(b" is not a saved cursor of these commands: there is no ");
     reasons::text(path);
     reasons::text(b".seen");
     left_as_it_is();

@@ -107,7 +107,7 @@ fn may_begin(cursor_path: &[u8], t: &[u32], anew: bool) -> bool {
         Standing::Free => true,
         Standing::Begun(c) => {
             if !anew {
-                answers::begun(c);
+                answers::begun(c, records::leg_count(t));
             }
             anew
         }

@@ -36,7 +36,7 @@ const ANEW_AT: usize = 4;
 fn not_a_number(what: &[u8], why: &[u8]) -> Word {
     reasons::begin();
     reasons::text(what);
-    reasons::text(b" is no number from 0 to 4294967295: ");
+    reasons::text(b" is not a number from 0 to 4294967295: ");
     reasons::text(why);
     reasons::text(b"\n");
     Word::Wrong

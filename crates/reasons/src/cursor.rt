@@ -18,7 +18,7 @@ pub fn why(t: &[u32], c: Cursor) {
     let revision = header_word(t, table::REVISION_AT);
     if c.revision != revision {
         line(
-            b"the cursor is of revision #, and the plan is of revision #",
+            b"the cursor belongs to revision #, but the plan has revision #",
             &[c.revision, revision],
         );
         return;
@@ -26,13 +26,13 @@ pub fn why(t: &[u32], c: Cursor) {
     let legs = header_word(t, table::LEGS_AT);
     if c.leg < legs {
         line(
-            b"the cursor is at leg #, place #, and leg # has the places 0 to #",
+            b"the cursor is at leg #, place #, but leg # has the places 0 to #",
             &[c.leg, c.place, c.leg, last_place(table::wide(c.leg))],
         );
         return;
     }
     line(
-        b"the cursor is at leg #, place #, and the plan ends at leg #, place 0",
+        b"the cursor is at leg #, place #, but the plan ends at leg #, place 0",
         &[c.leg, c.place, legs],
     );
 }
@@ -42,7 +42,7 @@ pub fn why_move(t: &[u32], mv: Move) {
     let legs = header_word(t, table::LEGS_AT);
     if mv.leg < legs {
         line(
-            b"the plan is of revision #, which is the last",
+            b"the plan has revision #, the last one: no move is possible",
             &[header_word(t, table::REVISION_AT)],
         );
         return;

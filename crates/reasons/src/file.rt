@@ -65,22 +65,21 @@ fn name_after(bytes: &[u8], before: &[u8]) {
 fn cut_short(bytes: &[u8], at: usize) {
     if bytes.len() == 0 {
         line(
-            b"the file is empty, and a plan begins with five numbers",
+            b"the file is empty, but a plan begins with five numbers",
             &[],
         );
         return;
     }
     begin();
-    say(b"the file ends at byte #", &[small(bytes.len())]);
     if at < bytes.len() {
-        text(b", inside ");
+        text(b"the file ends too early, inside ");
         name_after(bytes, &bytes[0..at]);
         say(b", which begins at byte #\n", &[small(at)]);
         return;
     }
-    text(b", where ");
+    text(b"the file ends too early: ");
     name_after(bytes, bytes);
-    text(b" is due\n");
+    say(b" is due at byte #\n", &[small(at)]);
 }
 
 // What is wrong with the number that these bytes begin with: a last byte 0, a fifth byte that goes on, or one above the largest.
@@ -119,7 +118,7 @@ fn above_limits(bytes: &[u8]) {
     let links = number_of(bytes, table::LINKS_AT);
     if table::MAX_LINKS < table::wide(links) {
         line(
-            b"the number of links is #, and a plan has at most #",
+            b"the number of links is #, but a plan has at most #",
             &[links, table::MAX_LINKS as u32],
         );
         return;
@@ -127,7 +126,7 @@ fn above_limits(bytes: &[u8]) {
     let streams = number_of(bytes, table::STREAMS_AT);
     if table::MAX_STREAMS < table::wide(streams) {
         line(
-            b"the number of streams is #, and a plan has at most #",
+            b"the number of streams is #, but a plan has at most #",
             &[streams, table::MAX_STREAMS as u32],
         );
         return;
@@ -135,13 +134,13 @@ fn above_limits(bytes: &[u8]) {
     let legs = number_of(bytes, table::LEGS_AT);
     if table::MAX_LEGS < table::wide(legs) {
         line(
-            b"the number of legs is #, and a plan has at most #",
+            b"the number of legs is #, but a plan has at most #",
             &[legs, table::MAX_LEGS as u32],
         );
         return;
     }
     line(
-        b"the clock precision is # ns, and it is at most # ns",
+        b"the clock precision is # ns, but at most # ns are allowed",
         &[
             number_of(bytes, table::PRECISION_AT),
             table::MAX_PRECISION as u32,
@@ -163,7 +162,7 @@ pub fn why(bytes: &[u8], number: u32, at: usize) {
         }
         _ => {
             line(
-                b"the plan ends at byte #, and the file goes on",
+                b"by its header the plan has # bytes, but the file has more",
                 &[small(at)],
             );
         }

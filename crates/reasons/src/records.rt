@@ -76,14 +76,14 @@ pub fn leg_at(t: &[u32], a: u32) -> Leg {
 fn bad_link(i: u32, l: Link) {
     if MAX_NODE < l.from {
         line(
-            b"link # is from node #, and nodes are 0 to #",
+            b"link # is from node #, but nodes are 0 to #",
             &[i, l.from, MAX_NODE],
         );
         return;
     }
     if MAX_NODE < l.to {
         line(
-            b"link # is to node #, and nodes are 0 to #",
+            b"link # is to node #, but nodes are 0 to #",
             &[i, l.to, MAX_NODE],
         );
         return;
@@ -96,13 +96,13 @@ fn bad_link(i: u32, l: Link) {
     match told {
         Holds::No => {
             line(
-                b"link # takes # ns per octet, and a link takes 8, 80 or 800",
+                b"link # takes # ns per octet, but a link takes 8, 80 or 800",
                 &[i, l.rate],
             );
         }
         Holds::Yes => {
             line(
-                b"link # has a propagation of # ns, and it is at most # ns",
+                b"link # has a propagation of # ns, but at most # ns are allowed",
                 &[i, l.propagation, MAX_PROPAGATION],
             );
         }
@@ -161,13 +161,13 @@ fn past_the_last(t: &[u32], i: u32, s: Stream) {
     let legs = header_word(t, table::LEGS_AT);
     if legs == 0 {
         line(
-            b"stream # has the legs # to #, and the plan has no legs",
+            b"stream # has the legs # to #, but the plan has no legs",
             &[i, s.first, last],
         );
         return;
     }
     line(
-        b"stream # has the legs # to #, and legs are 0 to #",
+        b"stream # has the legs # to #, but legs are 0 to #",
         &[i, s.first, last, legs - 1],
     );
 }
@@ -177,14 +177,14 @@ fn bad_legs(t: &[u32], i: u32, s: Stream) {
     let next = legs_before(t, i);
     if s.first != next {
         line(
-            b"stream # begins at leg #, and the leg counts before it add up to #",
+            b"stream # begins at leg #, but the leg counts before it add up to #",
             &[i, s.first, next],
         );
         return;
     }
     if !is_between(s.count, 1, MAX_ROUTE) {
         line(
-            b"stream # has a leg count of #, and leg counts are 1 to #",
+            b"stream # has a leg count of #, but leg counts are 1 to #",
             &[i, s.count, MAX_ROUTE],
         );
         return;
@@ -195,21 +195,21 @@ fn bad_legs(t: &[u32], i: u32, s: Stream) {
 fn bad_stream(t: &[u32], i: u32, s: Stream) {
     if !is_between(s.period, 1, MAX_PERIOD) {
         line(
-            b"stream # has a period of # ns, and periods are 1 to # ns",
+            b"stream # has a period of # ns, but periods are 1 to # ns",
             &[i, s.period, MAX_PERIOD],
         );
         return;
     }
     if !is_between(s.deadline, 1, s.period) {
         line(
-            b"stream # has a deadline of # ns, and its period allows 1 to # ns",
+            b"stream # has a deadline of # ns, but its period allows 1 to # ns",
             &[i, s.deadline, s.period],
         );
         return;
     }
     if !is_between(s.octets, MIN_OCTETS, MAX_OCTETS) {
         line(
-            b"stream # has frames of # octets, and frames have # to #",
+            b"stream # has frames of # octets, but frames have # to #",
             &[i, s.octets, MIN_OCTETS, MAX_OCTETS],
         );
         return;
@@ -223,7 +223,7 @@ fn bad_streams(t: &[u32], i: u32) {
         return;
     }
     line(
-        b"the leg counts add up to #, and the number of legs is #",
+        b"the leg counts add up to #, but the number of legs is #",
         &[legs_before(t, i), header_word(t, table::LEGS_AT)],
     );
 }
@@ -254,7 +254,7 @@ fn bad_route(t: &[u32], a: u32, leg: Leg) {
     let at = node_before(t, a);
     if l.from != at {
         line(
-            b"leg # takes link # from node #, and its route is at node #",
+            b"leg # takes link # from node #, but its route has reached node #",
             &[a, leg.link, l.from, at],
         );
         return;
@@ -269,7 +269,7 @@ fn bad_leg(t: &[u32], a: u32, leg: Leg) {
     let own = own_stream(t, a);
     if leg.stream != own {
         line(
-            b"leg # names stream #, and it is a leg of stream #",
+            b"leg # names stream #, but by the leg counts it is a leg of stream #",
             &[a, leg.stream, own],
         );
         return;
@@ -281,13 +281,13 @@ fn bad_leg(t: &[u32], a: u32, leg: Leg) {
     }
     if links == 0 {
         line(
-            b"leg # names link #, and the plan has no links",
+            b"leg # names link #, but the plan has no links",
             &[a, leg.link],
         );
         return;
     }
     line(
-        b"leg # names link #, and links are 0 to #",
+        b"leg # names link #, but links are 0 to #",
         &[a, leg.link, links - 1],
     );
 }

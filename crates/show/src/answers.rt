@@ -152,11 +152,11 @@ fn part_word(part: Part) {
 }
 
 // What the command goes by after a refusal: only one of the cursor asks for a start.
-fn next_step(part: Part) {
+fn next_step(part: Part, number_of: u32) {
     match part {
         Part::Plan => {}
         Part::Cursor => {
-            text(b" stale");
+            labelled(b" cursor ", number_of);
         }
         Part::Foreign => {
             text(b" foreign");
@@ -165,18 +165,18 @@ fn next_step(part: Part) {
     }
 }
 
-fn lies_in(part: Part) {
+fn lies_in(part: Part, number_of: u32) {
     text(b"in the ");
     part_word(part);
     text(b"\nstatus 2");
-    next_step(part);
+    next_step(part, number_of);
     end_line();
 }
 
 // Internal: a refusal by the reader of a file: no revision was judged.
 pub fn unread(number_of: u32, at: usize, part: Part) {
     refused(number_of, at);
-    lies_in(part);
+    lies_in(part, number_of);
 }
 
 // Internal: a refusal of what was read, by the stage that refused.
@@ -184,7 +184,7 @@ pub fn judged(number_of: u32, at: usize, revision: u32, part: Part) {
     refusal(number_of, at);
     labelled(b" revision ", revision);
     end_line();
-    lies_in(part);
+    lies_in(part, number_of);
 }
 
 // Internal: the refusal of the guard, in one word: the plan is not the one that was last seen with this cursor, or none was. What the command goes by is another
@@ -198,11 +198,21 @@ pub fn unknown(why: &[u8], revision: u32, next: &[u8]) {
     end_line();
 }
 
-// Internal: the refusal of a start where a check has begun: the cursor that stands there.
-pub fn begun(at: Cursor) {
-    told::place(b"refused begun", at);
-    labelled(b" revision ", at.revision);
-    told::place(b"\nin the cursor\nstatus 2 begun", at);
+// What the command goes by: that the check has ended, or where its cursor is.
+fn begun_or_ended(at: Cursor, legs: usize) {
+    if table::wide(at.leg) == legs {
+        text(b"ended\n");
+        return;
+    }
+    told::place(b"begun", at);
     labelled(b" ", at.revision);
     end_line();
+}
+
+// Internal: the refusal of a start where a check has begun: the cursor that is there.
+pub fn begun(at: Cursor, legs: usize) {
+    told::place(b"refused begun", at);
+    labelled(b" revision ", at.revision);
+    text(b"\nin the cursor\nstatus 2 ");
+    begun_or_ended(at, legs);
 }
