@@ -138,7 +138,7 @@ do_library() {
 
 about_install() {
     cat <<'END'
-Puts the following into the folder DIR, which is made where it is not there. A machine without the Rattle kit can run and link
+Puts the following into the folder DIR, which is made if it is missing. A machine without the Rattle kit can run and link
 it; on Arm that takes Debian's packages qemu-user and libc6-amd64-cross.
 
   bin/conepalhui                     this command, for whatever needs no kit

@@ -86,8 +86,8 @@ about_check() {
 Reads the plan file PLAN, or standard input, and checks it whole. It prints two lines: 'legs G places N', and
 'accepted' or 'violated LEG PLACE RULE' with the first violated place. The places of leg a are 0 window, 1 hop,
 2 deadline, and 3 + b for the overlap with each leg b below it. docs/ACCEPTED.md says what the rules are and what
-'accepted' does not cover. A plan that cannot be checked gives one line, 'refused NUMBER AT', and standard error says
-why. Exit status: 0 accepted, 1 violated, 2 refused, 4 where the plan cannot be read.
+'accepted' does not cover. A plan that cannot be checked gives one line, 'refused NUMBER AT' (AT is a record or a
+byte), and standard error says why. Exit status: 0 accepted, 1 violated, 2 refused, 4 where the plan cannot be read.
 END
 }
 
@@ -117,8 +117,8 @@ docs/REFUSALS.md has the numbers. The three words:
             or somebody copied it
   begun     a start on a cursor that is past the first place
 
-NEVER RENAME OR COPY A CURSOR, OR PUT ONE BACK FROM A BACKUP. Beside another CURSOR.seen it would be believed, and slots
-that were moved would never be looked at again.
+NEVER ALTER, RENAME OR COPY A CURSOR, OR PUT ONE BACK FROM A BACKUP. One that fits the plan is believed, and slots that
+were moved would never be looked at again.
 
 Exit status 4, with a message and no answer: an argument is bad, or a file cannot be read or written or was not made
 by these commands. Files are replaced whole, so that they survive a power cut; docs/OPERATIONS.md says what each crash

@@ -79,7 +79,9 @@ take_plan() { # COMMAND [PLAN]
     (($# <= 2)) || stop "$1 takes one plan at most: $(usage "$1")"
     if (($# == 2)); then
         [[ $plan == /* ]] || plan=$from/$plan
-        [[ -f $plan || -p $plan || -c $plan ]] && exec <"$plan" || stop "cannot read the plan $plan"
+        [[ -e $plan ]] || stop "there is no plan $plan"
+        [[ -f $plan || -p $plan || -c $plan ]] || stop "$plan is not a file"
+        [[ -r $plan ]] && exec <"$plan" || stop "the plan $plan may not be read"
     elif [[ -t 0 ]]; then
         note "the plan is read from this terminal: to give a file, $(usage "$1")"
     fi
@@ -136,7 +138,7 @@ hold_folder() { # FOLDER
     flock -w "$patience" "$file"
     case $? in
     0) ;;
-    1) stop "waited $patience seconds for other calls in $1. This call changed nothing: try again" ;;
+    1) stop "waited $patience s for other calls in $1. This call changed nothing: try again" ;;
     *) stop "cannot lock the folder $1" ;;
     esac
 }
@@ -216,15 +218,15 @@ pass_on() { # PLAN CURSOR
     case $why in
     changed) note "$other $(start_anew "$@")" ;;
     damaged) note "$other $(start_by_hand "$@")" ;;
-    unseen) note "there is no $cursor.seen, so nobody can say whether the plan was changed. To check the plan as it is now, from its first place, with a cursor of its own: $(shown_call start "$1" "$2-anew")" ;;
+    unseen) note "there is no $cursor.seen, so nobody can say whether the plan was changed. To check the plan as it is now, from its first place, with a new cursor: $(shown_call start "$1" "$2-2")" ;;
     'begun '*)
         read -r _ leg place revision <<<"$why"
         note "the cursor $2 is at leg $leg, place $place of a check at revision $revision. Nothing was changed." \
-            "If the plan is still the same, this goes on: $(shown_call run "$@" --budget 300)." \
-            "To drop that and start at the first place: $(shown_call start "$@" --anew)"
+            "To go on with that check: $(shown_call run "$@" --budget 300)." \
+            "To drop it and start at the first place: $(shown_call start "$@" --anew)"
         ;;
-    ended) note "the check with the cursor $2 has ended, and a slice gives its verdict again. $(start_anew "$@")" ;;
-    'cursor 8') note "a move was made with another cursor or was cut off. If the cursor's revision is the higher one, this is an old plan, and moves are missing in it. $(start_anew "$@")" ;;
+    ended) note "the check with the cursor $2 has ended. If the plan is still the same, a slice gives its verdict again. $(start_anew "$@")" ;;
+    'cursor 8') note "a move was made with another cursor or was cut off, or one of the two files was exchanged. If the cursor's revision is the higher one, this may be an old plan, and moves are missing in it. $(start_anew "$@")" ;;
     'cursor '*) note "the cursor was altered, or belongs to another plan. $(start_anew "$@")" ;;
     foreign) note "$(start_by_hand "$@")" ;;
     esac
@@ -236,7 +238,7 @@ call() { # VERB PLAN CURSOR WORD...
     local plan cursor held wrote status why given=("$2" "$3")
     prepare operator
     find_files "$2" "$3"
-    [[ $1 != move || -w $plan ]] || stop "the plan $2 is read-only: it can be checked, but not moved"
+    [[ $1 != move || -w $plan ]] || stop "the plan $2 is read-only: it can be checked, but its legs cannot be moved"
     hold_found "$2" "$3"
     consult "$1" "${@:4}"
     release
