@@ -8,10 +8,10 @@ use files::Cursor;
 use files::PlanRead;
 use kept::ours;
 use kept::ours::Standing;
+use kept::refused;
 use kept::saved;
 use kept::saved::Saved;
 use numbers::Written;
-use reasons::cursor;
 use reasons::records;
 use show::answers;
 use show::answers::Part;
@@ -51,11 +51,11 @@ fn cursor_refused(cursor_path: &[u8], t: &[u32], number: u32, at: usize, c: Curs
             judged(t, number, at, Part::Foreign);
         }
         Standing::Free => {
-            cursor::why(t, c);
+            refused::why(t, c);
             judged(t, number, at, Part::Cursor);
         }
         Standing::Begun(_) => {
-            cursor::why(t, c);
+            refused::why(t, c);
             judged(t, number, at, Part::Cursor);
         }
     }
@@ -230,7 +230,7 @@ fn moved(plan_path: &[u8], cursor_path: &[u8], old: &[u8], t: &mut [u32], c: Cur
     let told = checker::move_leg(t, c, mv);
     match told {
         Grant::Refused(number, at, _) => {
-            cursor::why_move(t, mv);
+            refused::why_move(t, mv);
             judged(t, number, at, Part::Move);
         }
         Grant::Granted(d) => {

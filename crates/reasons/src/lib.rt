@@ -5,7 +5,6 @@ ghost use Prim.Native.Nat.{_≤_};
 ghost use lib.ListN.{length};
 use libc::STDERR_FILENO;
 
-pub mod cursor;
 pub mod file;
 mod names;
 pub mod records;
