@@ -76,7 +76,7 @@ run_rt() { # COMMAND CRATE LOG
     host) what="the calls for C" ;;
     esac
     mapfile -t used < <(uses "$2")
-    note "proving and building $what first. This is done once, until the sources change, and takes two to three minutes on two idle cores. If you stop it, what is proved stays proved"
+    note "proving and building $what first. This is done once, until the sources change, and takes about three minutes on two idle cores. If you stop it, what is proved stays proved"
     : >"$3"
     [[ ! -t 2 ]] || { show_build "$3" ${#used[@]} & shower=$!; }
     rt "$1" "$2" >"$3" 2>&1 </dev/null || status=$?
