@@ -208,7 +208,7 @@ start_anew() { # PLAN CURSOR
 
 # Says the same where the program has said that it leaves a file as it is. Once that is gone, the cursor beside it is in the way too.
 start_by_hand() { # PLAN CURSOR
-    printf 'Once neither %q nor %q is there, this checks the plan as it is now, from its first place: %s' "$cursor" "$cursor.seen" "$(shown_call start "$@")"
+    printf 'Unless they are files of your own, remove %q and %q. Then this checks the plan as it is now, from its first place: %s' "$cursor" "$cursor.seen" "$(shown_call start "$@")"
 }
 
 # Prints the answer, and after a refusal that asks for it how to go on or to start anew. The files are named as they were given.
