@@ -21,7 +21,7 @@ enum Beside {
 
 fn left_as_it_is() {
     reasons::text(
-        b". It was left as it is. Start with a new name for the cursor, or remove the cursor and its copy by hand\n",
+        b". It was left as it is. Start with a new name for the cursor; or, unless they are files of your own, remove the cursor and its copy by hand\n",
     );
 }
 
