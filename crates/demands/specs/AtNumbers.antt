@@ -1,4 +1,4 @@
--- Runs at numbers: Plan A with leg 2 at 576, which has twelve places and is accepted, and at 575, which is not; and a table with no legs.
+-- Runs at numbers: Plan A with leg 2 at 672, which has twelve places and is accepted, and at 671, which is not; and a table with no legs.
 use Prim.Native.Nat.{ℕ}
 use mathlib.Core.Path.{_≡_}
 use mathlib.Core.List.{List, [], _∷_, _++_}
@@ -14,11 +14,11 @@ use Rattle.checker.specs.declared.SliceAnswer.the-variants as answer
 use Rattle.demands.specs.Runs.{Call, start, slice, move-leg, Run, Renews, withoutRefused, Since, budgets, HasSlice, HasVerdict}
 
 abbrev pub good : List ℕ
-good = planWith (offsetsA 0 1176 576)
+good = planWith (offsetsA 0 1176 672)
 
 -- One nanosecond earlier legs 0 and 2 meet.
 abbrev pub bad : List ℕ
-bad = planWith (offsetsA 0 1176 575)
+bad = planWith (offsetsA 0 1176 671)
 
 abbrev pub none : List ℕ
 none = 0 ∷ 0 ∷ 0 ∷ 0 ∷ 0 ∷ []

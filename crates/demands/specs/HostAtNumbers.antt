@@ -11,7 +11,7 @@ use Rattle.demands.specs.Verdicts.{violated, nothing-violated}
 use Rattle.demands.specs.HostRuns.{HostCall, start, slice, move-leg, SliceMade, HostRun}
 use Rattle.demands.specs.DemandThreeForC.{HostGives, HostSince, HostRenews, hostBudgets, HostHasVerdict}
 
--- Plan A's file with revision 1 and leg 2 at 576, and how many bytes it has.
+-- Plan A's file with revision 1 and leg 2 at 672, and how many bytes it has.
 abbrev pub movedFile : List ℕ
 movedFile =
     0x01 ∷ 0x02 ∷ 0x02 ∷ 0x03 ∷ 0x64 ∷
@@ -21,7 +21,7 @@ movedFile =
     0xF0 ∷ 0x93 ∷ 0x09 ∷ 0xD0 ∷ 0x0F ∷ 0x40 ∷ 0x02 ∷ 0x01 ∷
     0x00 ∷ 0x00 ∷ 0x00 ∷
     0x00 ∷ 0x01 ∷ 0x98 ∷ 0x09 ∷
-    0x01 ∷ 0x00 ∷ 0xC0 ∷ 0x04 ∷ []
+    0x01 ∷ 0x00 ∷ 0xA0 ∷ 0x05 ∷ []
 
 abbrev pub movedBytes : ℕ
 movedBytes = 42
@@ -51,9 +51,9 @@ twoSlices = slice (saved 0 2 3) 5 (answered 5 1) (left 0 2 3) ∷ ten ∷ []
 abbrev pub violatedInC : List HostCall
 violatedInC = twoSlices ++ begunInC
 
--- A move of leg 2 to 576, for which 4 bytes more are lent than its file has: granted, with the file's length, and cursor (2,0) of revision 1.
+-- A move of leg 2 to 672, for which 4 bytes more are lent than its file has: granted, with the file's length, and cursor (2,0) of revision 1.
 abbrev pub moveInC : HostCall
-moveInC = move-leg (saved 0 2 3) (moveTo 2 576) (answered 0 movedBytes) (lent (movedFile ++ zeros 4) (left 1 2 0))
+moveInC = move-leg (saved 0 2 3) (moveTo 2 672) (answered 0 movedBytes) (lent (movedFile ++ zeros 4) (left 1 2 0))
 
 -- Then a slice of 5 accepts with 5 steps.
 abbrev pub acceptedInC : List HostCall

@@ -20,10 +20,10 @@ pub record StarredCases : Type 0 where
   pub case-2 : wireTime 64 800 ≡ 57600
   pub case-3 : Hop planA 1 × (Hop (planWith (offsetsA 0 1175 0)) 1 → ⊥)
   pub case-4 : Deadline planA 1 × (Deadline (planWith (dueA 2351 0)) 1 → ⊥)
-  pub case-5 : Overlap (planWith (offsetsA 0 1176 576)) 2 0 × (Overlap (planWith (offsetsA 0 1176 575)) 2 0 → ⊥)
-  pub case-6 : Overlap (planWith (offsetsA 0 1176 49424)) 2 0 × (Overlap (planWith (offsetsA 0 1176 49425)) 2 0 → ⊥)
+  pub case-5 : Overlap (planWith (offsetsA 0 1176 672)) 2 0 × (Overlap (planWith (offsetsA 0 1176 671)) 2 0 → ⊥)
+  pub case-6 : Overlap (planWith (offsetsA 0 1176 49328)) 2 0 × (Overlap (planWith (offsetsA 0 1176 49329)) 2 0 → ⊥)
   pub case-7 : Overlap (planWith (offsetsA 0 1176 50000)) 2 0 → ⊥
-  pub case-7-at : HoldsLink (in100000 0 576) 2 200000 × HoldsLink (in150000 50000 576) 1 200000
+  pub case-7-at : HoldsLink (in100000 0 672) 2 200000 × HoldsLink (in150000 50000 672) 1 200000
   pub case-8 : (o0 o2 : ℕ) → Overlap (planWith (periodsA o0 o2)) 2 0 → ⊥
   pub case-9 : Window (planWith (fullA 0)) 0 × (Window (planWith (fullA 1)) 0 → ⊥)
   pub case-10 : (bytesOf 300 ≡ 0xAC ∷ 0x02 ∷ []) × (bytesOf 4294967295 ≡ 0xFF ∷ 0xFF ∷ 0xFF ∷ 0xFF ∷ 0x0F ∷ [])
@@ -32,13 +32,13 @@ pub record StarredCases : Type 0 where
 -- propagation, a deadline by the last leg's own, an overlap by each leg's own hold time. Beside that: an offset past the period is not taken by its remainder; a
 -- deadline is not for a leg that is not the last, and counts from the first leg's offset; legs on different links may be sent at one time.
 pub record MoreCases : Type 0 where
-  pub window-1 : Window (planWith (offsetsB 0 94240 576)) 1 × (Window (planWith (offsetsB 0 94241 576)) 1 → ⊥)
-  pub window-2 : Window (planWith (offsetsB 0 1176 137760)) 2 × (Window (planWith (offsetsB 0 1176 137761)) 2 → ⊥)
+  pub window-1 : Window (planWith (offsetsB 0 93280 672)) 1 × (Window (planWith (offsetsB 0 93281 672)) 1 → ⊥)
+  pub window-2 : Window (planWith (offsetsB 0 1176 137664)) 2 × (Window (planWith (offsetsB 0 1176 137665)) 2 → ⊥)
   pub window-past : Window (planWith (offsetsA 100000 1176 0)) 0 → ⊥
-  pub hop : Hop (planWith (offsetsB 0 1176 576)) 1 × (Hop (planWith (offsetsB 0 1175 576)) 1 → ⊥)
+  pub hop : Hop (planWith (offsetsB 0 1176 672)) 1 × (Hop (planWith (offsetsB 0 1175 672)) 1 → ⊥)
   pub deadline : Deadline (planWith (dueB 7736)) 1 × (Deadline (planWith (dueB 7735)) 1 → ⊥)
-  pub overlap-first : Overlap (planWith (offsetsB 0 1176 576)) 2 0 × (Overlap (planWith (offsetsB 0 1176 575)) 2 0 → ⊥)
-  pub overlap-second : Overlap (planWith (offsetsB 0 1176 37760)) 2 0 × (Overlap (planWith (offsetsB 0 1176 37761)) 2 0 → ⊥)
+  pub overlap-first : Overlap (planWith (offsetsB 0 1176 672)) 2 0 × (Overlap (planWith (offsetsB 0 1176 671)) 2 0 → ⊥)
+  pub overlap-second : Overlap (planWith (offsetsB 0 1176 37664)) 2 0 × (Overlap (planWith (offsetsB 0 1176 37665)) 2 0 → ⊥)
   pub not-last : Deadline (planWith (dueA 1 0)) 0
   pub from-first : Deadline (planWith (dueA 2352 600)) 1 × (Deadline (planWith (dueA 2351 600)) 1 → ⊥)
   pub other-links : Overlap (planWith (offsetsA 0 1176 1176)) 2 1
@@ -50,7 +50,7 @@ pub record PlacesAtNumbers : Type 0 where
   pub window : (PlaceHolds (planWith (fullA 1)) 0 0 → ⊥) × PlaceHolds (planWith (fullA 1)) 0 1 × PlaceHolds (planWith (fullA 1)) 0 2
   pub hop : (PlaceHolds (planWith (offsetsA 0 1175 0)) 1 1 → ⊥) × PlaceHolds (planWith (offsetsA 0 1175 0)) 1 0 × PlaceHolds (planWith (offsetsA 0 1175 0)) 1 2
   pub deadline : (PlaceHolds (planWith (dueA 2351 0)) 1 2 → ⊥) × PlaceHolds (planWith (dueA 2351 0)) 1 0 × PlaceHolds (planWith (dueA 2351 0)) 1 1
-  pub overlap : (PlaceHolds (planWith (offsetsA 0 1176 575)) 2 3 → ⊥) × PlaceHolds (planWith (offsetsA 0 1176 575)) 2 4
+  pub overlap : (PlaceHolds (planWith (offsetsA 0 1176 671)) 2 3 → ⊥) × PlaceHolds (planWith (offsetsA 0 1176 671)) 2 4
 
 -- All tables of these cases are well-formed, whatever their offsets: they are plans.
 pub record CasesArePlans : Type 0 where
@@ -61,9 +61,9 @@ pub record CasesArePlans : Type 0 where
   pub offsets-b : (o0 o1 o2 : ℕ) → WellFormedTable (planWith (offsetsB o0 o1 o2))
   pub due-b : (d : ℕ) → 1 ≤ d → d ≤ 100000 → WellFormedTable (planWith (dueB d))
 
--- A well-formed plan that keeps every rule with two legs on one link: Plan A with leg 2 at 576.
+-- A well-formed plan that keeps every rule with two legs on one link: Plan A with leg 2 at 672.
 pub record AcceptedPlanExists : Type 0 where
-  pub shape : WellFormedTable (planWith (offsetsA 0 1176 576))
-  pub rules : RulesHold (planWith (offsetsA 0 1176 576))
-  pub inside : 2 < legCount (planWith (offsetsA 0 1176 576))
-  pub same-link : legAt (planWith (offsetsA 0 1176 576)) 0 .link ≡ legAt (planWith (offsetsA 0 1176 576)) 2 .link
+  pub shape : WellFormedTable (planWith (offsetsA 0 1176 672))
+  pub rules : RulesHold (planWith (offsetsA 0 1176 672))
+  pub inside : 2 < legCount (planWith (offsetsA 0 1176 672))
+  pub same-link : legAt (planWith (offsetsA 0 1176 672)) 0 .link ≡ legAt (planWith (offsetsA 0 1176 672)) 2 .link
