@@ -14,7 +14,7 @@ use Rattle.rules.specs.Places.{placesOf}
 use Rattle.rules.specs.declared.Asked.the-variants as asked
 use Rattle.rules.proofs.Placing.{place-rule}
 use Rattle.rules.proofs.CasePlaces.{meets-at-2-3, late-at-1-1}
-use Rattle.rules.proofs.AtNumbers.{starred-cases}
+use Rattle.rules.proofs.AtNumbers.{gap-cases, starred-cases}
 use Rattle.places.specs.Order.{rank, PlaceOrEnd}
 use Rattle.places.proofs.Ranks.{below-none}
 use Rattle.checker.specs.Slices.{Starts, Slices}
@@ -111,6 +111,7 @@ runs-at-numbers = record {
   older = (on-good, inr (inl refl), pauses _ _ _ _ _ (omega arith) (omega arith) (omega arith) (omega arith) (omega (arith, ranks)) (omega (arith, ranks)));
   not-newest = λ s. let e : _≡_ {A = ℕ} 0 1 = ap (λ (c : Cursor). c .leg) (s .0) in omega arith;
   altered = (stays-at-end _ _ _ _, λ h. starred-cases .case-5 .1 (h .overlap 2 0 (omega arith) (omega arith) (λ e. omega (arith, e))));
+  of-another-edition = (stays-at-end _ _ _ _, λ h. gap-cases .end-to-end (h .overlap 2 0 (omega arith) (omega arith) (λ e. omega (arith, e))));
   begun-on-bad = begins _ (omega arith);
   not-handed-out = λ r.
       ⊎-elim

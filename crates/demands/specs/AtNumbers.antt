@@ -20,6 +20,10 @@ good = planWith (offsetsA 0 1176 672)
 abbrev pub bad : List ℕ
 bad = planWith (offsetsA 0 1176 671)
 
+-- Leg 2 is sent just when leg 0 is through, without the gap.
+abbrev pub endToEnd : List ℕ
+endToEnd = planWith (offsetsA 0 1176 576)
+
 abbrev pub none : List ℕ
 none = 0 ∷ 0 ∷ 0 ∷ 0 ∷ 0 ∷ []
 
@@ -75,6 +79,8 @@ pub record RunsAtNumbers : Type 0 where
   pub altered : Slices bad (at 0 3 0) 0 (NothingViolated (at 0 3 0) 0) × (RulesHold bad → ⊥)
   pub begun-on-bad : Run begun bad
   pub not-handed-out : Run (slice (at 0 3 0) 0 (NothingViolated (at 0 3 0) 0) ∷ begun) bad → ⊥
+  -- A cursor that was saved under rules without the gap, here at the end of two slots end to end, would be believed too: no cursor outlives its edition of the rules.
+  pub of-another-edition : Slices endToEnd (at 0 3 0) 0 (NothingViolated (at 0 3 0) 0) × (RulesHold endToEnd → ⊥)
   -- No legs: no places, and a budget of 0 is enough once a slice has run.
   pub no-legs : Run (slice (at 0 0 0) 0 (NothingViolated (at 0 0 0) 0) ∷ start (Granted (at 0 0 0)) ∷ []) none
   pub no-places : placeCount none ≡ budgets (slice (at 0 0 0) 0 (NothingViolated (at 0 0 0) 0) ∷ [])

@@ -43,11 +43,12 @@ pub record MoreCases : Type 0 where
   pub from-first : Deadline (planWith (dueA 2352 600)) 1 × (Deadline (planWith (dueA 2351 600)) 1 → ⊥)
   pub other-links : Overlap (planWith (offsetsA 0 1176 1176)) 2 1
 
--- Document 02's L1: how long frames hold their link; and two slots end to end without the gap, of unequal frames, are violated. In Plan B, leg 0 is on the wire for
--- 576 ns and leg 2 for 12,240 ns (case 1). Leg 2 at 576 is sent just when leg 0 is through; at 37,760 its second frame is through at 37,760 + 150,000 + 12,240 =
--- 200,000, just when leg 0 is sent. With the gap of 96 ns both hold, but not with 95 (overlap-first, overlap-second).
+-- Document 02's L1: how long frames hold their link; and two slots end to end without the gap are violated, in Plan A, and in Plan B with unequal frames. There leg 0 is
+-- on the wire for 576 ns and leg 2 for 12,240 ns (case 1). Leg 2 at 576 is sent just when leg 0 is through; at 37,760 its second frame is through at 37,760 + 150,000 +
+-- 12,240 = 200,000, just when leg 0 is sent. With the gap of 96 ns both hold, but not with 95 (overlap-first, overlap-second).
 pub record GapCases : Type 0 where
   pub held : (holdTime 64 8 ≡ 672) × (holdTime 1522 8 ≡ 12336)
+  pub end-to-end : Overlap (planWith (offsetsA 0 1176 576)) 2 0 → ⊥
   pub end-to-end-after : Overlap (planWith (offsetsB 0 1176 576)) 2 0 → ⊥
   pub end-to-end-before : Overlap (planWith (offsetsB 0 1176 37760)) 2 0 → ⊥
 
