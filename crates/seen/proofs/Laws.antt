@@ -27,7 +27,7 @@ use Rattle.seen.specs.declared.Parts.the-variants as parts
 pub front : (s : List ℕ) (at : ℕ) → take (at - 0) (drop 0 s) ≡ take at s
 front s at = let e : at - 0 ≡ at = omega arith in rw e
 
-after : (s : List ℕ) (at : ℕ) → at ≤ length s → take (length s - at) (drop at s) ≡ drop at s
+pub after : (s : List ℕ) (at : ℕ) → at ≤ length s → take (length s - at) (drop at s) ≡ drop at s
 after s at h = take-all (length s - at) (drop at s) (omega (arith, length-drop at s))
 
 -- Where the first part is another plan, the second tells.
@@ -56,7 +56,7 @@ kept-parts s {n} {next} h room =
     }
 
 -- The number of what was kept.
-kept-number : {s f o : List ℕ} → Kept s f o → NumberStands s 0 (length f) (0 + length (bytesOf (length f)))
+pub kept-number : {s f o : List ℕ} → Kept s f o → NumberStands s 0 (length f) (0 + length (bytesOf (length f)))
 kept-number {f = f} {o = o} k =
     record { word = k .size; stands = record { rest = f ++ o; there = k .whole }; ends = refl }
 
@@ -84,7 +84,7 @@ cut-kept s {n} {next} h (inr less) f o k =
     omega (arith, b .0, b .1, length-drop next s)
 
 -- The two plans that were kept are the only ones.
-kept-once : (s f o g p : List ℕ) → Kept s f o → Kept s g p → (g ≡ f) × (p ≡ o)
+pub kept-once : (s f o g p : List ℕ) → Kept s f o → Kept s g p → (g ≡ f) × (p ≡ o)
 kept-once s f o g p k h =
     let b = kept-after s g p (kept-number k) h in
     let c = kept-after s f o (kept-number k) k in

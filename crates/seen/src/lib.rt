@@ -1,17 +1,41 @@
-// What was last seen of a plan, kept beside its cursor: one whole plan file, or two, those before and after a move.
+// What was last seen of a plan, kept beside its cursor under an edition of the rules: one whole plan file, or two, those before and after a move.
 ghost use mathlib.Core.Path.{_≡_};
 ghost use Prim.Native.Nat.{_≤_};
 ghost use lib.ListN.{length};
 ghost use Rattle.basics.specs.Tells.{Tells};
 ghost use Rattle.seen.specs.Seen.{Known, KnownParts, PlanFile, Copy, PlanParts, Splits};
+ghost use Rattle.seen.specs.Editions.{KnownUnder, CopyUnder, FrontTold, RestTold, EditionTold};
 use basics::Holds;
 use files::PlanRead;
 use numbers::Number;
 
-// The most bytes of the number in front, which says how long the first plan is, and the most bytes of all that was seen.
-pub const MAX_SIZE_BYTES: usize = 5;
+// The number that stands before the edition, and the edition of what was kept before editions were named.
+pub const MARK: u32 = 0;
 
-pub const MAX_SEEN_BYTES: usize = MAX_SIZE_BYTES + 2 * files::MAX_FILE_BYTES;
+pub const FIRST_EDITION: u32 = 1;
+
+// The most bytes of the three numbers in front, 1 of the mark, 5 of the edition and 5 of how long the first plan is; and the most bytes of all that is kept.
+pub const MAX_FRONT_BYTES: usize = 1 + 5 + 5;
+
+pub const MAX_SEEN_BYTES: usize = MAX_FRONT_BYTES + 2 * files::MAX_FILE_BYTES;
+
+// Of which edition what was kept is.
+pub enum Of {
+    Edition(u32),
+    Nothing,
+}
+
+// Internal: what stands in front of what was seen: the edition that is named and the position after it; or no edition is named.
+pub enum Front {
+    Named(u32, usize),
+    Unnamed,
+}
+
+// Internal: where what was seen under an edition begins; or the bytes are not kept under that edition.
+pub enum Rest {
+    At(usize),
+    Nowhere,
+}
 
 // Internal: the two plans in what was seen: where the first begins and how many bytes it has; or the bytes do not have that form.
 pub enum Parts {
@@ -68,8 +92,8 @@ fn split(seen: &[u8]) -> Parts
     }
 }
 
-// Internal: whether a plan is one of those that were seen.
-pub fn known(seen: &[u8], plan: &[u8]) -> Holds
+// Whether a plan is one of those that were seen.
+fn known_in(seen: &[u8], plan: &[u8]) -> Holds
     ensures { λ r. ⌜ Tells (Known (now (seen .entry)) (now (plan .entry))) r ⌝ }
 {
     let parts = split(seen);
@@ -108,13 +132,92 @@ fn are_plans(plans: &[u8], at: usize) -> Holds
     }
 }
 
-// Internal: whether bytes are such as are kept beside a cursor, and not those of some other file.
-pub fn is_copy(seen: &[u8]) -> Holds
+// Whether bytes are a copy of one plan or of two.
+fn is_copy_in(seen: &[u8]) -> Holds
     ensures { λ r. ⌜ Tells (Copy (now (seen .entry))) r ⌝ }
 {
     let parts = split(seen);
     match parts {
         Parts::Nowhere => Holds::No,
         Parts::At(next, at) => are_plans(&seen[next..], at),
+    }
+}
+
+// The edition that is named in front, and the position after it.
+fn front_of(seen: &[u8]) -> Front
+    ensures { λ r. ⌜ FrontTold (now (seen .entry)) r ⌝ }
+{
+    let first = numbers::read_number(seen, 0);
+    let Number::Value(mark, at) = first else {
+        return Front::Unnamed;
+    };
+    if mark != MARK {
+        return Front::Unnamed;
+    }
+    let second = numbers::read_number(seen, at);
+    let Number::Value(edition, next) = second else {
+        return Front::Unnamed;
+    };
+    Front::Named(edition, next)
+}
+
+// Where what was seen under an edition begins.
+fn rest_under(seen: &[u8], edition: u32) -> Rest
+    ensures { λ r. ⌜ RestTold (now (seen .entry)) edition r ⌝ }
+{
+    let front = front_of(seen);
+    match front {
+        Front::Unnamed => Rest::Nowhere,
+        Front::Named(named, next) => {
+            if named != edition {
+                return Rest::Nowhere;
+            }
+            Rest::At(next)
+        }
+    }
+}
+
+// Internal: whether a plan is one of those that were seen under an edition of the rules.
+pub fn known(seen: &[u8], edition: u32, plan: &[u8]) -> Holds
+    ensures { λ r. ⌜ Tells (KnownUnder (now (seen .entry)) edition (now (plan .entry))) r ⌝ }
+{
+    let rest = rest_under(seen, edition);
+    match rest {
+        Rest::Nowhere => Holds::No,
+        Rest::At(next) => known_in(&seen[next..], plan),
+    }
+}
+
+// Internal: whether bytes are such as are kept beside a cursor under an edition of the rules, and not those of some other file or edition.
+pub fn is_copy(seen: &[u8], edition: u32) -> Holds
+    ensures { λ r. ⌜ Tells (CopyUnder (now (seen .entry)) edition) r ⌝ }
+{
+    let rest = rest_under(seen, edition);
+    match rest {
+        Rest::Nowhere => Holds::No,
+        Rest::At(next) => is_copy_in(&seen[next..]),
+    }
+}
+
+// Internal: of which edition bytes that were kept are: of the one that they name, or of the first where they are a copy and name none.
+pub fn edition_of(seen: &[u8]) -> Of
+    ensures { λ r. ⌜ EditionTold (now (seen .entry)) r ⌝ }
+{
+    let front = front_of(seen);
+    match front {
+        Front::Unnamed => {
+            let told = is_copy_in(seen);
+            match told {
+                Holds::Yes => Of::Edition(FIRST_EDITION),
+                Holds::No => Of::Nothing,
+            }
+        }
+        Front::Named(edition, next) => {
+            let parts = split(&seen[next..]);
+            match parts {
+                Parts::At(_, _) => Of::Edition(edition),
+                Parts::Nowhere => Of::Nothing,
+            }
+        }
     }
 }

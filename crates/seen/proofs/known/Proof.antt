@@ -1,50 +1,51 @@
--- `seen::known` meets its contract: there is one way to split what was seen, and its parts tell. Assumes nothing.
+-- `seen::known` meets its contract: there is one front, and what comes after it tells. Assumes nothing.
 use borrow.Author.Needs.{needs}
-use Rattle.seen.proofs.Laws.{split-start, split-room, split-known, none-known}
+use Rattle.seen.proofs.Fronts.{rest-start, rest-known, nowhere-known}
 use Rattle.seen.proofs.known.Statement.{statement}
 use Rattle.seen.proofs.known.Tie as tie
 
-split-requires : tie.Need-split-requires
-split-requires c κs = search needs
+rest-under-requires : tie.Need-rest-under-requires
+rest-under-requires c κs = search needs
 
 enum-told : tie.Need-enum-told
 enum-told c = search needs
 
-enum-known-parts : tie.Need-enum-known-parts
-enum-known-parts c = search needs
+enum-known-rest : tie.Need-enum-known-rest
+enum-known-rest c = search needs
 
-sub-known-part : tie.Need-sub-known-part
-sub-known-part c = search split-start
+sub-known-in : tie.Need-sub-known-in
+sub-known-in c = search rest-start
 
-part-known-part-start : tie.Need-part-known-part-start
-part-known-part-start c = search split-start
+part-known-in-start : tie.Need-part-known-in-start
+part-known-in-start c = search rest-start
 
-part-known-part-end : tie.Need-part-known-part-end
-part-known-part-end c = search needs
+part-known-in-end : tie.Need-part-known-in-end
+part-known-in-end c = search needs
 
-known-part-requires : tie.Need-known-part-requires
-known-part-requires c κs = search split-room
+known-in-requires : tie.Need-known-in-requires
+known-in-requires c κs = search needs
 
 returns : tie.Need-returns
-returns c = search none-known
+returns c = search nowhere-known
 
 returns-2 : tie.Need-returns-2
 returns-2 c =
-    let at : tie.After-parts = search in
-    let told : tie.After-split = search in
+    let at : tie.After-rest = search in
+    let told : tie.After-rest-under = search in
     let entry : tie.Start = search in
-    split-known (entry .args .seen .now) (at .parts .given .1) (told .split .ensures) (entry .args .plan .now) (c .known-part .result) (c .known-part .ensures)
+    let a = entry .args in
+    rest-known (a .seen .now) (a .edition) (at .rest .given .1) (told .rest-under .ensures) (a .plan .now) (c .known-in .result) (c .known-in .ensures)
 
 pub known-spec : {M : Type 1} → statement M
 known-spec =
     tie.close
     (tie.spec
-    split-requires
+    rest-under-requires
     enum-told
-    enum-known-parts
-    sub-known-part
-    part-known-part-start
-    part-known-part-end
-    known-part-requires
+    enum-known-rest
+    sub-known-in
+    part-known-in-start
+    part-known-in-end
+    known-in-requires
     returns
     returns-2)

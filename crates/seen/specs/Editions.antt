@@ -1,0 +1,66 @@
+-- What was last seen, and the edition of the rules under which it was seen. The present edition is always an argument.
+use Prim.Native.Nat.{ℕ, _≤_}
+use mathlib.Core.Path.{_≡_}
+use mathlib.Core.List.{List, _++_}
+use mathlib.Core.Logic.{_⊎_}
+use lib.ListN.{length, drop}
+use Rattle.numbers.specs.Number.{maxWord, bytesOf}
+use Rattle.seen.specs.Seen.{Kept, Known, Copy}
+use Rattle.seen.specs.declared.Front.{Front}
+use Rattle.seen.specs.declared.Front.the-variants as front
+use Rattle.seen.specs.declared.Of.{Of}
+use Rattle.seen.specs.declared.Of.the-variants as of
+use Rattle.seen.specs.declared.Rest.{Rest}
+use Rattle.seen.specs.declared.Rest.the-variants as rest
+
+-- The number that stands before the edition. What was kept before editions were named begins with how many bytes a plan file has, and no plan file has 0.
+abbrev pub mark : ℕ
+mark = 0
+
+-- The edition of what was kept before editions were named.
+abbrev pub firstEdition : ℕ
+firstEdition = 1
+
+-- What is kept under an edition of the rules: the mark and the edition, as numbers, and then what was seen.
+pub record Under (s : List ℕ) (edition : ℕ) (rest : List ℕ) : Type 0 where
+  pub word : edition ≤ maxWord
+  pub whole : s ≡ bytesOf mark ++ (bytesOf edition ++ rest)
+
+-- The plan p is one of those that were seen under this edition.
+pub record KnownUnder (s : List ℕ) (edition : ℕ) (p : List ℕ) : Type 0 where
+  pub rest : List ℕ
+  pub under : Under s edition rest
+  pub known : Known rest p
+
+-- s is what is kept beside a cursor under this edition: a copy of one plan or of two.
+pub record CopyUnder (s : List ℕ) (edition : ℕ) : Type 0 where
+  pub rest : List ℕ
+  pub under : Under s edition rest
+  pub copy : Copy rest
+
+-- s names this edition, and after it comes something of the form of what was seen. Whatever stands there for a plan: another edition may have other plan files.
+pub record Names (s : List ℕ) (edition : ℕ) : Type 0 where
+  pub rest : List ℕ
+  pub first : List ℕ
+  pub other : List ℕ
+  pub under : Under s edition rest
+  pub kept : Kept rest first other
+
+-- The edition that s is of: the one that it names; or the first, where s is a copy with nothing in front of it.
+abbrev pub OfEdition : List ℕ → ℕ → Type 0
+OfEdition s edition = Names s edition ⊎ ((edition ≡ firstEdition) × Copy s)
+
+-- Of which edition s is, if of any.
+abbrev pub EditionTold : List ℕ → Of → Type 0
+EditionTold s (of.Edition e) = OfEdition s e
+EditionTold s of.Nothing = (e : ℕ) → OfEdition s e → ⊥
+
+-- The edition that s names in front and the position after it; or s names none.
+abbrev pub FrontTold : List ℕ → Front → Type 0
+FrontTold s (front.Named e next) = (next ≤ length s) × Under s e (drop next s)
+FrontTold s front.Unnamed = (e : ℕ) (r : List ℕ) → Under s e r → ⊥
+
+-- Where what was seen under this edition begins in s; or s is not kept under it.
+abbrev pub RestTold : List ℕ → ℕ → Rest → Type 0
+RestTold s edition (rest.At next) = (next ≤ length s) × Under s edition (drop next s)
+RestTold s edition rest.Nowhere = (r : List ℕ) → Under s edition r → ⊥
