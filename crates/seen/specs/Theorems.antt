@@ -1,0 +1,52 @@
+-- What is proved of what was last seen and of its edition.
+use Prim.Native.Nat.{ℕ}
+use mathlib.Core.Path.{_≡_}
+use mathlib.Core.List.{List, [], _∷_}
+use Rattle.seen.specs.Seen.{Copy}
+use Rattle.seen.specs.Editions.{KnownUnder, CopyUnder, OfEdition}
+
+-- No two editions share what was kept.
+pub record EditionsPartCopies : Type 0 where
+  -- What is known under one edition is known under no other.
+  pub one : (s : List ℕ) (d e : ℕ) (p q : List ℕ) → KnownUnder s d p → KnownUnder s e q → d ≡ e
+  -- What was kept before editions were named is known under none.
+  pub first : (s p : List ℕ) (e : ℕ) → Copy s → KnownUnder s e p → ⊥
+  -- What was kept is of one edition at the most.
+  pub told-once : (s : List ℕ) (d e : ℕ) → OfEdition s d → OfEdition s e → d ≡ e
+  -- A copy under an edition is of that edition.
+  pub copy-told : (s : List ℕ) (e : ℕ) → CopyUnder s e → OfEdition s e
+
+-- A plan file, of revision 9 and nothing else; the copy of it under edition 2; and the one without an edition.
+abbrev pub emptyPlan : List ℕ
+emptyPlan = 0x09 ∷ 0x00 ∷ 0x00 ∷ 0x00 ∷ 0x00 ∷ []
+
+abbrev pub keptUnderTwo : List ℕ
+keptUnderTwo = 0x00 ∷ 0x02 ∷ 0x05 ∷ emptyPlan
+
+abbrev pub keptUnderNone : List ℕ
+keptUnderNone = 0x05 ∷ emptyPlan
+
+-- Three bytes and two, under edition 300.
+abbrev pub twoPlans : List ℕ
+twoPlans = 0x00 ∷ 0xAC ∷ 0x02 ∷ 0x03 ∷ 0x0A ∷ 0x0B ∷ 0x0C ∷ 0x0D ∷ 0x0E ∷ []
+
+-- A length of 6 before 5 bytes.
+abbrev pub tooLong : List ℕ
+tooLong = 0x00 ∷ 0x02 ∷ 0x06 ∷ emptyPlan
+
+-- Copies at numbers.
+pub record CopiesAtNumbers : Type 0 where
+  pub copied : CopyUnder keptUnderTwo 2
+  pub not-three : CopyUnder keptUnderTwo 3 → ⊥
+  pub seen : KnownUnder keptUnderTwo 2 emptyPlan
+  pub named : OfEdition keptUnderTwo 2
+  pub first : KnownUnder twoPlans 300 (0x0A ∷ 0x0B ∷ 0x0C ∷ [])
+  pub other : KnownUnder twoPlans 300 (0x0D ∷ 0x0E ∷ [])
+  -- What is no plan file is of the edition that it names, and no copy.
+  pub form-alone : OfEdition twoPlans 300
+  pub no-plan-files : CopyUnder twoPlans 300 → ⊥
+  -- Without an edition in front: of the first, and known under none.
+  pub unnamed : OfEdition keptUnderNone 1
+  pub unknown : (e : ℕ) (p : List ℕ) → KnownUnder keptUnderNone e p → ⊥
+  -- Of no edition.
+  pub too-long : (e : ℕ) → OfEdition tooLong e → ⊥
