@@ -102,6 +102,7 @@ What start, slice, move and run print on standard output, and their exit status:
   refused NUMBER AT [revision R]                   in the plan|cursor|move  2
   refused changed|unseen revision R                in the plan              2
   refused begun LEG PLACE revision R               in the cursor            2
+  refused edition E revision R                     in the cursor            2
   paused LEG PLACE steps N revision R              places DONE of ALL       3
 
 LEG and PLACE are where the cursor is now. N is how many places the slice looked at; after a run, its last slice. R is
@@ -110,12 +111,14 @@ many places come before the cursor. 'in the ...' says which of the three was ref
 A move has a third line, 'leg LEG from OLD to NEW ns'. A run has one too, 'looked at N places in K slices'.
 
 A refusal changes no file. Standard error says what is wrong and, where another call is needed, which one.
-docs/REFUSALS.md has the numbers. The three words:
+docs/REFUSALS.md has the numbers. The four words:
 
   changed   the plan is not the one last seen with this cursor: it was edited, restored or exchanged
   unseen    there is no CURSOR.seen, the copy of the plan beside the cursor: these commands did not make this cursor,
             or somebody copied it
   begun     a start on a cursor that is past the first place
+  edition   the cursor was saved under edition E of the rules and not under this one (--version): what it has passed was
+            not judged by these rules
 
 NEVER ALTER, RENAME OR COPY A CURSOR, OR PUT ONE BACK FROM A BACKUP. One that fits the plan is believed, and slots that
 were moved would never be looked at again.
@@ -195,7 +198,7 @@ END
 
 about_version() {
     cat <<'END'
-Prints the version, and the edition of the rules. Never go on with a saved cursor under another edition: nothing checks
-that, and it would be believed.
+Prints the version, and the edition of the rules. A cursor that was saved under another edition is refused by slice,
+move and run: start anew.
 END
 }

@@ -219,6 +219,7 @@ pass_on() { # PLAN CURSOR
     changed) note "$other $(start_anew "$@")" ;;
     damaged) note "$other $(start_by_hand "$@")" ;;
     unseen) note "there is no $cursor.seen, so nobody can say whether the plan was changed. To check the plan as it is now, from its first place, with a new cursor: $(shown_call start "$1" "$2-2")" ;;
+    'edition '*) note "the cursor $2 was saved under edition ${why#* } of the rules, and this is edition $(defined CONEPALHUI_EDITION): what it has passed was not judged by these rules. $(start_anew "$@")" ;;
     'begun '*)
         read -r _ leg place revision <<<"$why"
         note "the cursor $2 is at leg $leg, place $place of a check at revision $revision. Nothing was changed." \

@@ -4,18 +4,22 @@ use crate::saved::Saved;
 use basics::Holds;
 use durable::FileRead;
 use files::Cursor;
+use seen::Of;
 
-// What stands where a start makes its files: nothing that would be lost, the cursor of a check that has begun, or a file that is not ours.
+// What stands where a start makes its files: nothing that would be lost, the cursor of a check that has begun, under these rules or under another edition of them, or a file
+// that is not ours.
 pub enum Standing {
     Free,
     Begun(Cursor),
+    OtherEdition(u32),
     NotOurs,
 }
 
-// What stands beside a cursor: nothing, a copy, or a file that is none.
-enum Beside {
+// What stands beside a cursor: nothing, a copy under these rules, a copy under another edition of them, or a file that is none.
+pub(crate) enum Beside {
     Nothing,
     Copy,
+    OtherEdition(u32),
     NotOurs,
 }
 
@@ -59,17 +63,28 @@ fn perhaps_no_cursor(path: &[u8]) {
     left_as_it_is();
 }
 
-// Whether bytes, of which the first n were read, are a copy. Where they are none, that is said.
-pub(crate) fn is_copy(path: &[u8], bytes: &[u8], n: usize) -> bool {
-    if bytes.len() < n {
-        return false;
-    }
-    let told = seen::is_copy(&bytes[0..n]);
+// The copy in a file that names this edition of the rules, or none at all.
+fn present_copy(path: &[u8], kept: &[u8]) -> Beside {
+    let told = seen::is_copy(kept, rules::EDITION);
     match told {
-        Holds::Yes => true,
+        Holds::Yes => Beside::Copy,
         Holds::No => {
             no_copy(path);
-            false
+            Beside::NotOurs
+        }
+    }
+}
+
+// What was kept, by its bytes. Where they are no copy, that is said.
+pub(crate) fn copy_in(path: &[u8], kept: &[u8]) -> Beside {
+    let of = seen::edition_of(kept);
+    match of {
+        Of::Nothing => present_copy(path, kept),
+        Of::Edition(edition) => {
+            if edition == rules::EDITION {
+                return present_copy(path, kept);
+            }
+            Beside::OtherEdition(edition)
         }
     }
 }
@@ -81,10 +96,10 @@ fn copy_beside(path: &[u8]) -> Beside {
         FileRead::Missing => Beside::Nothing,
         FileRead::Failed => Beside::NotOurs,
         FileRead::Bytes(n) => {
-            if is_copy(path, &bytes, n) {
-                return Beside::Copy;
+            if bytes.len() < n {
+                return Beside::NotOurs;
             }
-            Beside::NotOurs
+            copy_in(path, &bytes[0..n])
         }
     }
 }
@@ -104,6 +119,13 @@ fn of_cursor(c: Cursor) -> Standing {
     Standing::Begun(c)
 }
 
+fn of_other_edition(c: Cursor, edition: u32) -> Standing {
+    if is_first(c) {
+        return Standing::Free;
+    }
+    Standing::OtherEdition(edition)
+}
+
 fn with_cursor(path: &[u8], c: Cursor) -> Standing {
     let copy = copy_beside(path);
     match copy {
@@ -112,6 +134,7 @@ fn with_cursor(path: &[u8], c: Cursor) -> Standing {
             Standing::NotOurs
         }
         Beside::Copy => of_cursor(c),
+        Beside::OtherEdition(edition) => of_other_edition(c, edition),
         Beside::NotOurs => Standing::NotOurs,
     }
 }
@@ -121,6 +144,7 @@ fn without_cursor(path: &[u8]) -> Standing {
     match copy {
         Beside::Nothing => Standing::Free,
         Beside::Copy => Standing::Free,
+        Beside::OtherEdition(_) => Standing::Free,
         Beside::NotOurs => Standing::NotOurs,
     }
 }

@@ -1,5 +1,6 @@
 // The saved cursor, and what was last seen of its plan beside it.
 use crate::ours;
+use crate::ours::Beside;
 use basics::Holds;
 use durable::FileRead;
 use files::Cursor;
@@ -61,20 +62,33 @@ pub fn cursor(path: &[u8]) -> Saved {
     }
 }
 
-// Whether the plan is one that was last seen. Where it is not, that is the answer, and it is written; and it is said where the copy is none.
+// Writes why a plan is not known.
+fn unknown(path: &[u8], kept: &[u8], revision: u32) {
+    let copy = ours::copy_in(path, kept);
+    match copy {
+        Beside::OtherEdition(edition) => {
+            answers::other_edition(edition, revision);
+        }
+        Beside::Copy => {
+            answers::unknown(b"changed", revision, b"changed");
+        }
+        Beside::NotOurs => {
+            answers::unknown(b"changed", revision, b"damaged");
+        }
+        Beside::Nothing => {}
+    }
+}
+
+// Whether the plan is one that was last seen, under this edition of the rules. Where it is not, that is the answer, and it is written.
 fn known_in(path: &[u8], bytes: &[u8], n: usize, plan: &[u8], revision: u32) -> bool {
     if bytes.len() < n {
         return false;
     }
-    let told = seen::known(&bytes[0..n], plan);
+    let told = seen::known(&bytes[0..n], rules::EDITION, plan);
     match told {
         Holds::Yes => true,
         Holds::No => {
-            if ours::is_copy(path, bytes, n) {
-                answers::unknown(b"changed", revision, b"changed");
-            } else {
-                answers::unknown(b"changed", revision, b"damaged");
-            }
+            unknown(path, &bytes[0..n], revision);
             false
         }
     }
@@ -116,26 +130,39 @@ pub fn cursor_beside(path: &[u8], c: Cursor) -> bool {
     }
 }
 
-fn sized_beside(name: &[u8], size: &[u8], n: usize, plan: &[u8], other: &[u8]) -> bool {
-    if size.len() < n {
+// Writes a number in front of a copy, and answers where it ends; without room, where it was to begin.
+fn put(number: u32, front: &mut [u8], at: usize) -> usize {
+    let written = numbers::write_number(number, front, at);
+    match written {
+        Written::Bytes(n) => std::num::wrapping_add_usize(at, n),
+        Written::Refused(_, _) => at,
+    }
+}
+
+// Writes what stands in front of a copy, and answers how many bytes it has: the mark, this edition of the rules, and how many bytes the first plan has.
+fn put_front(size: u32, front: &mut [u8]) -> usize {
+    let mut at = put(seen::MARK, front, 0);
+    at = put(rules::EDITION, front, at);
+    put(size, front, at)
+}
+
+fn fronted_beside(name: &[u8], front: &[u8], n: usize, plan: &[u8], other: &[u8]) -> bool {
+    if front.len() < n {
         return false;
     }
-    durable::write_beside(name, &size[0..n], plan, other)
+    durable::write_beside(name, &front[0..n], plan, other)
 }
 
 // Internal: writes what is seen beside its file: a plan, and the other of a move or nothing.
 pub fn seen_beside(path: &[u8], plan: &[u8], other: &[u8]) -> bool {
     let mut name = io::buffer();
     let n = durable::ended(path, b".seen", &mut name);
-    let mut size = [0u8; seen::MAX_SIZE_BYTES];
+    let mut front = [0u8; seen::MAX_FRONT_BYTES];
     if files::MAX_FILE_BYTES < plan.len() {
         return false;
     }
-    let written = numbers::write_number(plan.len() as u32, &mut size, 0);
-    match written {
-        Written::Bytes(m) => sized_beside(&name[..n], &size, m, plan, other),
-        Written::Refused(_, _) => false,
-    }
+    let m = put_front(plan.len() as u32, &mut front);
+    fronted_beside(&name[..n], &front, m, plan, other)
 }
 
 // Internal: gives what was written beside the copy its name.

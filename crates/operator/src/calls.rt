@@ -58,6 +58,10 @@ fn cursor_refused(cursor_path: &[u8], t: &[u32], number: u32, at: usize, c: Curs
             refused::why(t, c);
             judged(t, number, at, Part::Cursor);
         }
+        Standing::OtherEdition(_) => {
+            refused::why(t, c);
+            judged(t, number, at, Part::Cursor);
+        }
     }
 }
 
@@ -108,6 +112,12 @@ fn may_begin(cursor_path: &[u8], t: &[u32], anew: bool) -> bool {
         Standing::Begun(c) => {
             if !anew {
                 answers::begun(c, records::leg_count(t));
+            }
+            anew
+        }
+        Standing::OtherEdition(edition) => {
+            if !anew {
+                answers::other_edition(edition, records::header_word(t, table::REVISION_AT));
             }
             anew
         }

@@ -198,6 +198,14 @@ pub fn unknown(why: &[u8], revision: u32, next: &[u8]) {
     end_line();
 }
 
+// Internal: the refusal of a cursor that was saved under another edition of the rules.
+pub fn other_edition(edition: u32, revision: u32) {
+    labelled(b"refused edition ", edition);
+    labelled(b" revision ", revision);
+    labelled(b"\nin the cursor\nstatus 2 edition ", edition);
+    end_line();
+}
+
 // What the command goes by: that the check has ended, or where its cursor is.
 fn begun_or_ended(at: Cursor, legs: usize) {
     if table::wide(at.leg) == legs {
