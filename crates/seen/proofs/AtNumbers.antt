@@ -11,7 +11,7 @@ use Rattle.numbers.specs.declared.Number.the-variants as number
 use Rattle.numbers.proofs.Computed.{fileBytes, file-is, small-words}
 use Rattle.numbers.proofs.Rows.{file-one}
 use Rattle.seen.specs.Seen.{Kept, PlanFile, Copy}
-use Rattle.seen.specs.Editions.{Under, CopyUnder, OfEdition}
+use Rattle.seen.specs.Editions.{mark, Under, CopyUnder, OfEdition}
 use Rattle.seen.specs.Theorems.{emptyPlan, keptUnderTwo, keptUnderNone, twoPlans, tooLong, CopiesAtNumbers}
 use Rattle.seen.proofs.Laws.{kept-once, cut-after}
 use Rattle.seen.proofs.Fronts.{under-once, plan-bytes, copy-not-under}
@@ -36,10 +36,10 @@ copy : Copy keptUnderNone
 copy = record { first = emptyPlan; other = []; kept = one-plan; plan = plan; rest = inl refl }
 
 under-two : Under keptUnderTwo 2 keptUnderNone
-under-two = record { word = omega arith; whole = rw (number-is 0, number-is 2) }
+under-two = record { word = omega arith; whole = rw (number-is mark, number-is 2) }
 
 under-300 : Under twoPlans 300 (0x03 ∷ 0x0A ∷ 0x0B ∷ 0x0C ∷ 0x0D ∷ 0x0E ∷ [])
-under-300 = record { word = omega arith; whole = rw (number-is 0, number-is 300) }
+under-300 = record { word = omega arith; whole = rw (number-is mark, number-is 300) }
 
 two-plans : Kept (0x03 ∷ 0x0A ∷ 0x0B ∷ 0x0C ∷ 0x0D ∷ 0x0E ∷ []) (0x0A ∷ 0x0B ∷ 0x0C ∷ []) (0x0D ∷ 0x0E ∷ [])
 two-plans = record { size = omega arith; whole = rw (number-is 3) }
@@ -56,7 +56,7 @@ six : NumberStands (0x06 ∷ emptyPlan) 0 6 1
 six = record { word = omega arith; stands = record { rest = emptyPlan; there = rw (number-is 6) }; ends = rw (number-is 6) }
 
 under-too-long : Under tooLong 2 (0x06 ∷ emptyPlan)
-under-too-long = record { word = omega arith; whole = rw (number-is 0, number-is 2) }
+under-too-long = record { word = omega arith; whole = rw (number-is mark, number-is 2) }
 
 too-long : (e : ℕ) → OfEdition tooLong e → ⊥
 too-long e (inl n) =

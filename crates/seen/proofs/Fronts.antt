@@ -1,6 +1,6 @@
 -- What stands in front is two numbers, and a number is read in one way: so there is one edition in front, and one thing after it. Where a number
 -- that is not the mark stands in front, as in a copy without an edition, no edition does. Assumes nothing.
-use Prim.Native.Nat.{ℕ, _+_, _-_, _≤_}
+use Prim.Native.Nat.{ℕ, _+_, _-_, _≤_, _<_}
 use mathlib.Core.Path.{_≡_, refl, _∙_, sym, ap, subst}
 use mathlib.Core.List.{List, [], _∷_, _++_}
 use mathlib.Core.Logic.{inl, inr}
@@ -17,6 +17,7 @@ use Rattle.numbers.specs.declared.Number.the-variants as number
 use Rattle.numbers.proofs.OneNumber.{read-number-one-answer, number-bytes-at-most, word-not-refused}
 use Rattle.numbers.proofs.Rows.{stands-after, file-cons}
 use Rattle.table.specs.Layout.{headWords}
+use Rattle.files.proofs.ComeBack.{file-bytes-at-most}
 use Rattle.seen.specs.Seen.{Known, PlanFile, Copy, Splits}
 use Rattle.seen.specs.Editions.{mark, firstEdition, Under, KnownUnder, CopyUnder, Names, OfEdition, FrontTold, RestTold}
 use Rattle.seen.specs.declared.Front.{Front}
@@ -87,9 +88,13 @@ words-bytes (w ∷ ws) = omega (arith, words-bytes ws, ap length (file-cons w ws
 pub plan-bytes : {p : List ℕ} → PlanFile p → headWords ≤ length p
 plan-bytes (t, f) = omega (arith, words-bytes t, f .complete .head, ap length (f .bytes))
 
+-- And fewer than the mark says.
+plan-short : {p : List ℕ} → PlanFile p → length p < mark
+plan-short (t, f) = omega (arith, file-bytes-at-most .1 t (f .complete), ap length (f .bytes))
+
 -- A copy with nothing in front of it is kept under no edition.
 pub copy-not-under : (s : List ℕ) {e : ℕ} {q : List ℕ} → Copy s → Under s e q → ⊥
-copy-not-under s c u = omega (arith, number-once s (kept-number (c .kept)) (under-mark u) .0, plan-bytes (c .plan))
+copy-not-under s c u = omega (arith, number-once s (kept-number (c .kept)) (under-mark u) .0, plan-short (c .plan))
 
 -- The two numbers in front, as they were read.
 module _ (s : List ℕ) {r : Number} where

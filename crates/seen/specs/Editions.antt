@@ -13,9 +13,10 @@ use Rattle.seen.specs.declared.Of.the-variants as of
 use Rattle.seen.specs.declared.Rest.{Rest}
 use Rattle.seen.specs.declared.Rest.the-variants as rest
 
--- The number that stands before the edition. What was kept before editions were named begins with how many bytes a plan file has, and no plan file has 0.
+-- The number that stands before the edition, by which our file is known. What was kept before editions were named begins with how many bytes a plan file has, and none has
+-- so many. A plan file that somebody put in its place would begin so only at this very revision.
 abbrev pub mark : ℕ
-mark = 0
+mark = 2718281828
 
 -- The edition of what was kept before editions were named.
 abbrev pub firstEdition : ℕ

@@ -10,12 +10,12 @@ use files::PlanRead;
 use numbers::Number;
 
 // The number that stands before the edition, and the edition of what was kept before editions were named.
-pub const MARK: u32 = 0;
+pub const MARK: u32 = 2718281828;
 
 pub const FIRST_EDITION: u32 = 1;
 
-// The most bytes of the three numbers in front, 1 of the mark, 5 of the edition and 5 of how long the first plan is; and the most bytes of all that is kept.
-pub const MAX_FRONT_BYTES: usize = 1 + 5 + 5;
+// The most bytes of the three numbers in front, the mark, the edition and how long the first plan is; and the most bytes of all that is kept.
+pub const MAX_FRONT_BYTES: usize = 5 + 5 + 5;
 
 pub const MAX_SEEN_BYTES: usize = MAX_FRONT_BYTES + 2 * files::MAX_FILE_BYTES;
 
