@@ -213,13 +213,17 @@ impl Calls {
             ("host-move", [leg, offset, _, _]) => self.host_move(Move { leg: *leg, offset: *offset }, room(2), room(3)),
             ("digits", []) => digits(&self.saved),
             ("same", []) => yes(self.plan == self.saved),
-            ("known", []) => {
-                yes(seen(&self.saved).map_or(false, |(first, other)| first == self.plan || other == self.plan))
+            ("known", [edition]) => {
+                let is_known = |seen: Seen| seen.first == self.plan || seen.other == self.plan;
+                yes(seen(&self.saved).map_or(false, |seen| seen.edition == *edition && is_known(seen)))
             }
-            ("copy", []) => yes(seen(&self.saved).map_or(false, |(first, other)| {
-                let is_plan = |file: &[u8]| Plain.read_plan(file).is_ok();
-                is_plan(first) && (other.is_empty() || is_plan(other))
-            })),
+            ("copy", [edition]) => {
+                yes(seen(&self.saved).map_or(false, |seen| seen.edition == *edition && are_plans(seen)))
+            }
+            ("edition", []) => match edition_of(&self.saved) {
+                Some(edition) => format!("edition {}\n", edition),
+                None => "none\n".to_string(),
+            },
             _ => return Err(format!("there is no call '{}' with {} numbers", verb, given.len())),
         })
     }
@@ -249,15 +253,40 @@ fn digits(text: &[u8]) -> String {
     }
 }
 
-/// What was seen of a plan: how many bytes the first has, as a number, that plan, and the other one or nothing.
-fn seen(bytes: &[u8]) -> Option<(&[u8], &[u8])> {
+/// What is kept beside a cursor: the edition of the rules that it was made with, and the plans that were seen.
+#[derive(Clone, Copy)]
+struct Seen<'a> {
+    edition: u32,
+    first: &'a [u8],
+    other: &'a [u8],
+}
+
+/// The edition of all that was kept before an edition was told in it.
+const UNTOLD: u32 = 1;
+
+/// Two plans: how many bytes the first has, as a number, that plan, and the other one or nothing.
+fn plans(bytes: &[u8], edition: u32) -> Option<Seen<'_>> {
     let (size, next) = Plain.number(bytes, 0).ok()?;
-    let plans = &bytes[next..];
-    if plans.len() < size as usize {
-        None
-    } else {
-        Some(plans.split_at(size as usize))
-    }
+    let (first, other) = (bytes.get(next..)?.get(..size as usize)?, bytes.get(next + size as usize..)?);
+    Some(Seen { edition, first, other })
+}
+
+/// The number 0, the edition, and two plans.
+fn seen(bytes: &[u8]) -> Option<Seen<'_>> {
+    let (front, next) = Plain.number(bytes, 0).ok()?;
+    let (edition, next) = Plain.number(bytes, next).ok()?;
+    plans(&bytes[next..], edition).filter(|_| front == 0)
+}
+
+fn are_plans(seen: Seen) -> bool {
+    let is_plan = |file: &[u8]| Plain.read_plan(file).is_ok();
+    is_plan(seen.first) && (seen.other.is_empty() || is_plan(seen.other))
+}
+
+/// The edition that bytes were kept with. No plan has no bytes, so none that tells no edition begins with the number 0.
+fn edition_of(bytes: &[u8]) -> Option<u32> {
+    let untold = || plans(bytes, UNTOLD).filter(|plans| are_plans(*plans));
+    seen(bytes).or_else(untold).map(|seen| seen.edition)
 }
 
 /// What the program prints for these lines.

@@ -186,14 +186,14 @@ impl Batch {
         for (leg, place) in [(0, 0), (1, 2), (2, 3)] {
             self.slice(&bytes, cursor(0, leg, place), 5);
         }
-        for wanted in [Move { leg: 2, offset: 576 }, Move { leg: 0, offset: 600 }] {
+        for wanted in [Move { leg: 2, offset: 672 }, Move { leg: 0, offset: 600 }] {
             self.move_leg(&bytes, cursor(0, 2, 3), wanted, bytes.len() + 1);
             let mut after = plan.clone();
             let moved = Plain.moved(&mut after, Cursor { revision: 0, leg: 2, place: 3 }, wanted);
             let from = moved.expect("Plan A has this leg");
             self.slice(&plan_bytes(&after).into(), cursor_bytes(from), 5);
         }
-        for (leg, offset) in [(1, 1_175), (2, 575), (2, 49_424), (2, 49_425), (2, 50_000)] {
+        for (leg, offset) in [(1, 1_175), (2, 576), (2, 671), (2, 49_328), (2, 49_329), (2, 49_424), (2, 50_000)] {
             let before = plan.legs[leg].offset;
             plan.legs[leg].offset = offset;
             self.slice(&plan_bytes(&plan).into(), cursor(0, 0, 0), u32::MAX);

@@ -129,7 +129,7 @@ pub fn full_line(chance: &mut Chance) -> Plan {
     for number in 0..LIMITS.streams {
         let period = chance.of(&[1, 2, 3, 5, 8, 13]) * 1_000_000;
         plan.streams.push(Stream { period, deadline: 10_000, octets: 64, first_leg: 4 * number, leg_count: 4 });
-        plan.legs.extend((0..4).map(|hop| Leg { stream: number, link: hop, offset: 576 * number + 1_176 * hop }));
+        plan.legs.extend((0..4).map(|hop| Leg { stream: number, link: hop, offset: 672 * number + 1_176 * hop }));
     }
     plan
 }
@@ -224,8 +224,8 @@ impl Rhythm {
     fn some(chance: &mut Chance) -> Rhythm {
         match chance.below(8) {
             0 | 1 => Rhythm::Harmonic(chance.of(&[100_000, 1_000_000, 2_000_000])),
-            2 | 3 => Rhythm::Harmonic(chance.from_to(577, 6_000)),
-            4 => Rhythm::Fibonacci(chance.of(&[1_152, 1_153, 10_000])),
+            2 | 3 => Rhythm::Harmonic(chance.from_to(673, 6_000)),
+            4 => Rhythm::Fibonacci(chance.of(&[1_344, 1_345, 10_000])),
             5 => Rhythm::Coprime,
             6 => Rhythm::Any,
             _ => Rhythm::Edges,
@@ -238,7 +238,11 @@ impl Rhythm {
             Rhythm::Fibonacci(base) => base * chance.of(&[1, 2, 3, 5, 8, 13, 21, 34, 55]),
             Rhythm::Coprime => chance.of(&[100_000, 100_001, 50_000, 150_000]),
             Rhythm::Any => chance.any_size().clamp(LIMITS.period.0, LIMITS.period.1),
-            Rhythm::Edges => chance.of(&[1, 2, 575, 576, 577, 1_152, LIMITS.period.1 - 1, LIMITS.period.1]),
+            // The wire time of the shortest frame, its hold time, and twice the hold time.
+            Rhythm::Edges => {
+                let times = [575, 576, 577, 671, 672, 673, 1_343, 1_344];
+                chance.of(&[&[1, 2, LIMITS.period.1 - 1, LIMITS.period.1], &times[..]].concat())
+            }
         }
     }
 }
@@ -303,8 +307,11 @@ pub fn to_an_edge(chance: &mut Chance, plan: &mut Plan) -> (u32, u32) {
     // What a start has beyond the offset.
     let late = now.start as i64 - now.offset as i64;
     let beside = chance.of(&[0, 0, 1]);
+    // Now and then the edge is where it would be without the gap.
+    let no_gap = chance.one_in(6);
+    let held = |sent: &Sent| if no_gap { sent.wire as i64 } else { sent.hold as i64 };
     let (place, offset) = match rule {
-        WINDOW => (WINDOW as u32, i64::from(now.period) - now.hold as i64 + beside),
+        WINDOW => (WINDOW as u32, i64::from(now.period) - held(&now) + beside),
         HOP if leg > first => {
             let due = arrival(&known(plan, leg - 1), u64::from(plan.precision));
             (HOP as u32, due as i64 - late - beside)
@@ -331,9 +338,9 @@ pub fn to_an_edge(chance: &mut Chance, plan: &mut Plan) -> (u32, u32) {
                 _ => i64::from(u32::MAX - now.period) / common,
             };
             let touching = if chance.one_in(2) {
-                other.offset as i64 + other.hold as i64 - beside
+                other.offset as i64 + held(&other) - beside
             } else {
-                other.offset as i64 - now.hold as i64 + beside
+                other.offset as i64 - held(&now) + beside
             };
             let once = touching.rem_euclid(common) + times * common;
             (OVERLAPS + at as u32, if once > i64::from(u32::MAX) { touching.rem_euclid(common) } else { once })

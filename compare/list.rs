@@ -18,7 +18,9 @@ type Spelled<T> = Result<T, String>;
 
 /// The calls that take a plan and a cursor as bytes.
 fn on_bytes(verb: &str) -> bool {
-    verb.starts_with("host-") || verb.starts_with("read-") || matches!(verb, "digits" | "same" | "known" | "copy")
+    verb.starts_with("host-")
+        || verb.starts_with("read-")
+        || matches!(verb, "digits" | "same" | "known" | "copy" | "edition")
 }
 
 pub fn number(text: &str) -> Spelled<u32> {

@@ -59,6 +59,8 @@ pub const LIMITS: Limits = Limits {
 
 /// The octets of preamble and start delimiter, which go before each frame.
 pub const PREAMBLE: u32 = 8;
+/// The octets of the gap after each frame, for which its link has to be free of others: 96 bit times of IEEE 802.3.
+pub const GAP: u32 = 12;
 
 // ---- Rules, in the order of their places in a leg
 

@@ -2,7 +2,7 @@
 
 use crate::check::Checker;
 use crate::format::{Leg, Plan, Stream};
-use crate::paper::PREAMBLE;
+use crate::paper::{GAP, PREAMBLE};
 
 /// What the rules have to know of one leg.
 #[derive(Clone, Copy)]
@@ -11,9 +11,9 @@ pub struct Sent {
     pub offset: u64,
     /// When it is sent on its way through the network: for hop and deadline.
     pub start: u64,
-    /// How long the frame is on the wire: for hop and deadline.
+    /// How long the frame is on the wire: for hop and deadline, since an arrival does not wait for the gap.
     pub wire: u64,
-    /// How long it holds the link: for window and overlap.
+    /// How long it holds the link, the gap after it included: for window and overlap.
     pub hold: u64,
     pub propagation: u64,
     pub period: u32,
@@ -25,9 +25,9 @@ pub fn wire_time<C: Checker>(_: &C, octets: u32, ns_per_octet: u32) -> u64 {
     (u64::from(octets) + u64::from(PREAMBLE)) * u64::from(ns_per_octet)
 }
 
-/// For how long a frame holds its link. That is its wire time.
+/// For how long a frame holds its link: for its wire time, and for the gap after it, in which no other frame may begin.
 pub fn hold_time<C: Checker>(_: &C, octets: u32, ns_per_octet: u32) -> u64 {
-    (u64::from(octets) + u64::from(PREAMBLE)) * u64::from(ns_per_octet)
+    (u64::from(octets) + u64::from(PREAMBLE) + u64::from(GAP)) * u64::from(ns_per_octet)
 }
 
 /// When a leg starts, as hop and deadline count. That is its offset.

@@ -7,12 +7,12 @@ use crate::format::{
     self, plan_bytes, refused, table_words, Cursor, Link, Move, Numbers, Outcome, Plan, Refusal, Stream,
 };
 use crate::paper::{
-    Limits, ABOVE_LIMIT, BAD_FORM, CURSOR_BYTES, DEADLINE, ENDS_EARLY, GROUP_BITS, HEADER_WORDS, HOP, LAST_REVISION,
-    LEFT_OVER, LEG_WRONG, LIMITS, LINK_RANGE, LINK_TWICE, MORE, NOTHING_VIOLATED, NO_PLACE, NO_ROOM, NUMBER_BYTES,
-    OVERLAP, OVERLAPS, PAUSED, PREAMBLE, REFUSED, RULES, STREAM_WRONG, VIOLATED, WINDOW,
+    Limits, ABOVE_LIMIT, BAD_FORM, CURSOR_BYTES, DEADLINE, ENDS_EARLY, GAP, GROUP_BITS, HEADER_WORDS, HOP,
+    LAST_REVISION, LEFT_OVER, LEG_WRONG, LIMITS, LINK_RANGE, LINK_TWICE, MORE, NOTHING_VIOLATED, NO_PLACE, NO_ROOM,
+    NUMBER_BYTES, OVERLAP, OVERLAPS, PAUSED, PREAMBLE, REFUSED, RULES, STREAM_WRONG, VIOLATED, WINDOW,
 };
 use crate::reasons;
-use crate::rules::{arrival, divisor, sent, Sent};
+use crate::rules::{self, arrival, divisor, sent, Sent};
 use crate::shape;
 use std::cell::Cell;
 use std::panic::{catch_unwind, set_hook, take_hook, AssertUnwindSafe};
@@ -414,10 +414,10 @@ fn named<K: Ord>(plan: &Plan, from: Cursor, budget: u32, key: impl Fn(u32, u32) 
     Sliced { result: RULES[rule_at(place).0].result, cursor, steps: places_before(cursor) as u32 + 1 }
 }
 
-/// Other times on the wire, of frames that hold their links no longer.
+/// Other times on the wire. A frame holds its link as long as one with the octets of the gap besides is on the wire.
 fn timed(c: &mut Bent, time: fn(&Bent, u32, u32) -> u64) {
     c.wire_time = time;
-    c.hold_time = time;
+    c.hold_time = |c, octets, rate| c.wire_time(octets + GAP, rate);
 }
 
 /// The sum of octets and others, by ns per octet.
@@ -431,6 +431,11 @@ fn hop(leg: &Sent, previous: Sent, precision: u64) -> bool {
 
 fn due(last: Sent, first: &Sent, precision: u64) -> bool {
     Plain.deadline_holds(&last, first, precision)
+}
+
+/// A leg that holds its link for its time on the wire alone.
+fn without_gap(leg: &Sent) -> Sent {
+    Sent { hold: leg.wire, ..*leg }
 }
 
 /// The right rule at a place, but for those of one rule.
@@ -486,6 +491,11 @@ fn of_times() -> Vec<Wrong> {
         wrong("the least ns per octet on each link", |c| {
             timed(c, |_, octets, _| octets_sent(octets, PREAMBLE, LIMITS.rates[0]))
         }),
+        wrong("no gap", |c| c.hold_time = rules::wire_time),
+        wrong("a gap on the wire", |c| c.wire_time = rules::hold_time),
+        wrong("a gap in ns", |c| c.hold_time = |_, octets, rate| Plain.wire_time(octets, rate) + u64::from(GAP)),
+        wrong("a gap of 96 octets", |c| c.hold_time = |_, octets, rate| octets_sent(octets, PREAMBLE + 96, rate)),
+        wrong("window without the gap", |c| c.window_holds = |_, leg| leg.offset + leg.wire <= u64::from(leg.period)),
         wrong("window without the hold time", |c| c.window_holds = |_, leg| leg.offset <= u64::from(leg.period)),
         wrong("window without its last ns", |c| {
             c.window_holds = |_, leg| leg.offset + leg.hold < u64::from(leg.period)
@@ -509,6 +519,9 @@ fn of_hops() -> Vec<Wrong> {
         wrong("hop without the precision", |c| c.hop_holds = |_, leg, previous, _| hop(leg, *previous, 0)),
         wrong("hop without the wire time", |c| {
             c.hop_holds = |_, leg, previous, precision| hop(leg, Sent { wire: 0, ..*previous }, precision)
+        }),
+        wrong("hop with the gap", |c| {
+            c.hop_holds = |_, leg, previous, precision| hop(leg, Sent { wire: previous.hold, ..*previous }, precision)
         }),
         wrong("hop without the propagation", |c| {
             c.hop_holds = |_, leg, previous, precision| hop(leg, Sent { propagation: 0, ..*previous }, precision)
@@ -542,6 +555,9 @@ fn of_deadlines() -> Vec<Wrong> {
         wrong("deadline on every leg", |c| c.holds = on_each),
         wrong("deadline without the wire time", |c| {
             c.deadline_holds = |_, last, first, precision| due(Sent { wire: 0, ..*last }, first, precision)
+        }),
+        wrong("deadline with the gap", |c| {
+            c.deadline_holds = |_, last, first, precision| due(Sent { wire: last.hold, ..*last }, first, precision)
         }),
         wrong("deadline without the propagation", |c| {
             c.deadline_holds = |_, last, first, precision| due(Sent { propagation: 0, ..*last }, first, precision)
@@ -585,10 +601,26 @@ fn of_overlaps() -> Vec<Wrong> {
     let not_before = |_: &Bent, plan: &Plan, leg: usize, place: u32| {
         but_for(OVERLAP, plan, leg, place, |other| other + 1 == leg || Plain.holds(plan, leg, place))
     };
+    let half_of_each = |_: &Bent, a: &Sent, b: &Sent| {
+        let half = |leg: &Sent| Sent { hold: (leg.wire + leg.hold) / 2, ..*leg };
+        Plain.apart(&half(a), &half(b))
+    };
+    let lower_offset = |_: &Bent, a: &Sent, b: &Sent| {
+        if a.offset < b.offset {
+            Plain.apart(a, &without_gap(b))
+        } else {
+            Plain.apart(&without_gap(a), b)
+        }
+    };
     let exchanged =
         |_: &Bent, a: &Sent, b: &Sent| Plain.apart(&Sent { hold: b.hold, ..*a }, &Sent { hold: a.hold, ..*b });
     vec![
         wrong("overlap with the hold times exchanged", |c| c.apart = exchanged),
+        wrong("overlap without the gap", |c| c.apart = |_, a, b| Plain.apart(&without_gap(a), &without_gap(b))),
+        wrong("overlap without the gap of the later leg", |c| c.apart = |_, a, b| Plain.apart(&without_gap(a), b)),
+        wrong("overlap without the gap of the earlier leg", |c| c.apart = |_, a, b| Plain.apart(a, &without_gap(b))),
+        wrong("overlap with half the gap of each leg", |c| c.apart = half_of_each),
+        wrong("overlap with the gap of the leg of the lower offset alone", |c| c.apart = lower_offset),
         wrong("overlap with an absolute difference", |c| c.apart = absolute),
         wrong("overlap with a difference in 32 bits", |c| c.apart = difference_in_32_bits),
         wrong("overlap in the first periods only", |c| {
