@@ -75,7 +75,7 @@ fn asked(verb: &[u8], rest: &[u8], table: &[u32], plan: &[u8], saved: &[u8], cur
     if host_calls::asked(verb, numbers, plan, saved) {
         return;
     }
-    if tool_calls::asked(verb, plan, saved) {
+    if tool_calls::asked(verb, numbers, plan, saved) {
         return;
     }
     show::text(b"bad line: ");

@@ -2,6 +2,7 @@
 use crate::text;
 use basics::Holds;
 use decimal::Decimal;
+use seen::Of;
 
 fn digits(bytes: &[u8]) {
     let read = decimal::read_decimal(bytes);
@@ -35,7 +36,38 @@ fn holds(told: Holds) {
     }
 }
 
-pub(crate) fn asked(verb: &[u8], plan: &[u8], saved: &[u8]) -> bool {
+fn edition(saved: &[u8]) {
+    let told = seen::edition_of(saved);
+    match told {
+        Of::Edition(number) => {
+            show::text(b"edition ");
+            show::number(number as u64);
+        }
+        Of::Nothing => {
+            show::text(b"none");
+        }
+    }
+    show::end_line();
+}
+
+// A call on what is kept beside a cursor, with an edition of the rules.
+fn asked_of_copy(verb: &[u8], number: u32, plan: &[u8], saved: &[u8]) -> bool {
+    if text::is(verb, b"known") {
+        holds(seen::known(saved, number, plan));
+        return true;
+    }
+    if text::is(verb, b"copy") {
+        holds(seen::is_copy(saved, number));
+        return true;
+    }
+    if text::is(verb, b"edition") {
+        edition(saved);
+        return true;
+    }
+    false
+}
+
+pub(crate) fn asked(verb: &[u8], numbers: [u32; 4], plan: &[u8], saved: &[u8]) -> bool {
     if text::is(verb, b"digits") {
         digits(saved);
         return true;
@@ -44,13 +76,5 @@ pub(crate) fn asked(verb: &[u8], plan: &[u8], saved: &[u8]) -> bool {
         holds(seen::same(plan, saved));
         return true;
     }
-    if text::is(verb, b"known") {
-        holds(seen::known(saved, plan));
-        return true;
-    }
-    if text::is(verb, b"copy") {
-        holds(seen::is_copy(saved));
-        return true;
-    }
-    false
+    asked_of_copy(verb, numbers[0], plan, saved)
 }
