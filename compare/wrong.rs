@@ -494,6 +494,8 @@ fn of_times() -> Vec<Wrong> {
         wrong("no gap", |c| c.hold_time = rules::wire_time),
         wrong("a gap on the wire", |c| c.wire_time = rules::hold_time),
         wrong("a gap in ns", |c| c.hold_time = |_, octets, rate| Plain.wire_time(octets, rate) + u64::from(GAP)),
+        // At the greatest rate 96 bit times are 96 ns.
+        wrong("a gap of 96 ns on each link", |c| c.hold_time = |_, octets, rate| Plain.wire_time(octets, rate) + 96),
         wrong("a gap of 96 octets", |c| c.hold_time = |_, octets, rate| octets_sent(octets, PREAMBLE + 96, rate)),
         wrong("window without the gap", |c| c.window_holds = |_, leg| leg.offset + leg.wire <= u64::from(leg.period)),
         wrong("window without the hold time", |c| c.window_holds = |_, leg| leg.offset <= u64::from(leg.period)),
