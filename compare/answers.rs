@@ -12,6 +12,9 @@ type Told = Result<String, String>;
 const MARK: u8 = 0xEE;
 const WORD_MARK: u32 = 7777;
 
+/// The number that what is kept beside a cursor begins with.
+const SEEN_MARK: u32 = 2_718_281_828;
+
 struct Calls {
     table: Vec<u32>,
     plan: Vec<u8>,
@@ -271,11 +274,11 @@ fn plans(bytes: &[u8], edition: u32) -> Option<Seen<'_>> {
     Some(Seen { edition, first, other })
 }
 
-/// The number 0, the edition, and two plans.
+/// The mark, the edition, and two plans.
 fn seen(bytes: &[u8]) -> Option<Seen<'_>> {
     let (front, next) = Plain.number(bytes, 0).ok()?;
     let (edition, next) = Plain.number(bytes, next).ok()?;
-    plans(&bytes[next..], edition).filter(|_| front == 0)
+    plans(&bytes[next..], edition).filter(|_| front == SEEN_MARK)
 }
 
 fn are_plans(seen: Seen) -> bool {
@@ -283,7 +286,7 @@ fn are_plans(seen: Seen) -> bool {
     is_plan(seen.first) && (seen.other.is_empty() || is_plan(seen.other))
 }
 
-/// The edition that bytes were kept with. No plan has no bytes, so none that tells no edition begins with the number 0.
+/// The edition that bytes were kept with. No plan has as many bytes as the mark says, so none that tells no edition begins with it.
 fn edition_of(bytes: &[u8]) -> Option<u32> {
     let untold = || plans(bytes, UNTOLD).filter(|plans| are_plans(*plans));
     seen(bytes).or_else(untold).map(|seen| seen.edition)

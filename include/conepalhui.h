@@ -80,7 +80,7 @@
  * The edition of the rules: what a plan file, a place and a cursor mean. docs/ACCEPTED.md says what they mean in this
  * one. After an upgrade to another edition destroy every saved cursor and start the check anew: nothing checks it.
  */
-#define CONEPALHUI_EDITION 1
+#define CONEPALHUI_EDITION 2
 
 /*
  * What holds of every call
