@@ -40,9 +40,12 @@
  *      under other names go on: their cursors are never given with this plan, nor those of this run with another plan.
  *   5. Backups. A cursor from a backup is never put back. A plan that was put back goes on only where it is byte by
  *      byte the plan of rule 2; otherwise remove the saved cursor and begin a new run.
+ *   6. The edition. A saved cursor does not outlive the edition of the rules (CONEPALHUI_EDITION, see there). Save the
+ *      edition beside it, and begin a new run where it is another one. With a new archive, build the program anew with
+ *      the header that belongs to it.
  *
- * Where 1 to 3 are kept, and memory is lent as below, this is proved of every run (crates/demands/specs: HostRuns.antt,
- * DemandThreeForC.antt):
+ * Where 1 to 3 are kept, and memory is lent as below, this is proved of every run that begins and ends with one archive
+ * (crates/demands/specs: HostRuns.antt, DemandThreeForC.antt):
  *
  *   - A slice that tells 0, or 2 to 5, tells the verdict of a whole check of the plan as it stands then.
  *   - A verdict comes in time. Take a start or a move of the run and the slices after it, up to the next start or move,
@@ -55,13 +58,15 @@
  * THE LIBRARY CANNOT SEE WHETHER THEY ARE KEPT. A cursor knows its plan by the revision alone. It is refused where that
  * is another one (8) or where the plan has no such place (9), and is believed otherwise. Take two plans of one revision
  * and one number of legs, of which the first keeps the rules and the second does not. The last cursor of the first,
- * given with the second, is answered with 0: nothing violated.
+ * given with the second, is answered with 0: nothing violated. So is the last cursor of a plan that kept the rules of
+ * an earlier edition, and does not keep those of today.
  *
- * So whoever keeps plan and cursor in files also keeps a whole copy of the plan that the cursor belongs to. Before the
- * answer to a saved cursor is believed, plan and copy are compared byte by byte; if they differ, a new check starts.
- * examples/host.c does so, and may be killed at any moment: a move saves the plan, the copy and the cursor, in this
- * order; a start first removes the old cursor, so that it lasts (its folder is synced), then saves the copy and the new
- * cursor. Like the cursor, the copy is never put back from a backup.
+ * So whoever keeps plan and cursor in files also keeps a whole copy of the plan that the cursor belongs to, and the
+ * edition at the head of that copy, in one file. Before the answer to a saved cursor is believed, the edition is
+ * compared, and plan and copy byte by byte; if they differ, a new check starts. examples/host.c does so, and may be
+ * killed at any moment: a move saves the plan, the copy and the cursor, in this order; a start first removes the old
+ * cursor, so that it lasts (its folder is synced), then saves the copy and the new cursor. Like the cursor, the copy is
+ * never put back from a backup.
  */
 #ifndef CONEPALHUI_H
 #define CONEPALHUI_H
@@ -70,15 +75,24 @@
 #include <stdint.h>
 
 /* The version of this header and of the archive that it belongs to. A NUMBER is 10000 MAJOR + 100 MINOR + PATCH. */
-#define CONEPALHUI_VERSION "1.0.0"
-#define CONEPALHUI_VERSION_MAJOR 1
+#define CONEPALHUI_VERSION "2.0.0"
+#define CONEPALHUI_VERSION_MAJOR 2
 #define CONEPALHUI_VERSION_MINOR 0
 #define CONEPALHUI_VERSION_PATCH 0
-#define CONEPALHUI_VERSION_NUMBER 10000
+#define CONEPALHUI_VERSION_NUMBER 20000
 
 /*
- * The edition of the rules: what a plan file, a place and a cursor mean. docs/ACCEPTED.md says what they mean in this
- * one. After an upgrade to another edition destroy every saved cursor and start the check anew: nothing checks it.
+ * The edition of the rules: what a plan file, a place and a cursor mean, and when a place holds. It is raised whenever
+ * one of them changes. docs/ACCEPTED.md says what they are in this one.
+ *
+ *   1   the first
+ *   2   a leg holds its link 12 octets longer, in window and overlap: for the gap between frames
+ *
+ * A SAVED CURSOR DOES NOT OUTLIVE ITS EDITION. It tells that all places before it hold by the rules of its own day, and
+ * by those of today some may be violated, which would never be looked at again. The library cannot see this: a cursor
+ * has no edition, and the plan keeps its revision. So whoever saves cursors saves the edition beside them and starts
+ * anew where it is another one, be it higher or lower, as examples/host.c does. The number here is the archive's only
+ * where header and archive belong together: rebuild the program with the header of the new archive.
  */
 #define CONEPALHUI_EDITION 2
 
@@ -125,10 +139,10 @@ enum {
     CONEPALHUI_NOTHING_VIOLATED = 0, /* a slice: nothing is violated from its cursor on, and the check is done */
     CONEPALHUI_GRANTED = 0,          /* start and move: done */
     CONEPALHUI_PAUSED = 1,           /* paused: the budget is used up, and all that was looked at holds */
-    CONEPALHUI_WINDOW = 2,           /* violated: the frame is not through at the end of its period */
+    CONEPALHUI_WINDOW = 2,           /* violated: the frame, with the gap after it, is not through in its period */
     CONEPALHUI_HOP = 3,              /* violated: the frame is sent on before it has arrived from its previous link */
     CONEPALHUI_DEADLINE = 4,         /* violated: the frame arrives at its last node after its deadline */
-    CONEPALHUI_OVERLAP = 5,          /* violated: two frames want one link at some time */
+    CONEPALHUI_OVERLAP = 5,          /* violated: two frames, each with the gap after it, want one link at some time */
     CONEPALHUI_REFUSED = 100         /* plus the number of the refusal, 101 to 115 */
 };
 
@@ -207,10 +221,10 @@ static inline const char *conepalhui_text(uint32_t result)
     switch (result) {
     case CONEPALHUI_NOTHING_VIOLATED: return "after a slice: nothing violated; after a start or a move: granted";
     case CONEPALHUI_PAUSED: return "paused: the budget is used up, and all that was looked at holds";
-    case CONEPALHUI_WINDOW: return "violated: the frame is not through at the end of its period";
+    case CONEPALHUI_WINDOW: return "violated: the frame, with the gap after it, is not through in its period";
     case CONEPALHUI_HOP: return "violated: the frame is sent on before it has arrived from its previous link";
     case CONEPALHUI_DEADLINE: return "violated: the frame arrives at its last node after its deadline";
-    case CONEPALHUI_OVERLAP: return "violated: two frames want one link at some time";
+    case CONEPALHUI_OVERLAP: return "violated: two frames, each with the gap after it, want one link at some time";
     case CONEPALHUI_REFUSED + 1: return "the table has fewer than five words";
     case CONEPALHUI_REFUSED + 2: return "more links, streams or legs than are allowed, or too high a precision";
     case CONEPALHUI_REFUSED + 3: return "the table has another length than its header says";
