@@ -204,14 +204,13 @@ static const char *const plan_last = PLAN_A("FF FF FF FF 0F", "00", "00"); /* at
 
 static void numbered_cases(void)
 {
-    const char *moved_2 = PLAN_A("01", "00", "C0 04"), *moved_0 = PLAN_A("01", "D8 04", "00");
-    const char *late = "00 01 01 01 64 01 02 08 F4 03 A0 8D 06 97 09 40 00 01 00 00 00";
+    const char *moved_2 = PLAN_A("01", "00", "A0 05"), *moved_0 = PLAN_A("01", "D8 04", "00");
     start("case 11, start", plan_a, 15, gives(0, 12, "00 00 00"));
     slice("case 11, first", plan_a, "00 00 00", 5, 15, gives(1, 5, "00 01 02"));
     slice("case 11, second", plan_a, "00 01 02", 5, 15, gives(1, 5, "00 02 03"));
     slice("case 11, third", plan_a, "00 02 03", 5, 15, gives(5, 1, "00 02 03"));
     slice("case 11, at once", plan_a, "00 00 00", TOP, 15, gives(5, 11, "00 02 03"));
-    move("case 12, move", plan_a, "00 02 03", (struct moved){2, 576}, 42, 15, grants(42, "01 02 00", moved_2));
+    move("case 12, move", plan_a, "00 02 03", (struct moved){2, 672}, 42, 15, grants(42, "01 02 00", moved_2));
     slice("case 12, slice", moved_2, "01 02 00", 5, 15, gives(0, 5, "01 03 00"));
     slice("case 12, four", moved_2, "01 02 00", 4, 15, gives(1, 4, "01 02 04"));
     move("case 13, move", plan_a, "00 02 03", (struct moved){0, 600}, 42, 15, grants(42, "01 00 00", moved_0));
@@ -223,7 +222,40 @@ static void numbered_cases(void)
     slice("budget 0", plan_a, "00 01 02", 0, 15, gives(1, 0, "00 01 02"));
     slice("believed: the end of another plan", plan_a, "00 03 00", 0, 15, gives(0, 0, "00 03 00"));
     slice("window", PLAN_A("00", "A1 8D 06", "00"), "00 00 00", 9, 15, gives(2, 1, "00 00 00"));
-    slice("deadline", late, "00 00 00", 9, 15, gives(4, 3, "00 00 02"));
+}
+
+/*
+ * A leg holds its link for preamble, frame and the gap after it: 8 + 64 + 12 octets at 8 ns are 672 ns. Hop and
+ * deadline are without the gap: 576 ns. Each is tried at the last number that holds, and at the first that does not.
+ */
+static void gap_cases(void)
+{
+    const char *in_time = "00 01 01 01 64 01 02 08 F4 03 A0 8D 06 98 09 40 00 01 00 00 00"; /* deadline 1,176 */
+    const char *late = "00 01 01 01 64 01 02 08 F4 03 A0 8D 06 97 09 40 00 01 00 00 00";    /* and 1,175 */
+    slice("window, 99,328", PLAN_A("00", "80 88 06", "00"), "00 00 00", 1, 15, gives(1, 1, "00 00 01"));
+    slice("window, 99,329", PLAN_A("00", "81 88 06", "00"), "00 00 00", 1, 15, gives(2, 1, "00 00 00"));
+    slice("overlap, 672", PLAN_A("00", "00", "A0 05"), "00 02 03", 1, 15, gives(1, 1, "00 02 04"));
+    slice("overlap, 671", PLAN_A("00", "00", "9F 05"), "00 02 03", 1, 15, gives(5, 1, "00 02 03"));
+    slice("overlap, 576, accepted in edition 1", PLAN_A("00", "00", "C0 04"), "00 00 00", TOP, 15,
+          gives(5, 11, "00 02 03"));
+    slice("overlap, 49,328", PLAN_A("00", "00", "B0 81 03"), "00 02 03", 1, 15, gives(1, 1, "00 02 04"));
+    slice("overlap, 49,329", PLAN_A("00", "00", "B1 81 03"), "00 02 03", 1, 15, gives(5, 1, "00 02 03"));
+    slice("hop, 0", PLAN_A("00", "00", "00"), "00 01 01", 1, 15, gives(1, 1, "00 01 02"));
+    slice("hop, 1", PLAN_A("00", "01", "00"), "00 01 01", 1, 15, gives(3, 1, "00 01 01"));
+    slice("deadline, 1,176", in_time, "00 00 00", 9, 15, gives(0, 3, "00 01 00"));
+    slice("deadline, 1,175", late, "00 00 00", 9, 15, gives(4, 3, "00 00 02"));
+}
+
+/*
+ * A cursor does not know its edition. Edition 1 accepted Plan A with leg 2 at 576 ns, and its cursors are believed
+ * still: so whoever saves cursors keeps the edition beside them.
+ */
+static void cursors_of_edition_1(void)
+{
+    const char *plan = PLAN_A("01", "00", "C0 04");
+    slice("believed: the end of a check in edition 1", plan, "01 03 00", 5, 15, gives(0, 0, "01 03 00"));
+    slice("believed: a pause after the place that is violated now", plan, "01 02 04", 5, 15, gives(0, 1, "01 03 00"));
+    slice("from its first place it is violated", plan, "01 00 00", TOP, 15, gives(5, 11, "01 02 03"));
 }
 
 /* Each plan here is refused in the same way by all three calls, with the position of its refusal. */
@@ -437,7 +469,7 @@ static void make_largest(void)
             add_number((const uint32_t[]){1000000000, 1000000000, 64, 4 * stream, 4}[i]);
     for (uint32_t leg = 0; leg < 2048; leg++)
         for (int i = 0; i < 3; i++)
-            add_number((const uint32_t[]){leg / 4, leg % 4, leg / 4 * 576 + leg % 4 * 1176}[i]);
+            add_number((const uint32_t[]){leg / 4, leg % 4, leg / 4 * 672 + leg % 4 * 1176}[i]);
 }
 
 static void stacks(void)
@@ -470,6 +502,8 @@ int main(void)
 {
     make_buffers();
     numbered_cases();
+    gap_cases();
+    cursors_of_edition_1();
     refused_plans();
     refused_cursors();
     moves();
