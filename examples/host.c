@@ -4,28 +4,36 @@
  *     host FOLDER BUDGET
  *
  * FOLDER/plan is the plan file. FOLDER/cursor is the saved cursor: where there is none, a new check begins. FOLDER/seen
- * is a whole copy of the plan that the cursor is of. Each slice looks at BUDGET places at most. Standard input gives
- * the moves, a line 'LEG OFFSET' each. They are taken between two slices, and also after a verdict, until standard
- * input ends; then the exit status tells the last verdict: 0 accepted, 1 violated. It is 2 where the plan is refused,
- * and 4 for bad arguments and for files that cannot be read or written.
+ * tells what the cursor is of: a line with the edition of the rules, and then a whole copy of the plan. Each slice
+ * looks at BUDGET places at most. Standard input gives the moves, a line 'LEG OFFSET' each. They are taken between two
+ * slices, and also after a verdict, until standard input ends; then the exit status tells the last verdict: 0 accepted,
+ * 1 violated. It is 2 where the plan is refused, and 4 for bad arguments and for files that cannot be read or written.
  *
  * Every answer is a line. It is printed when all that it tells is on the disk: a move that is told as moved is in the
  * plan. A move that was not answered may be in the plan or not: look at the plan before it is made again, since another
  * may have moved the same leg after it. A move that is told as refused was not made, and is not made again as it is.
  *
  * The program may be killed at any moment, and is then called again. While it does not run, the plan may be edited or
- * exchanged. This costs time, and never a wrong verdict. Only this program writes cursor and seen: neither is ever put
- * back from a backup, and after one of them was put back both are removed. It saves the files in a fixed order, and
- * each is on the disk before the next is touched:
+ * exchanged, and the program replaced by one of an earlier or later edition of the rules. This costs time, and never a
+ * wrong verdict. Only this program writes cursor and seen: neither is ever put back from a backup, and after one of
+ * them was put back both are removed. It saves the files in a fixed order, and each is on the disk before the next is
+ * touched:
  *
  *   a move saves plan, seen, cursor. Killed between two of them, it leaves a cursor that is older than the plan, which
  *   the library refuses with 8.
  *
  *   a start removes the cursor, then saves seen, and then the first cursor. So an old cursor never stands beside the
- *   copy of another plan of the same revision.
+ *   copy of another plan of the same revision, nor beside the line of another edition.
  *
- * At every moment, then, the saved cursor is one of the plan in seen, or is of another revision than that plan. It is
- * believed where the library takes it, and plan and seen are the same byte by byte: so it is one of this plan.
+ * At every moment, then, the saved cursor is one of the edition and of the plan in seen, or is of another revision than
+ * that plan. It is believed unless one of these is due. The first that is due is told, and a new check starts:
+ *
+ *   cursor refused N AT   the library does not take it. This is asked first: after a killed move seen differs too
+ *   plan unseen           there is no seen
+ *   edition changed       seen does not begin with the line of this edition. Of the rest of it nothing is known then
+ *   plan changed          after that line it is not this plan, byte by byte
+ *
+ * So a cursor that is believed is one of this plan, and all places that it has passed hold by the rules of today.
  */
 #define _DEFAULT_SOURCE
 
@@ -45,11 +53,27 @@
 enum { ACCEPTED = 0, VIOLATED = 1, REFUSED = 2, FAILED = 4 }; /* the exit status */
 enum { LINES_MOST = 16 };                                     /* of standard input, taken while a slice is due */
 
+/*
+ * The first line of seen, with its end: edition 2 is not edition 22. A cursor knows no edition, and a plan keeps its
+ * revision when the rules change, so the library would believe a cursor from before. The header tells the edition: it
+ * has to be the one that belongs to the archive.
+ *
+ * In edition 1 seen was the plan alone. No such copy begins with this line: in a plan file its bytes are revision 99
+ * (c), 111 links (o), 110 streams (n), 101 legs (e), precision 112 (p), and then link 0, from node 97 (a) to node 108
+ * (l) with 104 ns per octet (h). Refusal 4 excludes that, and only plans that are not refused were ever copied. So an
+ * old copy is never taken for a new one. Nor is a new one for an old one: a host of edition 1 that finds it says 'plan
+ * changed', and starts anew.
+ */
+#define IN_DIGITS(number) #number
+#define EDITION_LINE_OF(number) "conepalhui edition " IN_DIGITS(number) "\n"
+#define EDITION_LINE EDITION_LINE_OF(CONEPALHUI_EDITION)
+enum { EDITION_BYTES = sizeof EDITION_LINE - 1 };
+
 /* The check. Each buffer has room for one byte more than is allowed: a file that is too long is refused as such. */
 static int folder;
 static uint8_t plan[CONEPALHUI_PLAN_BYTES + 1];
 static size_t plan_len;
-static uint8_t seen[sizeof plan];
+static uint8_t seen[EDITION_BYTES + sizeof plan];
 static size_t seen_len;
 static uint8_t cursor[CONEPALHUI_CURSOR_BYTES + 1];
 static size_t cursor_len;
@@ -81,6 +105,15 @@ static void save(const char *name, const uint8_t *bytes, size_t length)
 {
     if (durable_replace(folder, name, bytes, length) == -1)
         fail("save the", name);
+}
+
+/* Saves what the next cursor is of. */
+static void save_seen(void)
+{
+    memcpy(seen, EDITION_LINE, EDITION_BYTES);
+    memcpy(seen + EDITION_BYTES, plan, plan_len);
+    seen_len = EDITION_BYTES + plan_len;
+    save("seen", seen, seen_len);
 }
 
 /* Goes on from the cursor that a call wrote. */
@@ -121,14 +154,18 @@ static bool cursor_fits(void)
     return false;
 }
 
-/* Says whether the plan is the one that the saved cursor is of, where there is a copy of that one. */
+/* Says whether edition and plan are those that the saved cursor is of, where there is a file that tells them. */
 static bool plan_is_seen(bool copied)
 {
     if (!copied) {
         tell("plan unseen");
         return false;
     }
-    if (seen_len == plan_len && memcmp(seen, plan, plan_len) == 0)
+    if (seen_len < EDITION_BYTES || memcmp(seen, EDITION_LINE, EDITION_BYTES) != 0) {
+        tell("edition changed");
+        return false;
+    }
+    if (seen_len == EDITION_BYTES + plan_len && memcmp(seen + EDITION_BYTES, plan, plan_len) == 0)
         return true;
     tell("plan changed");
     return false;
@@ -139,7 +176,7 @@ static void save_start(const uint8_t *first)
 {
     if (durable_remove(folder, "cursor") == -1)
         fail("remove the", "cursor");
-    save("seen", plan, plan_len);
+    save_seen();
     save_cursor(first);
 }
 
@@ -219,7 +256,7 @@ static bool move(uint32_t leg, uint32_t offset)
     plan_len = answer.number;
     memcpy(plan, new_plan, plan_len);
     save("plan", plan, plan_len); /* For the order see above. */
-    save("seen", plan, plan_len);
+    save_seen();
     save_cursor(out);
     struct conepalhui_place at = conepalhui_cursor_place(out);
     tell("moved %u %u revision %u at %u %u", (unsigned)leg, (unsigned)offset, (unsigned)at.revision,
