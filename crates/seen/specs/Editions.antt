@@ -39,7 +39,7 @@ pub record CopyUnder (s : List ℕ) (edition : ℕ) : Type 0 where
   pub under : Under s edition rest
   pub copy : Copy rest
 
--- s names this edition, and after it comes something of the form of what was seen. Whatever stands there for a plan: another edition may have other plan files.
+-- s names this edition, and what comes after it has the form of what was seen, whatever stands there for a plan: another edition may have other plan files.
 pub record Names (s : List ℕ) (edition : ℕ) : Type 0 where
   pub rest : List ℕ
   pub first : List ℕ

@@ -30,7 +30,8 @@ KnownParts s at p = (take at s ≡ p) ⊎ (drop at s ≡ p)
 abbrev pub PlanFile : List ℕ → Type 0
 PlanFile p = (t : List ℕ) × IsFile Sized p t
 
--- s is what is kept beside a cursor: the first plan is a plan file, and the other is one or nothing.
+-- s is a copy: the first plan is a plan file, and the other is one or nothing. This is what was kept beside a cursor before editions were named; since then the
+-- edition stands in front of it (Editions.antt).
 pub record Copy (s : List ℕ) : Type 0 where
   pub first : List ℕ
   pub other : List ℕ
