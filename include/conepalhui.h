@@ -41,8 +41,8 @@
  *   5. Backups. A cursor from a backup is never put back. A plan that was put back goes on only where it is byte by
  *      byte the plan of rule 2; otherwise remove the saved cursor and begin a new run.
  *   6. The edition. A saved cursor does not outlive the edition of the rules (CONEPALHUI_EDITION, see there). Save the
- *      edition beside it, and begin a new run where it is another one. With a new archive, build the program anew with
- *      the header that belongs to it.
+ *      edition in one file with the copy of the plan (below). Begin a new run where it is another one, and where none
+ *      was saved.
  *
  * Where 1 to 3 are kept, and memory is lent as below, this is proved of every run that begins and ends with one archive
  * (crates/demands/specs: HostRuns.antt, DemandThreeForC.antt):
@@ -91,10 +91,13 @@
  * A SAVED CURSOR DOES NOT OUTLIVE ITS EDITION. It tells that all places before it hold by the rules of its own day, and
  * by those of today some may be violated, which would never be looked at again. The library cannot see this: a cursor
  * has no edition, and the plan keeps its revision. So whoever saves cursors saves the edition beside them and starts
- * anew where it is another one, be it higher or lower, as examples/host.c does. The number here is the archive's only
- * where header and archive belong together: rebuild the program with the header of the new archive.
+ * anew where it is another one, be it higher or lower, as examples/host.c does.
+ *
+ * The number here is the archive's only where header and archive belong together. So the start has the edition in its
+ * name there: a program that was compiled with the header of another edition is not linked. Compile it anew.
  */
 #define CONEPALHUI_EDITION 2
+#define conepalhui_start conepalhui_start_2
 
 /*
  * What holds of every call

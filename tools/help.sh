@@ -118,7 +118,7 @@ docs/REFUSALS.md has the numbers. The four words:
             or somebody copied it
   begun     a start on a cursor that is past the first place
   edition   the cursor was saved under edition E of the rules and not under this one (--version): what it has passed was
-            not judged by these rules
+            not judged by these rules. This comes before 8 to 11; the other words come after all numbers
 
 NEVER ALTER, RENAME OR COPY A CURSOR, OR PUT ONE BACK FROM A BACKUP. One that fits the plan is believed, and slots that
 were moved would never be looked at again.
@@ -138,8 +138,9 @@ about_start() {
 Starts a check of the plan file PLAN at its first place. It makes CURSOR, which keeps how far the check is, and
 CURSOR.seen beside it, a copy of the plan. A plan that is not well-formed is refused, and nothing is made.
 
-A cursor that is past the first place is replaced only with --anew, which drops how far that check was. A file that
-these commands did not make is never replaced (docs/OPERATIONS.md).
+A cursor that is past the first place is replaced only with --anew, which drops how far that check was, also where it
+was saved under another edition of the rules. A file that these commands did not make is never replaced
+(docs/OPERATIONS.md).
 END
     see_answers
 }
@@ -198,7 +199,7 @@ END
 
 about_version() {
     cat <<'END'
-Prints the version, and the edition of the rules. A cursor that was saved under another edition is refused by slice,
-move and run: start anew.
+Prints the version, and the edition of the rules. A cursor that was saved under another edition is refused: start anew
+with --anew. A verdict holds for its edition: file the two together.
 END
 }

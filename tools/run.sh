@@ -126,7 +126,7 @@ find_files() { # PLAN CURSOR
     done
     [[ -f $plan ]] || stop "there is no plan file $1"
     [[ ! -e $cursor || -f $cursor && -w $cursor ]] || stop "the cursor $2 is not a file that can be written"
-    [[ -f $cursor.seen || ! -e $cursor.seen && ! -L $cursor.seen ]] || stop "$cursor.seen is no file, and the copy of the plan has this name: give the cursor another name"
+    [[ ! -L $cursor.seen && (-f $cursor.seen || ! -e $cursor.seen) ]] || stop "$cursor.seen is no file, and the copy of the plan has this name: give the cursor another name"
     [[ ! $plan -ef $cursor ]] || stop "the plan $1 and the cursor $2 are one file"
 }
 
@@ -213,13 +213,16 @@ start_by_hand() { # PLAN CURSOR
 
 # Prints the answer, and after a refusal that asks for it how to go on or to start anew. The files are named as they were given.
 pass_on() { # PLAN CURSOR
-    local leg place revision other="this is not the plan that was last seen with this cursor: something other than a move changed it, or $cursor.seen was damaged."
+    local leg place revision edition present other="this is not the plan that was last seen with this cursor: something other than a move changed it, or $cursor.seen was damaged."
     printf '%s' "$wrote" || stop "cannot write to standard output"
     case $why in
     changed) note "$other $(start_anew "$@")" ;;
     damaged) note "$other $(start_by_hand "$@")" ;;
     unseen) note "there is no $cursor.seen, so nobody can say whether the plan was changed. To check the plan as it is now, from its first place, with a new cursor: $(shown_call start "$1" "$2-2")" ;;
-    'edition '*) note "the cursor $2 was saved under edition ${why#* } of the rules, and this is edition $(defined CONEPALHUI_EDITION): what it has passed was not judged by these rules. $(start_anew "$@")" ;;
+    'edition '*)
+        read -r _ edition present <<<"$why"
+        note "the cursor $2 was saved under edition $edition of the rules, and this is edition $present: what it has passed was not judged by these rules. $(start_anew "$@")"
+        ;;
     'begun '*)
         read -r _ leg place revision <<<"$why"
         note "the cursor $2 is at leg $leg, place $place of a check at revision $revision. Nothing was changed." \

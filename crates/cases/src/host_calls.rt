@@ -14,7 +14,7 @@ fn told(answer: Answer) {
 
 fn start(plan: &[u8], out: &mut [u8]) {
     show::text(b"start");
-    told(host::conepalhui_start(plan, out));
+    told(host::conepalhui_start_2(plan, out));
     show::bytes(out);
 }
 

@@ -1,4 +1,4 @@
--- Document 01's cases 11 to 13 as runs: Plan A, whose leg 2 meets leg 0, and what becomes of the check when a leg is moved; and two runs more.
+-- Document 01's cases 11 to 13, 12 with the gap of document 02's L1, as runs: Plan A, whose leg 2 meets leg 0, and what becomes of the check when a leg is moved; and two runs more.
 use Prim.Native.Nat.{ℕ}
 use mathlib.Core.List.{List, _∷_}
 use Rattle.table.specs.Records.{moved, moveTo}

@@ -86,9 +86,10 @@ fn move_plan(
     }
 }
 
-// Starts a check of a plan file, and writes its first cursor.
+// Starts a check of a plan file, and writes its first cursor. Its name ends in the edition of the rules, so that a program which was compiled for another one is not
+// linked; in the header it is conepalhui_start.
 #[no_mangle]
-pub extern "C" fn conepalhui_start(plan: &[u8], out: &mut [u8]) -> Answer
+pub extern "C" fn conepalhui_start_2(plan: &[u8], out: &mut [u8]) -> Answer
     ensures { λ r. ⌜ HostStarts (now (plan .entry)) (now (out .entry)) r (now (out .exit)) ⌝ }
 {
     let mut words = [0u32; table::MAX_TABLE_WORDS];

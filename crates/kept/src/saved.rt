@@ -7,6 +7,7 @@ use files::Cursor;
 use files::CursorRead;
 use files::CursorWritten;
 use numbers::Written;
+use seen::Of;
 use show::answers;
 use show::answers::Part;
 
@@ -59,6 +60,34 @@ pub fn cursor(path: &[u8]) -> Saved {
             Saved::Failed
         }
         Saved::Failed => Saved::Failed,
+    }
+}
+
+// Whether what was kept is of this edition of the rules, or is no copy at all. Where it is of another one, that is the answer, and it is written.
+fn present_in(kept: &[u8], revision: u32) -> bool {
+    let of = seen::edition_of(kept);
+    if let Of::Edition(edition) = of {
+        if edition != rules::EDITION {
+            answers::other_edition(edition, revision);
+            return false;
+        }
+    }
+    true
+}
+
+// Internal: whether the cursor was not saved under another edition of the rules. Where it was, that is the answer, and it is written.
+pub fn is_present(path: &[u8], revision: u32) -> bool {
+    let mut bytes = [0u8; SEEN_ROOM];
+    let read = seen_file(path, &mut bytes);
+    match read {
+        FileRead::Missing => true,
+        FileRead::Failed => false,
+        FileRead::Bytes(n) => {
+            if bytes.len() < n {
+                return false;
+            }
+            present_in(&bytes[0..n], revision)
+        }
     }
 }
 

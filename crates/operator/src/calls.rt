@@ -77,6 +77,14 @@ fn plan_stands(t: &[u32]) -> bool {
     }
 }
 
+// Whether the plan is well-formed, and the cursor not of another edition of the rules, to which its places would mean something else.
+fn may_go_on(cursor_path: &[u8], t: &[u32]) -> bool {
+    if !plan_stands(t) {
+        return false;
+    }
+    saved::is_present(cursor_path, records::header_word(t, table::REVISION_AT))
+}
+
 // Whether the cursor is one of the plan, which is well-formed. What is refused after this lies in the move.
 fn cursor_stands(cursor_path: &[u8], t: &[u32], c: Cursor) -> bool {
     let told = checker::slice(t, c, 0);
@@ -178,7 +186,7 @@ fn sliced(cursor_path: &[u8], plan: &[u8], t: &[u32], told: SliceAnswer) {
 fn slice(cursor_path: &[u8], plan: &[u8], t: &[u32], budget: u32) {
     let at = saved::cursor(cursor_path);
     if let Saved::At(c) = at {
-        if plan_stands(t) {
+        if may_go_on(cursor_path, t) {
             sliced(cursor_path, plan, t, checker::slice(t, c, budget));
         }
     }
@@ -229,7 +237,7 @@ fn written(
 }
 
 fn may_move(cursor_path: &[u8], t: &[u32], c: Cursor) -> bool {
-    if !plan_stands(t) {
+    if !may_go_on(cursor_path, t) {
         return false;
     }
     cursor_stands(cursor_path, t, c)

@@ -1,11 +1,11 @@
--- The rules at numbers: document 01's starred cases, and cases beside them that rule out wrong definitions.
+-- The rules at numbers: document 01's starred cases, 5, 6 and 9 with the gap of document 02's L1, and cases beside them that rule out wrong definitions.
 use Prim.Native.Nat.{ℕ, _+_, _≤_, _<_}
 use mathlib.Core.List.{[], _∷_}
 use mathlib.Core.Path.{_≡_}
 use Rattle.numbers.specs.Number.{bytesOf}
 use Rattle.table.specs.Layout.{legCount}
 use Rattle.table.specs.Records.{legAt}
-use Rattle.table.specs.PlanA.{planWith, offsetsA, planA, dueA, periodsA, fullA, offsetsB, dueB}
+use Rattle.table.specs.PlanA.{planWith, offsetsA, planA, dueA, periodsA, fullA, offsetsB, dueB, slowB}
 use Rattle.shape.specs.Shape.{WellFormedTable}
 use Rattle.overlap.specs.Meeting.{HoldsLink}
 use Rattle.overlap.specs.Theorems.{in100000, in150000}
@@ -14,7 +14,7 @@ use Rattle.rules.specs.Rules.{Window, Hop, Deadline, Overlap, RulesHold}
 use Rattle.rules.specs.Places.{ruleAt, PlaceHolds}
 use Rattle.rules.specs.declared.Rule.the-variants as rule
 
--- Document 01's starred cases 1 to 10.
+-- Document 01's starred cases 1 to 10. L1 changed 5, 6 and 9.
 pub record StarredCases : Type 0 where
   pub case-1 : (wireTime 64 8 ≡ 576) × (wireTime 1522 8 ≡ 12240)
   pub case-2 : wireTime 64 800 ≡ 57600
@@ -48,6 +48,9 @@ pub record MoreCases : Type 0 where
 -- 12,240 = 200,000, just when leg 0 is sent. With the gap of 96 ns both hold, but not with 95 (overlap-first, overlap-second).
 pub record GapCases : Type 0 where
   pub held : (holdTime 64 8 ≡ 672) × (holdTime 1522 8 ≡ 12336)
+  -- At the other rates, and a window at 10 Mb/s, where the gap is 9,600 ns.
+  pub held-slower : (holdTime 64 80 ≡ 6720) × (holdTime 1522 80 ≡ 123360) × (holdTime 64 800 ≡ 67200) × (holdTime 1522 800 ≡ 1233600)
+  pub window-slow : Window (planWith (slowB 32800)) 1 × (Window (planWith (slowB 32801)) 1 → ⊥)
   pub end-to-end : Overlap (planWith (offsetsA 0 1176 576)) 2 0 → ⊥
   pub end-to-end-after : Overlap (planWith (offsetsB 0 1176 576)) 2 0 → ⊥
   pub end-to-end-before : Overlap (planWith (offsetsB 0 1176 37760)) 2 0 → ⊥
@@ -69,6 +72,7 @@ pub record CasesArePlans : Type 0 where
   pub full-a : (o0 : ℕ) → WellFormedTable (planWith (fullA o0))
   pub offsets-b : (o0 o1 o2 : ℕ) → WellFormedTable (planWith (offsetsB o0 o1 o2))
   pub due-b : (d : ℕ) → 1 ≤ d → d ≤ 100000 → WellFormedTable (planWith (dueB d))
+  pub slow-b : (o1 : ℕ) → WellFormedTable (planWith (slowB o1))
 
 -- A well-formed plan that keeps every rule with two legs on one link: Plan A with leg 2 at 672.
 pub record AcceptedPlanExists : Type 0 where

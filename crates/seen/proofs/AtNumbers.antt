@@ -1,9 +1,9 @@
 -- The forms of copies at numbers: the numbers in front are computed, and what stands in front stands there in one way. Assumes nothing.
-use Prim.Native.Nat.{ℕ}
+use Prim.Native.Nat.{ℕ, _<_}
 use mathlib.Core.Path.{_≡_, refl, _∙_, sym, ap}
 use mathlib.Core.List.{List, [], _∷_}
-use mathlib.Core.Logic.{inl, inr}
-use lib.ListN.{length}
+use mathlib.Core.Logic.{inl, inr, ⊎-elim}
+use lib.ListN.{length, getD}
 use native.Mathlib.Omega.{arith}
 use Rattle.numbers.specs.Number.{bytesOf}
 use Rattle.numbers.specs.Calls.{NumberStands}
@@ -11,10 +11,10 @@ use Rattle.numbers.specs.declared.Number.the-variants as number
 use Rattle.numbers.proofs.Computed.{fileBytes, file-is, small-words}
 use Rattle.numbers.proofs.Rows.{file-one}
 use Rattle.seen.specs.Seen.{Kept, PlanFile, Copy}
-use Rattle.seen.specs.Editions.{mark, Under, CopyUnder, OfEdition}
-use Rattle.seen.specs.Theorems.{emptyPlan, keptUnderTwo, keptUnderNone, twoPlans, tooLong, CopiesAtNumbers}
+use Rattle.seen.specs.Editions.{mark, Under, KnownUnder, CopyUnder, OfEdition}
+use Rattle.seen.specs.Theorems.{emptyPlan, keptUnderTwo, keptUnderNone, twoPlans, tooLong, leftOver, CopiesAtNumbers}
 use Rattle.seen.proofs.Laws.{kept-once, cut-after}
-use Rattle.seen.proofs.Fronts.{under-once, plan-bytes, copy-not-under}
+use Rattle.seen.proofs.Fronts.{under-once, no-small-mark, plan-bytes, copy-not-under}
 
 number-is : (v : ℕ) → bytesOf v ≡ fileBytes (v ∷ [])
 number-is v = sym (file-one v) ∙ file-is (v ∷ [])
@@ -64,11 +64,61 @@ too-long e (inl n) =
     cut-after (0x06 ∷ emptyPlan) {r = number.Value 6 1} refl six {w = 6} refl (omega arith) (n .first) (n .other) (rw same at (n .kept))
 too-long e (inr c) = copy-not-under tooLong (c .1) under-too-long
 
+-- What is known is one of the two parts.
+another : KnownUnder keptUnderTwo 2 (0x08 ∷ 0x00 ∷ 0x00 ∷ 0x00 ∷ 0x00 ∷ []) → ⊥
+another k =
+    let same = under-once keptUnderTwo (k .under) under-two .1 in
+    let part = kept-once _ _ _ _ _ one-plan (rw same at (k .known .kept)) in
+    ⊎-elim
+    (λ e. let z : _≡_ {A = ℕ} 9 8 = ap (λ (l : List ℕ). getD l 0 0) (sym (part .0) ∙ e) in omega (arith, z))
+    (λ e. let z : _≡_ {A = ℕ} 0 5 = ap length (sym (part .1) ∙ e) in omega (arith, z))
+    (k .known .is)
+
+both : KnownUnder twoPlans 300 (0x0A ∷ 0x0B ∷ 0x0C ∷ 0x0D ∷ 0x0E ∷ []) → ⊥
+both k =
+    let same = under-once twoPlans (k .under) under-300 .1 in
+    let part = kept-once _ _ _ _ _ two-plans (rw same at (k .known .kept)) in
+    ⊎-elim
+    (λ e. let z : _≡_ {A = ℕ} 3 5 = ap length (sym (part .0) ∙ e) in omega (arith, z))
+    (λ e. let z : _≡_ {A = ℕ} 2 5 = ap length (sym (part .1) ∙ e) in omega (arith, z))
+    (k .known .is)
+
+-- What begins with a small number names no edition, so it has to be a copy; and the parts of a copy are plan files.
+small-front : (s : List ℕ) {n next : ℕ} → NumberStands s 0 n next → n < mark → (e : ℕ) → (Copy s → ⊥) → OfEdition s e → ⊥
+small-front s h small e none (inl n) = no-small-mark s h small (n .under)
+small-front s h small e none (inr c) = none (c .1)
+
+three : NumberStands (0x03 ∷ 0x0A ∷ 0x0B ∷ 0x0C ∷ []) 0 3 1
+three = record { word = omega arith; stands = record { rest = 0x0A ∷ 0x0B ∷ 0x0C ∷ []; there = rw (number-is 3) }; ends = rw (number-is 3) }
+
+three-kept : Kept (0x03 ∷ 0x0A ∷ 0x0B ∷ 0x0C ∷ []) (0x0A ∷ 0x0B ∷ 0x0C ∷ []) []
+three-kept = record { size = omega arith; whole = rw (number-is 3) }
+
+no-file : (e : ℕ) → OfEdition (0x03 ∷ 0x0A ∷ 0x0B ∷ 0x0C ∷ []) e → ⊥
+no-file e = small-front _ three (omega arith) e (λ c. omega (arith, plan-bytes (c .plan), ap length (kept-once _ _ _ _ _ three-kept (c .kept) .0)))
+
+five : NumberStands leftOver 0 5 1
+five = record { word = omega arith; stands = record { rest = 0x09 ∷ 0x00 ∷ 0x00 ∷ 0x00 ∷ 0x00 ∷ 0x00 ∷ []; there = rw (number-is 5) }; ends = rw (number-is 5) }
+
+left-over-kept : Kept leftOver emptyPlan (0x00 ∷ [])
+left-over-kept = record { size = omega arith; whole = rw (number-is 5) }
+
+left-over : (e : ℕ) → OfEdition leftOver e → ⊥
+left-over e = small-front _ five (omega arith) e (λ c.
+    let o = kept-once _ _ _ _ _ left-over-kept (c .kept) .1 in
+    ⊎-elim
+    (λ z. omega (arith, ap length (sym o ∙ z)))
+    (λ f. omega (arith, plan-bytes f, ap length o))
+    (c .rest))
+
 pub copies-at-numbers : CopiesAtNumbers
 copies-at-numbers = record {
   copied = record { rest = keptUnderNone; under = under-two; copy = copy };
   not-three = λ c. omega (arith, under-once keptUnderTwo under-two (c .under) .0);
   seen = record { rest = keptUnderNone; under = under-two; known = record { first = emptyPlan; other = []; kept = one-plan; is = inl refl } };
+  not-seen-three = λ k. omega (arith, under-once keptUnderTwo under-two (k .under) .0);
+  another = another;
+  both = both;
   named = inl (record { rest = keptUnderNone; first = emptyPlan; other = []; under = under-two; kept = one-plan });
   first = record { rest = _; under = under-300; known = record { first = _; other = _; kept = two-plans; is = inl refl } };
   other = record { rest = _; under = under-300; known = record { first = _; other = _; kept = two-plans; is = inr refl } };
@@ -77,4 +127,6 @@ copies-at-numbers = record {
   unnamed = inr (refl, copy);
   unknown = λ e p k. copy-not-under keptUnderNone copy (k .under);
   too-long = too-long;
+  no-file = no-file;
+  left-over = left-over;
 }

@@ -92,9 +92,13 @@ plan-bytes (t, f) = omega (arith, words-bytes t, f .complete .head, ap length (f
 plan-short : {p : List ℕ} → PlanFile p → length p < mark
 plan-short (t, f) = omega (arith, file-bytes-at-most .1 t (f .complete), ap length (f .bytes))
 
+-- What begins with a smaller number than the mark is kept under no edition.
+pub no-small-mark : (s : List ℕ) {n next e : ℕ} {q : List ℕ} → NumberStands s 0 n next → n < mark → Under s e q → ⊥
+no-small-mark s h small u = omega (arith, number-once s h (under-mark u) .0)
+
 -- A copy with nothing in front of it is kept under no edition.
 pub copy-not-under : (s : List ℕ) {e : ℕ} {q : List ℕ} → Copy s → Under s e q → ⊥
-copy-not-under s c u = omega (arith, number-once s (kept-number (c .kept)) (under-mark u) .0, plan-short (c .plan))
+copy-not-under s c = no-small-mark s (kept-number (c .kept)) (plan-short (c .plan))
 
 -- The two numbers in front, as they were read.
 module _ (s : List ℕ) {r : Number} where

@@ -34,11 +34,19 @@ twoPlans = 0xE4 ∷ 0xE0 ∷ 0x96 ∷ 0x90 ∷ 0x0A ∷ 0xAC ∷ 0x02 ∷ 0x03 �
 abbrev pub tooLong : List ℕ
 tooLong = 0xE4 ∷ 0xE0 ∷ 0x96 ∷ 0x90 ∷ 0x0A ∷ 0x02 ∷ 0x06 ∷ emptyPlan
 
+-- A plan file with a byte after it, in a copy without an edition.
+abbrev pub leftOver : List ℕ
+leftOver = 0x05 ∷ 0x09 ∷ 0x00 ∷ 0x00 ∷ 0x00 ∷ 0x00 ∷ 0x00 ∷ []
+
 -- Copies at numbers.
 pub record CopiesAtNumbers : Type 0 where
   pub copied : CopyUnder keptUnderTwo 2
   pub not-three : CopyUnder keptUnderTwo 3 → ⊥
   pub seen : KnownUnder keptUnderTwo 2 emptyPlan
+  pub not-seen-three : KnownUnder keptUnderTwo 3 emptyPlan → ⊥
+  -- Another plan is not known, nor are both together.
+  pub another : KnownUnder keptUnderTwo 2 (0x08 ∷ 0x00 ∷ 0x00 ∷ 0x00 ∷ 0x00 ∷ []) → ⊥
+  pub both : KnownUnder twoPlans 300 (0x0A ∷ 0x0B ∷ 0x0C ∷ 0x0D ∷ 0x0E ∷ []) → ⊥
   pub named : OfEdition keptUnderTwo 2
   pub first : KnownUnder twoPlans 300 (0x0A ∷ 0x0B ∷ 0x0C ∷ [])
   pub other : KnownUnder twoPlans 300 (0x0D ∷ 0x0E ∷ [])
@@ -48,5 +56,7 @@ pub record CopiesAtNumbers : Type 0 where
   -- Without an edition in front: of the first, and known under none.
   pub unnamed : OfEdition keptUnderNone 1
   pub unknown : (e : ℕ) (p : List ℕ) → KnownUnder keptUnderNone e p → ⊥
-  -- Of no edition.
+  -- Of no edition: a length that is too large, what is no plan file, and a plan file with a byte after it.
   pub too-long : (e : ℕ) → OfEdition tooLong e → ⊥
+  pub no-file : (e : ℕ) → OfEdition (0x03 ∷ 0x0A ∷ 0x0B ∷ 0x0C ∷ []) e → ⊥
+  pub left-over : (e : ℕ) → OfEdition leftOver e → ⊥

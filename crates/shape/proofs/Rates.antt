@@ -6,12 +6,15 @@ use native.Mathlib.Omega.{arith}
 use Rattle.shape.specs.Links.{IsRate}
 use Rattle.shape.specs.Guarantees.{maxRate}
 
--- 1 Gb/s and 100 Mb/s.
+-- 1 Gb/s, 100 Mb/s and 10 Mb/s.
 pub gigabit : IsRate 8
 gigabit = inl refl
 
 pub hundred-megabit : IsRate 80
 hundred-megabit = inr (inl refl)
+
+pub ten-megabit : IsRate 800
+ten-megabit = inr (inr refl)
 
 pub rate-small : (r : ℕ) → IsRate r → (1 ≤ r) × (r ≤ maxRate)
 rate-small r (inl e) = (omega arith, omega arith)

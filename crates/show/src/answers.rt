@@ -198,11 +198,12 @@ pub fn unknown(why: &[u8], revision: u32, next: &[u8]) {
     end_line();
 }
 
-// Internal: the refusal of a cursor that was saved under another edition of the rules.
+// Internal: the refusal of a cursor that was saved under another edition of the rules. What the command goes by has this one too.
 pub fn other_edition(edition: u32, revision: u32) {
     labelled(b"refused edition ", edition);
     labelled(b" revision ", revision);
     labelled(b"\nin the cursor\nstatus 2 edition ", edition);
+    labelled(b" ", rules::EDITION);
     end_line();
 }
 
