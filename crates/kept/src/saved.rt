@@ -159,22 +159,6 @@ pub fn cursor_beside(path: &[u8], c: Cursor) -> bool {
     }
 }
 
-// Writes a number in front of a copy, and answers where it ends; without room, where it was to begin.
-fn put(number: u32, front: &mut [u8], at: usize) -> usize {
-    let written = numbers::write_number(number, front, at);
-    match written {
-        Written::Bytes(n) => std::num::wrapping_add_usize(at, n),
-        Written::Refused(_, _) => at,
-    }
-}
-
-// Writes what stands in front of a copy, and answers how many bytes it has: the mark, this edition of the rules, and how many bytes the first plan has.
-fn put_front(size: u32, front: &mut [u8]) -> usize {
-    let mut at = put(seen::MARK, front, 0);
-    at = put(rules::EDITION, front, at);
-    put(size, front, at)
-}
-
 fn fronted_beside(name: &[u8], front: &[u8], n: usize, plan: &[u8], other: &[u8]) -> bool {
     if front.len() < n {
         return false;
@@ -190,8 +174,11 @@ pub fn seen_beside(path: &[u8], plan: &[u8], other: &[u8]) -> bool {
     if files::MAX_FILE_BYTES < plan.len() {
         return false;
     }
-    let m = put_front(plan.len() as u32, &mut front);
-    fronted_beside(&name[..n], &front, m, plan, other)
+    let written = seen::write_front(rules::EDITION, plan.len() as u32, &mut front);
+    match written {
+        Written::Bytes(m) => fronted_beside(&name[..n], &front, m, plan, other),
+        Written::Refused(_, _) => false,
+    }
 }
 
 // Internal: gives what was written beside the copy its name.

@@ -1,10 +1,13 @@
 -- What was last seen, and the edition of the rules under which it was seen. The present edition is always an argument.
 use Prim.Native.Nat.{ℕ, _≤_}
 use mathlib.Core.Path.{_≡_}
-use mathlib.Core.List.{List, _++_}
+use mathlib.Core.List.{List, [], _∷_, _++_}
 use mathlib.Core.Logic.{_⊎_}
 use lib.ListN.{length, drop}
 use Rattle.numbers.specs.Number.{maxWord, bytesOf}
+use Rattle.numbers.specs.Series.{fileOf, Laid, TooSmall}
+use Rattle.numbers.specs.declared.Written.{Written}
+use Rattle.numbers.specs.declared.Written.the-variants as written
 use Rattle.seen.specs.Seen.{Kept, Known, Copy}
 use Rattle.seen.specs.declared.Front.{Front}
 use Rattle.seen.specs.declared.Front.the-variants as front
@@ -26,6 +29,12 @@ firstEdition = 1
 pub record Under (s : List ℕ) (edition : ℕ) (rest : List ℕ) : Type 0 where
   pub word : edition ≤ maxWord
   pub whole : s ≡ bytesOf mark ++ (bytesOf edition ++ rest)
+
+-- Writing what stands in front of the first plan, which has so many bytes, to the bytes b, which makes them b′: the three numbers lie in the first bytes, and the answer is
+-- how many; or there is too little room.
+abbrev pub WritesFront : ℕ → ℕ → List ℕ → Written → List ℕ → Type 0
+WritesFront edition size b (written.Bytes n) b′ = Laid b 0 (fileOf (mark ∷ edition ∷ size ∷ [])) n b′
+WritesFront edition size b (written.Refused k p) b′ = TooSmall b 0 (fileOf (mark ∷ edition ∷ size ∷ [])) k p b′
 
 -- The plan p is one of those that were seen under this edition.
 pub record KnownUnder (s : List ℕ) (edition : ℕ) (p : List ℕ) : Type 0 where

@@ -1,9 +1,12 @@
 -- What is proved of what was last seen and of its edition.
-use Prim.Native.Nat.{ℕ}
+use Prim.Native.Nat.{ℕ, _≤_}
 use mathlib.Core.Path.{_≡_}
-use mathlib.Core.List.{List, [], _∷_}
+use mathlib.Core.List.{List, [], _∷_, _++_}
+use lib.ListN.{length, take}
+use Rattle.numbers.specs.Number.{maxWord}
+use Rattle.numbers.specs.declared.Written.the-variants as written
 use Rattle.seen.specs.Seen.{Copy}
-use Rattle.seen.specs.Editions.{KnownUnder, CopyUnder, OfEdition}
+use Rattle.seen.specs.Editions.{WritesFront, KnownUnder, CopyUnder, OfEdition}
 
 -- No two editions share what was kept.
 pub record EditionsPartCopies : Type 0 where
@@ -15,6 +18,12 @@ pub record EditionsPartCopies : Type 0 where
   pub told-once : (s : List ℕ) (d e : ℕ) → OfEdition s d → OfEdition s e → d ≡ e
   -- A copy under an edition is of that edition.
   pub copy-told : (s : List ℕ) (e : ℕ) → CopyUnder s e → OfEdition s e
+
+-- What is written is known: after the front, a plan of that length and another one or nothing.
+abbrev pub WrittenIsKnown : Type 0
+WrittenIsKnown =
+    (edition n : ℕ) (p o b b′ : List ℕ) → edition ≤ maxWord → length p ≤ maxWord → WritesFront edition (length p) b (written.Bytes n) b′
+    → KnownUnder (take n b′ ++ (p ++ o)) edition p × KnownUnder (take n b′ ++ (p ++ o)) edition o
 
 -- A plan file, of revision 9 and nothing else; the copy of it under edition 2; and the one without an edition.
 abbrev pub emptyPlan : List ℕ

@@ -4,15 +4,16 @@ ghost use Prim.Native.Nat.{_≤_};
 ghost use lib.ListN.{length};
 ghost use Rattle.basics.specs.Tells.{Tells};
 ghost use Rattle.seen.specs.Seen.{Known, KnownParts, PlanFile, Copy, PlanParts, Splits};
-ghost use Rattle.seen.specs.Editions.{KnownUnder, CopyUnder, FrontTold, RestTold, EditionTold};
+ghost use Rattle.seen.specs.Editions.{WritesFront, KnownUnder, CopyUnder, FrontTold, RestTold, EditionTold};
 use basics::Holds;
 use files::PlanRead;
 use numbers::Number;
+use numbers::Written;
 
 // The number that stands before the edition, and the edition of what was kept before editions were named.
-pub const MARK: u32 = 2718281828;
+const MARK: u32 = 2718281828;
 
-pub const FIRST_EDITION: u32 = 1;
+const FIRST_EDITION: u32 = 1;
 
 // The most bytes of the three numbers in front, the mark, the edition and how long the first plan is; and the most bytes of all that is kept.
 pub const MAX_FRONT_BYTES: usize = 5 + 5 + 5;
@@ -175,6 +176,19 @@ fn rest_under(seen: &[u8], edition: u32) -> Rest
             Rest::At(next)
         }
     }
+}
+
+// Internal: writes what stands in front of a copy under an edition of the rules, whose first plan has so many bytes, and answers how many bytes that are. Refused 15.
+pub fn write_front(edition: u32, size: u32, out: &mut [u8]) -> Written
+    ensures { λ r. ⌜ WritesFront edition size (now (out .entry)) r (now (out .exit)) ⌝ }
+{
+    let words = [MARK, edition, size];
+    let n = numbers::series::file_size(&words);
+    if out.len() < n {
+        return Written::Refused(numbers::NO_ROOM, 0);
+    }
+    numbers::series::put_file(&words, out);
+    Written::Bytes(n)
 }
 
 // Internal: whether a plan is one of those that were seen under an edition of the rules.
