@@ -16,7 +16,7 @@ pub enum Standing {
 }
 
 // What stands beside a cursor: nothing, a copy under these rules, a copy under another edition of them, or a file that is none.
-pub(crate) enum Beside {
+enum Beside {
     Nothing,
     Copy,
     OtherEdition(u32),
@@ -63,30 +63,30 @@ fn perhaps_no_cursor(path: &[u8]) {
     left_as_it_is();
 }
 
-// The copy in a file that names this edition of the rules, or none at all.
-fn present_copy(path: &[u8], kept: &[u8]) -> Beside {
+// Whether what was kept is a copy under these rules. Where it is none, that is said.
+pub(crate) fn is_copy(path: &[u8], kept: &[u8]) -> bool {
     let told = seen::is_copy(kept, rules::EDITION);
     match told {
-        Holds::Yes => Beside::Copy,
+        Holds::Yes => true,
         Holds::No => {
             no_copy(path);
-            Beside::NotOurs
+            false
         }
     }
 }
 
-// What was kept, by its bytes. Where they are no copy, that is said.
-pub(crate) fn copy_in(path: &[u8], kept: &[u8]) -> Beside {
+// What was kept, by its bytes.
+fn copy_in(path: &[u8], kept: &[u8]) -> Beside {
     let of = seen::edition_of(kept);
-    match of {
-        Of::Nothing => present_copy(path, kept),
-        Of::Edition(edition) => {
-            if edition == rules::EDITION {
-                return present_copy(path, kept);
-            }
-            Beside::OtherEdition(edition)
+    if let Of::Edition(edition) = of {
+        if edition != rules::EDITION {
+            return Beside::OtherEdition(edition);
         }
     }
+    if is_copy(path, kept) {
+        return Beside::Copy;
+    }
+    Beside::NotOurs
 }
 
 fn copy_beside(path: &[u8]) -> Beside {

@@ -1,6 +1,5 @@
 // The saved cursor, and what was last seen of its plan beside it.
 use crate::ours;
-use crate::ours::Beside;
 use basics::Holds;
 use durable::FileRead;
 use files::Cursor;
@@ -91,24 +90,8 @@ pub fn is_present(path: &[u8], revision: u32) -> bool {
     }
 }
 
-// Writes why a plan is not known.
-fn unknown(path: &[u8], kept: &[u8], revision: u32) {
-    let copy = ours::copy_in(path, kept);
-    match copy {
-        Beside::OtherEdition(edition) => {
-            answers::other_edition(edition, revision);
-        }
-        Beside::Copy => {
-            answers::unknown(b"changed", revision, b"changed");
-        }
-        Beside::NotOurs => {
-            answers::unknown(b"changed", revision, b"damaged");
-        }
-        Beside::Nothing => {}
-    }
-}
-
-// Whether the plan is one that was last seen, under this edition of the rules. Where it is not, that is the answer, and it is written.
+// Whether the plan is one that was last seen, under this edition of the rules. Where it is not, that is the answer, and it is written; and it is said where the copy is
+// none.
 fn known_in(path: &[u8], bytes: &[u8], n: usize, plan: &[u8], revision: u32) -> bool {
     if bytes.len() < n {
         return false;
@@ -117,7 +100,11 @@ fn known_in(path: &[u8], bytes: &[u8], n: usize, plan: &[u8], revision: u32) -> 
     match told {
         Holds::Yes => true,
         Holds::No => {
-            unknown(path, &bytes[0..n], revision);
+            if ours::is_copy(path, &bytes[0..n]) {
+                answers::unknown(b"changed", revision, b"changed");
+            } else {
+                answers::unknown(b"changed", revision, b"damaged");
+            }
             false
         }
     }
