@@ -1,0 +1,5 @@
+pub mod Network
+pub mod Constraints
+pub mod Marks
+pub mod Steps
+pub mod Theorems

@@ -1,0 +1,5 @@
+pub mod Solving
+pub mod Rounds
+pub mod Walks
+pub mod Steps
+pub mod Theorems
