@@ -6,10 +6,11 @@ use Prim.Native.Nat.{ℕ, _+_, _*_, _≤_, _<_}
 use native.Mathlib.Omega.{arith}
 use lib.IntN.{ℤ, natAbs}
 use lib.ListN.{length}
-use borrow.Author.Count.{below-more}
 use Rattle.basics.specs.Tells.{Tells}
 use Rattle.basics.specs.Lowest.{All, Lowest, Finds}
-use Rattle.basics.specs.Refusals.{OneFault}
+use Rattle.basics.specs.Refusals.{Told, OneFault}
+use Rattle.basics.specs.declared.Checked.{Checked}
+use Rattle.basics.specs.declared.Checked.the-variants.{Clear, Refused}
 use Rattle.basics.specs.declared.Holds.{Holds}
 use Rattle.basics.specs.declared.Holds.the-variants.{Yes, No}
 use Rattle.basics.specs.declared.Found.{Found}
@@ -39,27 +40,6 @@ pub by-the-most : (n : ℕ) (ws : List ℤ) (k : ℕ) (most : Holds) → Tells (
 by-the-most n ws k Yes m w f t = record { whole = w; from = f; to = t; most = m }
 by-the-most n ws k No m w f t = λ q. m (q .most)
 
--- Constraints looked at in order: all below k are in range.
-pub record Passed (n : ℕ) (ws : List ℤ) (count k : ℕ) : Type 0 where
-  pub all-told : count ≡ constraintCount ws
-  pub within : k ≤ count
-  pub below : All (InRange n ws) k
-
-module _ {n : ℕ} {ws : List ℤ} {count : ℕ} where
-  pub none-passed : count ≡ constraintCount ws → Passed n ws count 0
-  none-passed e = record { all-told = e; within = omega arith; below = λ i z. absurd (omega arith) }
-
-  module _ {k : ℕ} {told : Holds} where
-    pub one-passed : told ≡ Yes → Tells (InRange n ws k) told → k < count → Passed n ws count k → Passed n ws count (k + 1)
-    one-passed e h z p =
-        record { all-told = p .all-told; within = omega arith; below = below-more (InRange n ws) k (p .below) (subst (Tells (InRange n ws k)) e h) }
-
-    pub found-bad : told ≡ No → Tells (InRange n ws k) told → k < count → Passed n ws count k → Lowest (InRange n ws) 0 (constraintCount ws) k
-    found-bad e h z p = lowest-of-all (omega (arith, p .all-told)) (subst (Tells (InRange n ws k)) e h) (p .below)
-
-  pub all-passed : {k : ℕ} → count ≤ k → Passed n ws count k → (i : ℕ) → 0 ≤ i → i < constraintCount ws → InRange n ws i
-  all-passed z p i q y = p .below i (omega (arith, p .all-told))
-
 -- The refusals of a network have one answer.
 pub network-one : (n : ℕ) (ws : List ℤ) → OneFault (networkRefusals n ws)
 network-one n ws =
@@ -82,3 +62,11 @@ module _ {n : ℕ} {ws : List ℤ} where
 
     pub in-range : found ≡ Nowhere → Finds (InRange n ws) 0 (constraintCount ws) found → NetworkInRange n ws
     in-range d f = record { size = size h e l; each = all-of (subst (Finds (InRange n ws) 0 (constraintCount ws)) d f) }
+
+-- What was told of a network.
+module _ {n : ℕ} {ws : List ℤ} (told : Checked) (told-so : Told (networkRefusals n ws) told) where
+  pub told-in-range : told ≡ Clear → NetworkInRange n ws
+  told-in-range e = subst (Told (networkRefusals n ws)) e told-so
+
+  pub told-refused : {k p : ℕ} → told ≡ Refused k p → networkRefusals n ws .Fault k p
+  told-refused e = subst (Told (networkRefusals n ws)) e told-so

@@ -14,6 +14,7 @@ use Rattle.basics.specs.declared.Checked.the-variants.{Clear, Refused}
 use Rattle.numbers.specs.Number.{noRoom}
 use Rattle.network.specs.Constraints.{networkRefusals, networkOf, NetworkInRange, timesOf, numbersOf}
 use Rattle.network.proofs.Ranges.{bounded}
+use Rattle.network.proofs.Judging.{told-in-range, told-refused}
 use Rattle.network.proofs.Marks.{all}
 use Rattle.solver.specs.Solving.{solveRefusals, GivesChain}
 use Rattle.solver.specs.Steps.{Stands, Restless, Walking, Turned, Copied}
@@ -72,11 +73,8 @@ given {ws = ws} {path} {start} {len} {after = after} t c =
 
 -- What solving tells after the network was judged.
 module _ {n : ℕ} {ws : List ℤ} (told : Checked) (told-so : Told (networkRefusals n ws) told) where
-  pub in-range : told ≡ Clear → NetworkInRange n ws
-  in-range e = subst (Told (networkRefusals n ws)) e told-so
-
   pub refused : {k p : ℕ} → told ≡ Refused k p → (room : ℕ) → solveRefusals n ws room .Fault k p
-  refused e room = inl (subst (Told (networkRefusals n ws)) e told-so)
+  refused e room = inl (told-refused told told-so e)
 
   pub no-room : told ≡ Clear → {room : ℕ} → room < n → solveRefusals n ws room .Fault noRoom 0
-  no-room e h = inr (in-range e, (refl, refl, λ q. omega arith))
+  no-room e h = inr (told-in-range told told-so e, (refl, refl, λ q. omega arith))

@@ -1,12 +1,13 @@
 -- `network::lowest_bad_constraint` meets its contract: every constraint passed is in range. Assumes nothing.
 use Prim.Native.Nat.{_-_}
 use borrow.Author.Needs.{needs}
-use Rattle.network.proofs.Judging.{Passed, none-passed, one-passed, found-bad, all-passed}
+use Rattle.network.specs.Constraints.{constraintCount, InRange}
+use Rattle.network.proofs.Passing.{Passed, none-passed, one-passed, found-bad, all-passed}
 use Rattle.network.proofs.lowest_bad_constraint.Statement.{statement}
 use Rattle.network.proofs.lowest_bad_constraint.Tie as tie
 
 abbrev Inv-loop : tie.InvT-loop
-Inv-loop events constraints count k₀ k = Passed events constraints count k
+Inv-loop events constraints count k₀ k = Passed (InRange events constraints) (constraintCount constraints) count k
 
 abbrev μ-loop : tie.MeasureT-loop
 μ-loop events constraints count k₀ k = count - k
@@ -39,7 +40,7 @@ loop-again : tie.Need-loop-again Inv-loop μ-loop
 loop-again c = search one-passed
 
 returns-2 : tie.Need-returns-2 Inv-loop μ-loop
-returns-2 c = search all-passed
+returns-2 c = let at : tie.At-loop Inv-loop μ-loop = search in all-passed (search needs) (at .loop .inv)
 
 pub lowest-bad-constraint-spec : {M : Type 1} → statement M
 lowest-bad-constraint-spec =

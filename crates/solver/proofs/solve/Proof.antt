@@ -2,7 +2,8 @@
 use mathlib.Core.Path.{refl}
 use native.Mathlib.Omega.{arith}
 use lib.ListN.{length}
-use Rattle.solver.proofs.Ends.{in-range, refused, no-room}
+use Rattle.solver.proofs.Ends.{refused, no-room}
+use Rattle.network.proofs.Judging.{told-in-range}
 use borrow.Author.Needs.{needs}
 use Rattle.solver.proofs.solve.Statement.{statement}
 use Rattle.solver.proofs.solve.Tie as tie
@@ -20,7 +21,7 @@ returns : tie.Need-returns
 returns c = let judged : tie.After-judged-network = search in (no-room (judged .judged-network .result) (judged .judged-network .ensures) (search) (search), refl, refl)
 
 times-or-chain-requires : tie.Need-times-or-chain-requires
-times-or-chain-requires c κs = let judged : tie.After-judged-network = search in (in-range (judged .judged-network .result) (judged .judged-network .ensures) (search), search needs)
+times-or-chain-requires c κs = let judged : tie.After-judged-network = search in (told-in-range (judged .judged-network .result) (judged .judged-network .ensures) (search), search needs)
 
 returns-2 : tie.Need-returns-2
 returns-2 c = let judged : tie.After-judged-network = search in let entry : tie.Start = search in (refused (judged .judged-network .result) (judged .judged-network .ensures) (search) (length (entry .args .chain .now)), refl, refl)
