@@ -1,2 +1,3 @@
 pub mod Linking
 pub mod Keeping
+pub mod OneAnswer

@@ -10,7 +10,7 @@ use Rattle.network.specs.Constraints.{timesOf, numbersOf, networkOf, constraint
 use Rattle.claims.specs.declared.TimesTest.{TimesTest}
 use Rattle.claims.specs.declared.TimesTest.the-variants as times
 use Rattle.claims.specs.declared.ChainTest.{ChainTest}
-use Rattle.claims.specs.declared.ChainTest.the-variants as chain
+use Rattle.claims.specs.declared.ChainTest.the-variants as chains
 
 -- A list of times keeps constraint k: both of its events have a time in the list, and the constraint holds of them.
 pub record KeepsOne (w : Network) (ts : List ℤ) (k : ℕ) : Type 0 where
@@ -30,6 +30,6 @@ IsChain ws ks = Chain (networkOf ws) (length ks) (numbersOf ks)
 
 -- The test of a list of constraint numbers.
 abbrev pub TestsChain : ℕ → List ℤ → List ℕ → ChainTest → Type 0
-TestsChain n ws ks chain.Chain = NetworkInRange n ws × IsChain ws ks
-TestsChain n ws ks chain.NoChain = NetworkInRange n ws × (IsChain ws ks → ⊥)
-TestsChain n ws ks (chain.Refused k p) = networkRefusals n ws .Fault k p
+TestsChain n ws ks chains.Chain = NetworkInRange n ws × IsChain ws ks
+TestsChain n ws ks chains.NoChain = NetworkInRange n ws × (IsChain ws ks → ⊥)
+TestsChain n ws ks (chains.Refused k p) = networkRefusals n ws .Fault k p

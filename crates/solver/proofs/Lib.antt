@@ -6,3 +6,4 @@ pub mod SteppingBack
 pub mod Copying
 pub mod Ends
 pub mod Turns
+pub mod OneAnswer
