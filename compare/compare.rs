@@ -2,14 +2,14 @@
 
 use crate::calls::{answer, receive, send, send_flush, Answer, Call, Kind};
 use crate::cases::{batch, Case, BATCH};
+use crate::driver::Driver;
+use crate::fail::given;
 use crate::paper::{
     ABOVE_LIMIT, BAD_FORM, ENDS_EARLY, GRANTED, LAST_REVISION, LEFT_OVER, LEG_WRONG, LINK_RANGE, LINK_TWICE, NO_LEG,
     NO_PLACE, NO_ROOM, PAUSED, REFUSED, RULES, STALE, STREAM_WRONG,
 };
-use crate::wrong::{all, given, Wrong};
+use crate::wrong::{all, Wrong};
 use std::collections::BTreeMap;
-use std::io::{BufReader, BufWriter};
-use std::process::{Child, ChildStdin, ChildStdout, Command, Stdio};
 use std::sync::atomic::{AtomicU64, Ordering};
 use std::sync::Mutex;
 use std::thread;
@@ -64,46 +64,9 @@ fn described(number: u64, call: &Call) -> String {
     )
 }
 
-struct Driver {
-    child: Child,
-    input: BufWriter<ChildStdin>,
-    output: BufReader<ChildStdout>,
-}
-
-impl Driver {
-    fn new(command: &[String]) -> Driver {
-        let mut child = Command::new(&command[0])
-            .args(&command[1..])
-            .stdin(Stdio::piped())
-            .stdout(Stdio::piped())
-            .spawn()
-            .unwrap_or_else(|fault| panic!("cannot run {}: {}", command[0], fault));
-        let input = BufWriter::with_capacity(1 << 16, child.stdin.take().expect("its input is a pipe"));
-        let output = BufReader::with_capacity(1 << 16, child.stdout.take().expect("its output is a pipe"));
-        Driver { child, input, output }
-    }
-
-    /// Makes all calls, and gives each answer with what no call may change and yet was changed.
-    fn answers(&mut self, cases: &[Case]) -> Vec<(Answer, Vec<String>)> {
-        let (input, output) = (&mut self.input, &mut self.output);
-        thread::scope(|scope| {
-            scope.spawn(move || {
-                for case in cases {
-                    send(input, &case.call).expect("the driver takes calls");
-                }
-                send_flush(input).expect("the driver takes calls");
-            });
-            cases.iter().map(|case| receive(output, &case.call).expect("the driver answers")).collect()
-        })
-    }
-
-    /// Ends the driver, which has to end well.
-    fn end(self) {
-        let Driver { mut child, input, output } = self;
-        drop((input, output));
-        let status = child.wait().expect("the driver ends");
-        assert!(status.success(), "the driver ended with {}", status);
-    }
+/// Makes all calls, and gives each answer with what no call may change and yet was changed.
+fn answers(driver: &mut Driver, cases: &[Case]) -> Vec<(Answer, Vec<String>)> {
+    driver.answers(cases, |input, case| send(input, &case.call), send_flush, |output, case| receive(output, &case.call))
 }
 
 /// Says how the proved call differs from the plain one, if it does.
@@ -200,7 +163,7 @@ fn spoilers_at_large(command: &[String]) -> Vec<&'static str> {
     let mut uncaught = Vec::new();
     for (what, name) in SPOILED.iter().enumerate() {
         let mut driver = Driver::new(&[command, &[what.to_string()]].concat());
-        let answers = driver.answers(&cases);
+        let answers = answers(&mut driver, &cases);
         driver.end();
         let differs = |(case, (answered, changed)): (&Case, &(Answer, Vec<String>))| {
             difference(0, case, answered, changed).is_some()
@@ -252,7 +215,7 @@ pub fn run(seed: u64, wanted: u64, driver: &[String]) -> bool {
                         break;
                     }
                     let cases = batch(seed, number);
-                    let answers = driver.answers(&cases);
+                    let answers = answers(&mut driver, &cases);
                     compare(number * BATCH as u64, &wrong, &cases, &answers, &found);
                 }
                 driver.end();

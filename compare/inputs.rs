@@ -5,11 +5,12 @@ use crate::chance::Chance;
 use crate::check::{Bent, Checker, Plain};
 use crate::damage::{any_bytes, bend_route, damage_bytes, damage_table, double_links, each_edge, routes, shift_legs};
 use crate::drafts::{accepted, alike, full_line, large, medium, one_link, plan_a, row, small, to_an_edge};
+use crate::fail::given;
 use crate::format::{encoded, is_whole, plan_bytes, table_words, Plan};
 use crate::paper::{GROUP_BITS, HEADER_WORDS, LIMITS, MORE, NUMBER_BYTES};
 use crate::reasons::kind;
 use crate::told::{printed, said, Verb};
-use crate::wrong::{self, given, Wrong};
+use crate::wrong::{self, Wrong};
 use std::collections::BTreeSet;
 
 type Family = Vec<Vec<u8>>;

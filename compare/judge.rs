@@ -34,6 +34,8 @@ mod check;
 mod compare;
 mod damage;
 mod drafts;
+mod driver;
+mod fail;
 mod format;
 mod inputs;
 mod layout;
@@ -296,7 +298,7 @@ fn done(words: &[&str], rest: &[String]) -> Asked<bool> {
 }
 
 fn main() {
-    wrong::fail_silently();
+    fail::fail_silently();
     let rest: Vec<String> = std::env::args().skip(1).collect();
     let words: Vec<&str> = rest.iter().map(String::as_str).collect();
     std::process::exit(match done(&words, &rest) {

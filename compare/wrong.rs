@@ -14,8 +14,6 @@ use crate::paper::{
 use crate::reasons;
 use crate::rules::{self, arrival, divisor, sent, Sent};
 use crate::shape;
-use std::cell::Cell;
-use std::panic::{catch_unwind, set_hook, take_hook, AssertUnwindSafe};
 
 pub struct Wrong {
     pub name: String,
@@ -32,30 +30,6 @@ fn wrong(name: &str, bend: impl Fn(&mut Bent)) -> Wrong {
 /// All wrong checkers that give a wrong result.
 pub fn all() -> Vec<Wrong> {
     readers().into_iter().chain(judges()).chain(checkers()).chain(callers()).collect()
-}
-
-// ---- Wrong checkers at work
-
-thread_local! {
-    static AT_WORK: Cell<bool> = Cell::new(false);
-}
-
-/// Lets a wrong checker fail without a word. What else fails is told as ever.
-pub fn fail_silently() {
-    let told = take_hook();
-    set_hook(Box::new(move |fault| {
-        if !AT_WORK.with(Cell::get) {
-            told(fault)
-        }
-    }));
-}
-
-/// What a wrong checker gives, or nothing where it fails, as one may that takes a table which is no plan.
-pub fn given<T>(work: impl FnOnce() -> T) -> Option<T> {
-    AT_WORK.with(|at_work| at_work.set(true));
-    let given = catch_unwind(AssertUnwindSafe(work)).ok();
-    AT_WORK.with(|at_work| at_work.set(false));
-    given
 }
 
 // ---- Readers

@@ -1,0 +1,56 @@
+//! A driver at work: a program that makes the calls which come on its standard input, and answers on its standard output.
+
+use std::io::{self, BufReader, BufWriter};
+use std::process::{Child, ChildStdin, ChildStdout, Command, Stdio};
+use std::thread;
+
+pub type Input = BufWriter<ChildStdin>;
+pub type Output = BufReader<ChildStdout>;
+
+pub struct Driver {
+    child: Child,
+    input: Input,
+    output: Output,
+}
+
+impl Driver {
+    pub fn new(command: &[String]) -> Driver {
+        let mut child = Command::new(&command[0])
+            .args(&command[1..])
+            .stdin(Stdio::piped())
+            .stdout(Stdio::piped())
+            .spawn()
+            .unwrap_or_else(|fault| panic!("cannot run {}: {}", command[0], fault));
+        let input = BufWriter::with_capacity(1 << 16, child.stdin.take().expect("its input is a pipe"));
+        let output = BufReader::with_capacity(1 << 16, child.stdout.take().expect("its output is a pipe"));
+        Driver { child, input, output }
+    }
+
+    /// Sends all cases and has them flushed, and gives what was received for each.
+    pub fn answers<C: Sync, A>(
+        &mut self,
+        cases: &[C],
+        send: impl Fn(&mut Input, &C) -> io::Result<()> + Send,
+        flush: impl FnOnce(&mut Input) -> io::Result<()> + Send,
+        receive: impl Fn(&mut Output, &C) -> io::Result<A>,
+    ) -> Vec<A> {
+        let (input, output) = (&mut self.input, &mut self.output);
+        thread::scope(|scope| {
+            scope.spawn(move || {
+                for case in cases {
+                    send(input, case).expect("the driver takes calls");
+                }
+                flush(input).expect("the driver takes calls");
+            });
+            cases.iter().map(|case| receive(output, case).expect("the driver answers")).collect()
+        })
+    }
+
+    /// Ends the driver, which has to end well.
+    pub fn end(self) {
+        let Driver { mut child, input, output } = self;
+        drop((input, output));
+        let status = child.wait().expect("the driver ends");
+        assert!(status.success(), "the driver ended with {}", status);
+    }
+}
