@@ -1,6 +1,6 @@
-# Builds the driver of the comparison, and the benchmark, in .built/compare. The command conepalhui reads this file and gives it
-# its own functions. Both need the archive of the calls for C, which is for x86-64: so is what is linked with it. The judge, which
-# the comparison asks, is for this processor; compare/judge builds it.
+# Builds the drivers of the comparisons, and the benchmark, in .built/compare. The command conepalhui reads this file and gives it
+# its own functions. They need the archives of the calls for C, which are for x86-64: so is what is linked with them. The judge,
+# which the comparison asks, is for this processor; compare/judge builds it. So is the comparison of networks.
 
 rust_target=x86_64-unknown-linux-gnu
 
@@ -46,6 +46,17 @@ build_comparison() {
     find_c
     make_if_old driver .built/libconepalhui.a include/conepalhui.h compare/driver.c -- \
         "$c_compiler" -O2 -static -Iinclude compare/driver.c .built/libconepalhui.a -o
+}
+
+# The comparison of networks, and its driver.
+build_network_comparison() {
+    build_library
+    need rustc rustc
+    find_c
+    make_if_old network-driver .built/libconepalhui-network.a include/conepalhui-network.h compare/network_driver.c -- \
+        "$c_compiler" -O2 -static -Iinclude compare/network_driver.c .built/libconepalhui-network.a -o
+    make_if_old network compare/network*.rs compare/chance.rs compare/driver.rs compare/fail.rs -- \
+        rustc --edition 2021 -O compare/network_compare.rs -o
 }
 
 # Prints a compiler of Rust that has the library of x86-64.

@@ -179,15 +179,22 @@ about_compare() {
 Makes calls for C on plans, cursors and buffers taken by chance, and compares each result and every byte of lent memory
 with a plain checker in Rust. Each wrong checker of compare/wrong.rs has to be caught. --calls N says how many calls
 are made (200,000), and --seed N gives other ones (1). Exit status: 0 only where nothing differs and all are caught.
+With --networks N it compares the calls on so many networks instead, with a plain solver (compare/network.rs), and
+catches the wrong ones of compare/network_wrong.rs.
 END
 }
 
 do_compare() {
-    local calls=200000 seed=1 emulator c_compiler
-    numbers_from 'calls seed' "$@"
+    local calls=200000 networks=0 seed=1 emulator c_compiler
+    numbers_from 'calls networks seed' "$@"
     . compare/build.sh
-    build_comparison
-    compare/judge compare "$seed" "$calls" "${emulator[@]}" .built/compare/driver
+    if ((networks > 0)); then
+        build_network_comparison
+        .built/compare/network "$seed" "$networks" "${emulator[@]}" .built/compare/network-driver
+    else
+        build_comparison
+        compare/judge compare "$seed" "$calls" "${emulator[@]}" .built/compare/driver
+    fi
 }
 
 about_bench() {
