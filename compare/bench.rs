@@ -5,6 +5,7 @@
 #![allow(dead_code)]
 
 mod check;
+mod clock;
 mod format;
 mod paper;
 mod reasons;
@@ -12,21 +13,11 @@ mod rules;
 mod shape;
 
 use check::{host_slice, Checker, Plain};
+use clock::{median, print_both, time};
 use format::{cursor_bytes, Cursor};
 use paper::{CURSOR_BYTES, NOTHING_VIOLATED, PAUSED};
-use std::time::Duration;
-
-/// A time of the C library: seconds, and the ns after them.
-#[repr(C)]
-struct Timespec {
-    seconds: i64,
-    ns: i64,
-}
-
-const CLOCK_THREAD_CPUTIME: i32 = 3;
 
 extern "C" {
-    fn clock_gettime(clock: i32, time: *mut Timespec) -> i32;
     fn conepalhui_slice(
         plan: *const u8,
         plan_len: usize,
@@ -49,30 +40,15 @@ fn plain(plan: &[u8], cursor: &[u8], budget: u32, out: &mut [u8]) -> u32 {
     host_slice(&Plain, plan, cursor, budget, out) as u32
 }
 
-/// The time that this thread has had a processor for. Other programs on the machine do not add to it.
-fn processor_time() -> Duration {
-    let mut time = Timespec { seconds: 0, ns: 0 };
-    let status = unsafe { clock_gettime(CLOCK_THREAD_CPUTIME, &mut time) };
-    assert_eq!(status, 0, "there is no clock for the processor's time");
-    Duration::new(time.seconds as u64, time.ns as u32)
-}
-
 type Slice = fn(&[u8], &[u8], u32, &mut [u8]) -> u32;
 
 /// Gives the ns of a call, as the mean of several.
-fn time(slice: Slice, plan: &[u8], cursor: &[u8], budget: u32, expected: u32, calls: u32) -> f64 {
+fn time_of(slice: Slice, plan: &[u8], cursor: &[u8], budget: u32, expected: u32, calls: u32) -> f64 {
     let mut out = [0; CURSOR_BYTES];
-    let began = processor_time();
-    for _ in 0..calls {
+    time(calls, || {
         let result = slice(plan, cursor, budget, &mut out);
         assert_eq!(result, expected, "the plans of the benchmark give other results");
-    }
-    (processor_time() - began).as_nanos() as f64 / f64::from(calls)
-}
-
-fn median(mut times: Vec<f64>) -> f64 {
-    times.sort_by(|a, b| a.partial_cmp(b).expect("times are numbers"));
-    times[times.len() / 2]
+    })
 }
 
 /// One kind of call on a plan, with the times of the proved one and of the plain one.
@@ -109,20 +85,14 @@ fn bench(name: &str, bytes: &[u8], rounds: u32) {
     for _ in 0..rounds {
         for kind in &mut kinds {
             for (slice, times) in [proved as Slice, plain].iter().zip(&mut kind.times) {
-                times.push(time(*slice, bytes, &kind.cursor, kind.budget, kind.expected, kind.calls));
+                times.push(time_of(*slice, bytes, &kind.cursor, kind.budget, kind.expected, kind.calls));
             }
         }
     }
     println!("{}: {} links, {} legs, {} places, {} bytes", name, plan.links.len(), legs, places, bytes.len());
     for kind in &kinds {
         let [ours, theirs] = kind.medians();
-        println!(
-            "  {:<32} proved {:>9.1} us  plain {:>9.1} us  ratio {:.3}",
-            kind.what,
-            ours / 1e3,
-            theirs / 1e3,
-            ours / theirs
-        );
+        print_both(kind.what, ours, theirs);
     }
     let (whole, fixed) = (kinds[0].medians(), kinds[1].medians());
     let a_place = |side: usize| (whole[side] - fixed[side]) / places;

@@ -69,6 +69,11 @@ rust_for_x86_64() {
     return 1
 }
 
+make_benchmark() { # NAME LIBRARY SOURCE
+    make_if_old "$1" ".built/lib$2.a" compare/*.rs -- "$rust" --edition 2021 -C opt-level=3 --target "$rust_target" \
+        -C linker="$c_compiler" -L native=.built -l "static=$2" "$3" -o
+}
+
 # Both sides of the benchmark are for x86-64. On Arm that takes Debian's packages for two processors and its emulator.
 build_benchmark() {
     local rust c_library=/usr/lib/x86_64-linux-gnu/libc.so
@@ -79,7 +84,7 @@ build_benchmark() {
             "apt-get install rustc libstd-rust-dev:amd64 libc6-dev:amd64 qemu-user"
     fi
     rust=$(rust_for_x86_64) || stop "there is no compiler of Rust for x86-64: apt-get install rustc"
-    make_if_old bench .built/libconepalhui.a compare/*.rs -- "$rust" --edition 2021 -C opt-level=3 --target "$rust_target" \
-        -C linker="$c_compiler" -L native=.built -l static=conepalhui compare/bench.rs -o
+    make_benchmark bench conepalhui compare/bench.rs
+    make_benchmark network-bench conepalhui-network compare/network_bench.rs
     ((${#emulator[@]} == 0)) || emulator=(qemu-x86_64)
 }

@@ -200,9 +200,9 @@ do_compare() {
 about_bench() {
     cat <<'END'
 Times the check beside a plain checker in Rust, in one process and in turns, on the plans full-line, plant and largest of
-the folder plans: a whole check, and resumed calls with the budgets 0 and 300. --rounds N says how many rounds are made
-(21); medians are given. A ratio above 1 says that the proved code took longer. On Arm both sides run under Debian's
-emulator.
+the folder plans: a whole check, and resumed calls with the budgets 0 and 300. Then it times the solver of networks beside
+a plain one, on three networks of the largest size. --rounds N says how many rounds are made (21); medians are given. A
+ratio above 1 says that the proved code took longer. On Arm both sides run under Debian's emulator.
 END
 }
 
@@ -212,5 +212,6 @@ do_bench() {
     ((rounds > 0)) || stop "--rounds takes a number from 1 up"
     . compare/build.sh
     build_benchmark
-    "${emulator[@]}" .built/compare/bench "$rounds" plans/full-line.plan plans/plant.plan plans/largest.plan
+    "${emulator[@]}" .built/compare/bench "$rounds" plans/full-line.plan plans/plant.plan plans/largest.plan &&
+        "${emulator[@]}" .built/compare/network-bench "$rounds"
 }
