@@ -344,8 +344,14 @@ fn times() -> Vec<Wrong> {
         wrong("sums that stop at the ends of 32 bits", |s| {
             s.after = |time, most| i128::from((time as i32).saturating_add(most as i32));
         }),
-        wrong("one round too few", |s| s.rounds = |events| events.saturating_sub(2)),
-        wrong("ten rounds, and a chain by then", |s| s.rounds = |events| events.saturating_sub(1).min(10)),
+        wrong("one round too few, and a chain by then", |s| {
+            s.rounds = |events| events.saturating_sub(2);
+            s.chain_behind = chain_or_row;
+        }),
+        wrong("ten rounds, and a chain by then", |s| {
+            s.rounds = |events| events.saturating_sub(1).min(10);
+            s.chain_behind = chain_or_row;
+        }),
         wrong("one round too few, and times whatever comes", |s| {
             s.solve = |s, events, of| match solve(s, events, of) {
                 Solution::Times(_) => {
@@ -405,16 +411,25 @@ fn chain_changed(s: &Solver, events: usize, of: &[Constraint], change: impl Fn(&
     solution
 }
 
-/// Goes back from an event until one comes twice, and gives all of that.
+/// Goes back from an event until one comes twice, or one was never lowered, and gives all of that.
 fn with_what_leads_there(lowered_by: &[Option<usize>], of: &[Constraint], event: usize) -> Vec<usize> {
     let (mut seen, mut at, mut chain) = (vec![false; lowered_by.len()], event, Vec::new());
-    while !seen[at] {
+    while let Some(number) = lowered_by[at].filter(|_| !seen[at]) {
         seen[at] = true;
-        chain.push(lowered_by[at].expect("what is behind was lowered too"));
-        at = of[chain[chain.len() - 1]].from;
+        chain.push(number);
+        at = of[number].from;
     }
     chain.reverse();
     chain
+}
+
+/// The right chain where there is one, and otherwise what leads to the event.
+fn chain_or_row(lowered_by: &[Option<usize>], of: &[Constraint], event: usize) -> Vec<usize> {
+    let row = with_what_leads_there(lowered_by, of, event);
+    match lowered_by[of[row[0]].from] {
+        Some(_) => network::chain_behind(lowered_by, of, event),
+        None => row,
+    }
 }
 
 fn chains() -> Vec<Wrong> {
