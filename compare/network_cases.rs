@@ -2,7 +2,7 @@
 
 use crate::chance::Chance;
 use crate::network::{answer, constraints, Answer, Call, Constraint, Kind, Network, CHAIN, RIGHT, TIMES};
-use crate::network_drafts::{between, extreme, shuffle, FAMILIES};
+use crate::network_drafts::{between, example, extreme, shuffle, FAMILIES};
 use std::sync::Arc;
 
 /// The networks of a batch.
@@ -26,7 +26,8 @@ impl Case {
 /// The calls of one batch of a run. A call of the solver begins those of each network.
 pub fn batch(seed: u64, number: u64) -> Vec<Case> {
     let mut chance = Chance::new(seed, number);
-    let made: Vec<Network> = (0..BATCH).map(|at| FAMILIES[at % FAMILIES.len()].1(&mut chance)).collect();
+    let mut made: Vec<Network> = (0..BATCH).map(|at| FAMILIES[at % FAMILIES.len()].1(&mut chance)).collect();
+    made[0] = example(between(&mut chance, -7, -6));
     made.into_iter().flat_map(|network| cases(&mut chance, Arc::new(network))).collect()
 }
 

@@ -19,14 +19,15 @@ mod network_wrong;
 use driver::Driver;
 use fail::{fail_silently, given};
 use network::{
-    answer, is_right, Answer, Kind, ABOVE_LIMIT, BROKEN, CHAIN, NO_CHAIN, NO_ROOM, OUT_OF_RANGE, REFUSED, TIMES,
+    answer, is_right, Answer, Call, Kind, ABOVE_LIMIT, BROKEN, CHAIN, NO_CHAIN, NO_ROOM, OUT_OF_RANGE, REFUSED, RIGHT,
+    TIMES,
 };
 use network_calls::{receive, send, send_flush};
 use network_cases::{batch, Case, BATCH};
 use network_wrong::{all, Wrong};
 use std::collections::BTreeMap;
 use std::sync::atomic::{AtomicU64, Ordering};
-use std::sync::Mutex;
+use std::sync::{Arc, Mutex};
 use std::thread;
 
 const SHOWN: usize = 5;
@@ -198,12 +199,27 @@ fn run(seed: u64, wanted: u64, driver: &[String]) -> bool {
     report(&wrong, &found, batches * BATCH as u64, &spoilers_at_large(driver))
 }
 
+/// Whether the plain solver gives what the request says of its example.
+fn keeps_the_example() -> bool {
+    let solved = |last: i64| {
+        let network = Arc::new(network_drafts::example(last));
+        answer(&RIGHT, &Call { kind: Kind::Solve, network, times: Vec::new(), chain: vec![9; 3] })
+    };
+    let (times, mut chain) = (solved(-6), solved(-7));
+    chain.chain.sort_unstable();
+    (times.result, &times.times[..3]) == (TIMES, &[-10, 0, -4])
+        && (chain.result, &chain.chain[..]) == (CHAIN, &[0, 1, 2])
+}
+
 /// Prints what a run found, and says whether all is well.
 fn report(wrong: &[Wrong], found: &Found, networks: u64, spoilers: &[&str]) -> bool {
     for fault in &found.shown {
         println!("{}", fault);
     }
     let mut faults = Vec::new();
+    if !keeps_the_example() {
+        faults.push("DIFFERENCE of the plain solver from the example of the request".to_string());
+    }
     for (at, Wrong { name, .. }) in wrong.iter().enumerate() {
         match found.caught[at] {
             Some((batch, call)) => println!("caught in call {} of batch {}: {}", call + 1, batch + 1, name),

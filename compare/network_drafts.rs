@@ -48,6 +48,11 @@ pub const FAMILIES: [Family; 32] = [
     ("dense", dense),
 ];
 
+/// The example of the request: with -6 in the last constraint there are times, and with -7 a chain.
+pub fn example(last: i64) -> Network {
+    network(3, &[[0, 1, 10], [1, 2, -4], [2, 0, last]])
+}
+
 fn network(events: usize, records: &[Record]) -> Network {
     Network { events: events as u64, words: records.concat() }
 }
