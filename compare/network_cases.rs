@@ -26,7 +26,7 @@ impl Case {
 /// The calls of one batch of a run. A call of the solver begins those of each network.
 pub fn batch(seed: u64, number: u64) -> Vec<Case> {
     let mut chance = Chance::new(seed, number);
-    let mut made: Vec<Network> = (0..BATCH).map(|at| FAMILIES[at % FAMILIES.len()].1(&mut chance)).collect();
+    let mut made: Vec<Network> = (0..BATCH).map(|at| FAMILIES[at % FAMILIES.len()](&mut chance)).collect();
     made[0] = example(between(&mut chance, -7, -6));
     made.into_iter().flat_map(|network| cases(&mut chance, Arc::new(network))).collect()
 }
@@ -35,7 +35,7 @@ fn cases(chance: &mut Chance, network: Arc<Network>) -> Vec<Case> {
     let lent: Vec<u32> = (0..room(chance, network.events)).map(|_| any_word(chance)).collect();
     let solve = Case::new(Call { kind: Kind::Solve, network, times: Vec::new(), chain: lent });
     let network = &solve.call.network;
-    // What a network has that is refused for want of room, or for its numbers, is asked of it none the less.
+    // The tests are given what the solver finds, also where it was lent too few words.
     let events = network.events.min(130) as usize;
     let solved = Case::new(Call { chain: vec![0; events], ..solve.call.clone() }).expected;
     let whole = if solved.result == TIMES || solved.result == CHAIN { constraints(network) } else { Vec::new() };
@@ -140,8 +140,8 @@ fn chain(chance: &mut Chance, solved: &Answer, whole: &[Constraint]) -> Vec<u32>
     chain
 }
 
-/// Goes from constraint to constraint, until an event comes back. Gives the closed chain alone, or (not simple) goes on until
-/// the first event comes back, or with all that leads to the chain.
+/// Goes from constraint to constraint. A simple walk gives the closed chain, once an event comes back. Another one ends where
+/// its first event comes back, whichever came twice before, or somewhere.
 fn walk(chance: &mut Chance, whole: &[Constraint], simple: bool) -> Vec<u32> {
     let mut gone: Vec<usize> = Vec::new();
     if whole.is_empty() {

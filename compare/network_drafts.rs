@@ -6,46 +6,14 @@ use crate::network::{Network, LIMITS, RECORD};
 /// From, to, most.
 type Record = [i64; 3];
 
-/// The sizes of numbers in a network: from 0 or 1 up to the limit.
+/// How far the numbers of a network are from 0 at most.
 const SIZES: [i64; 6] = [1, 3, 10, 1_000, 1_000_000, LIMITS.most];
 
-/// A network of a family: what the family is called, and what makes one.
-pub type Family = (&'static str, fn(&mut Chance) -> Network);
-
-/// Each batch has all of them in turn. Large networks take long, so that they are few.
-pub const FAMILIES: [Family; 32] = [
-    ("small", small),
-    ("random", random),
-    ("tight", tight),
-    ("ring", ring),
-    ("hostile", hostile),
-    ("small", small),
-    ("tightened", tightened),
-    ("line", line),
-    ("components", components),
-    ("hostile", hostile),
-    ("parallel", parallel),
-    ("eight", eight),
-    ("small", small),
-    ("ring", ring),
-    ("hostile", hostile),
-    ("random", random),
-    ("loops", loops),
-    ("tightened", tightened),
-    ("at a limit", at_a_limit),
-    ("small", small),
-    ("tight", tight),
-    ("late ring", late_ring),
-    ("hostile", hostile),
-    ("parallel", parallel),
-    ("at a limit", at_a_limit),
-    ("eight", eight),
-    ("loops", loops),
-    ("ring", ring),
-    ("small", small),
-    ("hostile", hostile),
-    ("components", components),
-    ("dense", dense),
+/// What makes a network of each family. Each batch has all of them in turn. Large networks take long, so that they are few.
+pub const FAMILIES: [fn(&mut Chance) -> Network; 32] = [
+    small, random, tight, ring, hostile, small, tightened, line, components, hostile, parallel, eight, small, ring,
+    hostile, random, loops, tightened, at_a_limit, small, tight, late_ring, hostile, parallel, at_a_limit, eight,
+    loops, ring, small, hostile, components, dense,
 ];
 
 /// The example of the request: with -6 in the last constraint there are times, and with -7 a chain.
@@ -86,12 +54,12 @@ fn laid(chance: &mut Chance, mut records: Vec<Record>) -> Vec<Record> {
 }
 
 /// How many events: often few, sometimes all.
-fn some_events(chance: &mut Chance, least: usize) -> usize {
+fn some_events(chance: &mut Chance) -> usize {
     let most = chance.of(&[3, 5, 8, 8, 20, 20, 60, 127, 128]);
     if most > 126 {
         most
     } else {
-        least.max(1 + chance.below(most))
+        1 + chance.below(most)
     }
 }
 
@@ -111,7 +79,7 @@ fn small(chance: &mut Chance) -> Network {
 
 /// Mostly with times: few of the numbers are below 0.
 fn random(chance: &mut Chance) -> Network {
-    let events = some_events(chance, 1);
+    let events = some_events(chance);
     let count = chance.below(3 * events + 1);
     let size = chance.of(&SIZES);
     let least = chance.of(&[-size, -size / 3, -size / 30]);
@@ -141,7 +109,7 @@ fn exact_ring(chance: &mut Chance, hidden: &[i64], length: usize) -> Vec<Record>
 }
 
 fn tight(chance: &mut Chance) -> Network {
-    let events = some_events(chance, 1);
+    let events = some_events(chance);
     let size = chance.of(&SIZES);
     let hidden = hidden_times(chance, events, size);
     let count = chance.below(4 * events + 1);
@@ -151,7 +119,7 @@ fn tight(chance: &mut Chance) -> Network {
 
 /// A tight network with a chain that sums to 0, and then one of its constraints tightened by 1, or not.
 fn tightened(chance: &mut Chance) -> Network {
-    let events = some_events(chance, 1);
+    let events = some_events(chance);
     let size = chance.of(&SIZES) - 1;
     let hidden = hidden_times(chance, events, size);
     let length = 1 + chance.below(events);
@@ -189,7 +157,7 @@ fn ring_of(chance: &mut Chance, events: &[i64], sum: i64) -> Vec<Record> {
 
 /// A chain that sums to -1, 0 or 1, with events that lead to it and away from it.
 fn ring(chance: &mut Chance) -> Network {
-    let events = some_events(chance, 1);
+    let events = some_events(chance);
     let order = any_order(chance, events);
     let length = if chance.one_in(2) { events } else { 1 + chance.below(events) };
     let sum = between(chance, -1, 1);
