@@ -38,7 +38,8 @@
  *
  *   result  position  cause
  *   127     0         more than 128 events, or more than 2,048 constraints. A last one that is cut counts
- *   116     k         constraint k is cut, names an event that is not there, or has a most out of range; the lowest such
+ *   116     k         constraint k, and none before it, is cut, names an event that is not there, or has a most out of
+ *                     range
  *   115     0         conepalhui_network alone: chain has fewer numbers than there are events, even where times exist
  *
  * What holds of every call
