@@ -74,6 +74,7 @@ run_rt() { # COMMAND CRATE LOG
     timetable) what="the checker" ;;
     operator) what="the program for slices, moves, words and shape" ;;
     host) what="the calls for C" ;;
+    network_host) what="the calls for C of temporal networks" ;;
     esac
     mapfile -t used < <(uses "$2")
     note "proving and building $what first. This is done once, until the sources change, and takes about three minutes on two idle cores. If you stop it, what is proved stays proved"
@@ -112,26 +113,32 @@ build() { # NAME [COMMAND PRODUCT FILE]
     unlock
 }
 
-# Proves and builds the archive of the calls for C, .built/libconepalhui.a.
-build_library() { build host staticlib target/staticlib/libhost.a libconepalhui.a; }
+# Proves and builds the archives of the calls for C: .built/libconepalhui.a for plans, .built/libconepalhui-network.a for temporal networks.
+build_library() {
+    build host staticlib target/staticlib/libhost.a libconepalhui.a
+    build network_host staticlib target/staticlib/libnetwork_host.a libconepalhui-network.a
+}
 
 about_library() {
     cat <<'END'
-Proves the calls for C and builds their archive, unless it is there and its sources have not changed. It prints two lines,
-'archive FILE' and 'header FILE'. The archive is .built/libconepalhui.a, for x86-64, and the header include/conepalhui.h:
+Proves the calls for C and builds their archives, unless they are there and their sources have not changed. It prints two
+lines for each, 'archive FILE' and 'header FILE'. The archives are for x86-64, and neither needs the other:
 
-  cc -Iinclude program.c .built/libconepalhui.a
+  cc -Iinclude program.c .built/libconepalhui.a            checks of plans: include/conepalhui.h
+  cc -Iinclude program.c .built/libconepalhui-network.a    temporal networks: include/conepalhui-network.h
 
-examples/README.md has a whole program. Exit status: 0 built, 4 where it cannot be proved or built.
+examples/README.md has a whole program for each. Exit status: 0 built, 4 where one cannot be proved or built.
 END
 }
 
 do_library() {
-    local folder=''
+    local folder='' name
     (($# == 0)) || stop "library takes no argument"
     build_library
     [[ $from -ef . ]] || folder=$PWD/
-    printf '%s\n' "archive ${folder}.built/libconepalhui.a" "header ${folder}include/conepalhui.h" || stop "cannot write to standard output"
+    for name in conepalhui conepalhui-network; do
+        printf '%s\n' "archive ${folder}.built/lib$name.a" "header ${folder}include/$name.h" || stop "cannot write to standard output"
+    done
 }
 
 # ---- An installed copy
@@ -144,8 +151,10 @@ it; on Arm that takes Debian's packages qemu-user and libc6-amd64-cross.
   bin/conepalhui                     this command, for whatever needs no kit
   lib/conepalhui                     its parts: the programs, and the scripts that run them
   lib/libconepalhui.a                the calls for C, for x86-64
-  lib/pkgconfig/conepalhui.pc        their flags: cc program.c $(pkg-config --cflags --libs conepalhui)
-  include/conepalhui.h               their header
+  lib/libconepalhui-network.a        the same for temporal networks
+  lib/pkgconfig/conepalhui.pc        flags for both: cc program.c $(pkg-config --cflags --libs conepalhui)
+  include/conepalhui.h               the header of the calls
+  include/conepalhui-network.h       that of the others
   share/man/man1/conepalhui.1        a man page
   share/doc/conepalhui               the pages of docs/
 
@@ -177,10 +186,10 @@ includedir=\${prefix}/include
 libdir=\${prefix}/lib
 
 Name: conepalhui
-Description: a verified checker of network timetables: start, slice and move
+Description: a verified checker of network timetables: start, slice and move; temporal networks
 Version: $1
 Cflags: -I\${includedir}
-Libs: -L\${libdir} -lconepalhui
+Libs: -L\${libdir} -lconepalhui -lconepalhui-network
 END
 }
 
@@ -213,9 +222,11 @@ do_install() {
     make_temp && write_copy || stop "cannot make the copy"
     for name in timetable operator; do put ".built/$name" "lib/conepalhui/$name" 755; done
     for name in help run; do put "tools/$name.sh" "lib/conepalhui/$name.sh"; done
-    put .built/libconepalhui.a lib/libconepalhui.a
+    for name in conepalhui conepalhui-network; do
+        put ".built/lib$name.a" "lib/lib$name.a"
+        put "include/$name.h" "include/$name.h"
+    done
     put "$temp/flags" lib/pkgconfig/conepalhui.pc
-    put include/conepalhui.h include/conepalhui.h
     for name in docs/*.md docs/changes/*.md; do put "$name" "share/doc/conepalhui/${name#docs/}"; done
     put "$temp/page" share/man/man1/conepalhui.1
     put "$temp/command" bin/conepalhui 755 # The last: without it nothing is run.
