@@ -24,15 +24,17 @@
  *     times[to] - times[from] <= most
  *
  * "At least" is the same the other way round: times[to] - times[from] >= least is the constraint to, from, -least. The
- * unit is the caller's, the same for all. An event may be constrained with itself, and two events more than once.
+ * unit is the caller's, the same for all. An event may be constrained with itself, and two events more than once. Where
+ * words is no multiple of three, the last constraint is cut.
  *
  * Times. Each constraint holds, none is above zero, and they are the latest such times: no others are later at any
- * event. Constraints speak of differences alone: subtract the time of one event from all, and that event is at 0.
+ * event. They go down to -127,000,000,000. Constraints speak of differences alone: subtract the time of one event from
+ * all, and that event is at 0.
  *
  * Chains. A chain is numbers of constraints. Each begins at the event where the one before it ends, the first where
  * the last ends; no event is met twice; the sum of their mosts is below zero. It is given exactly where no times exist.
  * WHICH CHAIN IS GIVEN MAY DIFFER between versions of the library. A chain can be checked by hand, or with
- * conepalhui_network_chain.
+ * conepalhui_network_chain(3, constraints, 9, chain, answer.number).
  *
  * Refusals, 100 + number as a result, in this order. A refusal writes nothing.
  *
@@ -67,7 +69,7 @@
 #define CONEPALHUI_NETWORK_EVENTS 128        /* no network has more events */
 #define CONEPALHUI_NETWORK_CONSTRAINTS 2048  /* nor more constraints */
 #define CONEPALHUI_NETWORK_MOST 1000000000   /* the most of a constraint is from minus this number to this number */
-#define CONEPALHUI_NETWORK_STACK_BYTES 16384 /* no call was seen to use more: measured, and not proved */
+#define CONEPALHUI_NETWORK_STACK_BYTES 16384 /* no call was seen to use more, with its answer: measured, not proved */
 
 enum {
     CONEPALHUI_NETWORK_TIMES = 0,    /* times that keep all constraints */
@@ -79,16 +81,17 @@ enum {
 
 /* What conepalhui_network gives. It has 1,032 bytes, and comes by value. */
 struct conepalhui_network_answer {
-    uint32_t result;                          /* 0, 1, 115, 116 or 127 */
-    uint32_t number;                          /* see there */
-    int64_t times[CONEPALHUI_NETWORK_EVENTS]; /* of each event; 0 of others, and all 0 where no times are given */
+    uint32_t result; /* 0, 1, 115, 116 or 127 */
+    uint32_t number; /* as the call says */
+    /* Those of unused events are 0. Look at the result first: where it is not 0, all are 0, and are no answer. */
+    int64_t times[CONEPALHUI_NETWORK_EVENTS];
 };
 typedef struct conepalhui_network_answer conepalhui_network_answer;
 
 /* What a test gives. */
 struct conepalhui_network_verdict {
-    uint32_t result; /* see each test */
-    uint32_t number;
+    uint32_t result; /* 0 to 3, 116 or 127 */
+    uint32_t number; /* as each test says */
 };
 typedef struct conepalhui_network_verdict conepalhui_network_verdict;
 
