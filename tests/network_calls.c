@@ -22,6 +22,7 @@
 #define PAGE 65536 /* as large as a page of any machine */
 #define BESIDE 4096 /* so many bytes on the other side of a lent buffer are compared */
 #define MOST_FAULTS 10
+#define ANY 0 /* no chain has this length */
 #define UNTOUCHED 0xA5
 #define PAINT 0xC7
 #define STACK 262144
@@ -232,14 +233,18 @@ static void solved(const char *name, size_t chain_len, const int64_t *times, siz
     }
 }
 
-/* The solver gives a chain of so many constraints, and none is written past it. The test takes it. */
-static void contradicted(const char *name, size_t chain_len, uint32_t length)
+/*
+ * The solver gives a chain of so many constraints, and none is written past it. The test takes it. Such a network has
+ * one chain, which may begin anywhere; where there are several, ANY length will do.
+ */
+static void contradicted(const char *name, size_t chain_len, uint32_t due)
 {
     uint32_t chain[EVENTS];
     for (int side = 0; side < SIDES; side++) {
         lend_constraints(side);
         uint32_t *links = lend(LINKS, side, NULL, chain_len * sizeof *links);
         conepalhui_network_answer answer = call_solve(chain_len);
+        uint32_t length = due == ANY && answer.number <= given.events ? answer.number : due;
         compare(name, answer.result, answer.number, CONEPALHUI_NETWORK_CHAIN, length);
         expect_times(name, &answer, NULL, 0);
         expect_untouched(name, CONSTRAINTS);
@@ -338,13 +343,18 @@ static void ring(int order, int64_t sum)
 }
 
 /* 128 events in a row, each at most so much after the one before it. */
-static void row(int order, int64_t most)
+static void add_row(int order, int64_t most)
 {
-    empty(EVENTS);
     for (int64_t i = 0; i < EVENTS - 1; i++) {
         int64_t from = order == FORWARD ? i : EVENTS - 2 - i;
         add(from, from + 1, most);
     }
+}
+
+static void row(int order, int64_t most)
+{
+    empty(EVENTS);
+    add_row(order, most);
 }
 
 static void long_networks(void)
@@ -372,7 +382,28 @@ static void long_networks(void)
         row(order, MOST);
         add(EVENTS - 1, 0, MOST);
         solved("the highest sum", EVENTS, NULL, 0);
+        empty(EVENTS);
+        add(1, 0, -1);
+        add_row(order, 0);
+        contradicted("a chain of two, and a row from it", EVENTS, 2);
+        row(order, -MOST);
+        add(EVENTS - 1, EVENTS - 2, MOST - 1);
+        contradicted("a chain of two, and a row to it", EVENTS, 2);
+        row(order, -1);
+        add(64, 62, 1);
+        contradicted("a chain of three, and rows to it and from it", EVENTS, 3);
     }
+}
+
+/* Each of so many events comes before each, itself too or not: there are many chains. */
+static void many_chains(int64_t events, int is_itself)
+{
+    empty((size_t)events);
+    for (int64_t from = 0; from < events; from++)
+        for (int64_t to = 0; to < events; to++)
+            if (from != to || is_itself)
+                add(from, to, -1 - (from * 7 + to * 5) % 11);
+    contradicted("many chains", (size_t)events, ANY);
 }
 
 /* 2,048 constraints: a row or a ring, and then constraints that always hold. */
@@ -743,6 +774,10 @@ int main(void)
     numbers_of_the_paper();
     small_networks();
     long_networks();
+    many_chains(2, 1);
+    many_chains(12, 0);
+    many_chains(45, 1);
+    many_chains(45, 0);
     most_constraints();
     constraints_out_of_range();
     too_many_events();
