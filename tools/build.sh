@@ -151,10 +151,10 @@ it; on Arm that takes Debian's packages qemu-user and libc6-amd64-cross.
   bin/conepalhui                     this command, for whatever needs no kit
   lib/conepalhui                     its parts: the programs, and the scripts that run them
   lib/libconepalhui.a                the calls for C, for x86-64
-  lib/libconepalhui-network.a        the same for temporal networks
-  lib/pkgconfig/conepalhui.pc        flags for both: cc program.c $(pkg-config --cflags --libs conepalhui)
-  include/conepalhui.h               the header of the calls
-  include/conepalhui-network.h       that of the others
+  include/conepalhui.h               their header
+  lib/libconepalhui-network.a        the calls for C of temporal networks, for x86-64
+  include/conepalhui-network.h       their header
+  lib/pkgconfig/conepalhui.pc        the flags for both: cc program.c $(pkg-config --cflags --libs conepalhui)
   share/man/man1/conepalhui.1        a man page
   share/doc/conepalhui               the pages of docs/
 
