@@ -687,6 +687,8 @@ static void layout_and_helpers(void)
     if (sizeof answer != 1032 || offsetof(conepalhui_network_answer, times) != 8 ||
         sizeof(conepalhui_network_verdict) != 8)
         fault("layout", "another one");
+    if (EVENTS != 128 || CONEPALHUI_NETWORK_CONSTRAINTS != 2048 || CONEPALHUI_NETWORK_MOST != MOST)
+        fault("limits", "others");
     for (uint32_t result = 0; result < 300; result++) {
         uint32_t refusal = result == 115 || result == 116 || result == 127 ? result - 100 : 0;
         int is_result = result < 4 || refusal != 0;
