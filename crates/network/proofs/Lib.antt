@@ -4,3 +4,4 @@ pub mod Passing
 pub mod Judging
 pub mod Marks
 pub mod Theorems
+pub mod AtNumbers

@@ -3,3 +3,4 @@ pub mod Constraints
 pub mod Marks
 pub mod Steps
 pub mod Theorems
+pub mod AtNumbers
