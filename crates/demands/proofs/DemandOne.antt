@@ -3,6 +3,9 @@ use Rattle.numbers.proofs.OneNumber.{read-number-one-answer, write-number-one-a
 use Rattle.files.proofs.OneAnswer.{read-plan-one-answer, write-plan-one-answer, read-cursor-one-answer, write-cursor-one-answer}
 use Rattle.checker.proofs.OneAnswer.{start-one-answer, slice-one-answer, move-one-answer}
 use Rattle.host.proofs.OneAnswer.{host-start-one-answer, host-slice-one-answer, host-slice-full-one-answer, host-move-one-answer}
+use Rattle.claims.proofs.OneAnswer.{test-times-one-answer, test-chain-one-answer}
+use Rattle.solver.proofs.OneAnswer.{solve-one-answer}
+use Rattle.network_host.proofs.OneAnswer.{host-solve-one-answer, host-test-times-one-answer, host-test-chain-one-answer, host-solve-refusals-write-nothing}
 use Rattle.host.proofs.Outcomes.{host-refusals-write-nothing}
 use Rattle.demands.specs.DemandOne.{OneAnswerEach, RefusalsLoseNothing, DemandOne}
 
@@ -21,6 +24,12 @@ one-answer-each = record {
   host-slice = host-slice-one-answer;
   host-slice-full = host-slice-full-one-answer;
   host-move = host-move-one-answer;
+  solve = solve-one-answer;
+  test-times = test-times-one-answer;
+  test-chain = test-chain-one-answer;
+  host-solve = host-solve-one-answer;
+  host-test-times = host-test-times-one-answer;
+  host-test-chain = host-test-chain-one-answer;
 }
 
 pub refusals-lose-nothing : RefusalsLoseNothing
@@ -33,6 +42,8 @@ refusals-lose-nothing = record {
   slice = λ t c d b k p w. w .1;
   move-leg = λ t t′ c d mv k p w. (w .2, w .1);
   host = host-refusals-write-nothing;
+  solve = λ n k p ws times b b′ w. w .2;
+  host-solve = host-solve-refusals-write-nothing;
 }
 
 pub demand-one : DemandOne

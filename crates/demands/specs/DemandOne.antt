@@ -3,6 +3,7 @@
 use Prim.Native.Nat.{ℕ}
 use mathlib.Core.Path.{_≡_}
 use mathlib.Core.List.{List}
+use lib.IntN.{ℤ}
 use Rattle.numbers.specs.Calls.{WritesNumber}
 use Rattle.numbers.specs.Theorems.{ReadNumberOneAnswer, WriteNumberOneAnswer}
 use Rattle.numbers.specs.declared.Written.the-variants as written
@@ -17,10 +18,16 @@ use Rattle.checker.specs.Slices.{noCursor, Starts, Slices}
 use Rattle.checker.specs.Moves.{Moves}
 use Rattle.checker.specs.Theorems.{StartOneAnswer, SliceOneAnswer, MoveOneAnswer}
 use Rattle.host.specs.Theorems.{HostStartOneAnswer, HostSliceOneAnswer, HostSliceFullOneAnswer, HostMoveOneAnswer, HostRefusalsWriteNothing}
+use Rattle.claims.specs.Theorems.{TestTimesOneAnswer, TestChainOneAnswer}
+use Rattle.solver.specs.Solving.{SolvesWith}
+use Rattle.solver.specs.Theorems.{SolveOneAnswer}
+use Rattle.solver.specs.declared.Outcome.the-variants as outcome
+use Rattle.network_host.specs.Theorems.{HostSolveOneAnswer, HostTestTimesOneAnswer, HostTestChainOneAnswer, HostSolveRefusalsWriteNothing}
 use Rattle.checker.specs.declared.Grant.the-variants as grant
 use Rattle.checker.specs.declared.SliceAnswer.the-variants as answer
 
--- The statement of each public call holds for one answer at most. That it holds for one is the contract of the call, which the code is proved to meet.
+-- The statement of each public call holds for one answer at most, but that one of several chains may be given where a network has no times. That it holds for one is
+-- the contract of the call, which the code is proved to meet.
 pub record OneAnswerEach : Type 0 where
   pub read-number : ReadNumberOneAnswer
   pub write-number : WriteNumberOneAnswer
@@ -35,6 +42,12 @@ pub record OneAnswerEach : Type 0 where
   pub host-slice : HostSliceOneAnswer
   pub host-slice-full : HostSliceFullOneAnswer
   pub host-move : HostMoveOneAnswer
+  pub solve : SolveOneAnswer
+  pub test-times : TestTimesOneAnswer
+  pub test-chain : TestChainOneAnswer
+  pub host-solve : HostSolveOneAnswer
+  pub host-test-times : HostTestTimesOneAnswer
+  pub host-test-chain : HostTestChainOneAnswer
 
 -- A refused call leaves the lent memory b, or the table t, as it was, and gives back the cursor c. A start is given none, and gives 0, 0, 0. The calls
 -- that are not named here are lent nothing to write and are given no cursor.
@@ -47,6 +60,8 @@ pub record RefusalsLoseNothing : Type 0 where
   pub slice : (t : List ℕ) (c d : Cursor) (budget k p : ℕ) → Slices t c budget (answer.Refused k p d) → d ≡ c
   pub move-leg : (t t′ : List ℕ) (c d : Cursor) (mv : Move) (k p : ℕ) → Moves t c mv (grant.Refused k p d) t′ → (t′ ≡ t) × (d ≡ c)
   pub host : HostRefusalsWriteNothing
+  pub solve : (n k p : ℕ) (ws times : List ℤ) (b b′ : List ℕ) → SolvesWith n ws b (outcome.Refused k p) times b′ → b′ ≡ b
+  pub host-solve : HostSolveRefusalsWriteNothing
 
 pub record DemandOne : Type 0 where
   pub one-answer : OneAnswerEach

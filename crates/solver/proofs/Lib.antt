@@ -7,3 +7,4 @@ pub mod Copying
 pub mod Ends
 pub mod Turns
 pub mod OneAnswer
+pub mod AtNumbers

@@ -3,3 +3,4 @@ pub mod Rounds
 pub mod Walks
 pub mod Steps
 pub mod Theorems
+pub mod AtNumbers
