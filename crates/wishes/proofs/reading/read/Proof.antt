@@ -1,0 +1,68 @@
+-- `wishes::reading::read` is safe and ends: each line begins inside the text, or past its end. Assumes nothing.
+use Prim.Native.Nat.{_+_, _-_, _≤_}
+use mathlib.Core.Path.{_≡_}
+use borrow.Author.Needs.{needs}
+use lib.ListN.{length}
+use Rattle.wishes.proofs.reading.read.Statement.{statement}
+use Rattle.wishes.proofs.reading.read.Tie as tie
+
+abbrev Inv-loop : tie.InvT-loop
+Inv-loop text at₀ constraints₀ in-lines₀ got₀ start₀ n₀ at constraints in-lines got start n = (start ≤ length text + 1) × (length at ≡ length at₀) × (length constraints ≡ length constraints₀) × (length in-lines ≡ length in-lines₀)
+
+abbrev μ-loop : tie.MeasureT-loop
+μ-loop text at₀ constraints₀ in-lines₀ got₀ start₀ n₀ at constraints in-lines got start n = length text + 1 - start
+
+loop-holds : tie.Need-loop-holds Inv-loop μ-loop
+loop-holds c = search needs
+
+line-end-requires : tie.Need-line-end-requires Inv-loop μ-loop
+line-end-requires c κs = search needs
+
+wrapping-add-u32-requires : tie.Need-wrapping-add-u32-requires Inv-loop μ-loop
+wrapping-add-u32-requires c κs = search needs
+
+read-part-requires : tie.Need-read-part-requires Inv-loop μ-loop
+read-part-requires c κs = search needs
+
+with-line-requires : tie.Need-with-line-requires Inv-loop μ-loop
+with-line-requires c κs = search needs
+
+add-start : tie.Need-add-start Inv-loop μ-loop
+add-start c = search needs
+
+loop-less : tie.Need-loop-less Inv-loop μ-loop
+loop-less c = search needs
+
+loop-again : tie.Need-loop-again Inv-loop μ-loop
+loop-again c = search needs
+
+same-length : tie.Need-same-length Inv-loop μ-loop
+same-length c = search needs
+
+same-length-2 : tie.Need-same-length-2 Inv-loop μ-loop
+same-length-2 c = search needs
+
+same-length-3 : tie.Need-same-length-3 Inv-loop μ-loop
+same-length-3 c = search needs
+
+returns : tie.Need-returns Inv-loop μ-loop
+returns c = search needs
+
+pub read-spec : {M : Type 1} → statement M
+read-spec =
+    tie.close
+    (tie.spec
+    Inv-loop
+    μ-loop
+    loop-holds
+    line-end-requires
+    wrapping-add-u32-requires
+    read-part-requires
+    with-line-requires
+    add-start
+    loop-less
+    loop-again
+    same-length
+    same-length-2
+    same-length-3
+    returns)

@@ -1,0 +1,71 @@
+// The lines of a text. A line ends at a line feed, or at the end of the text.
+ghost use Prim.Native.Nat.{_≤_};
+ghost use lib.ListN.{length};
+
+// Where a byte stands first from a position on, or the end.
+pub(crate) fn place_of(text: &[u8], start: usize, byte: u8) -> usize
+    requires { ⌜ start ≤ length (now text) ⌝ }
+    ensures { λ r. ⌜ start ≤ r ⌝ }
+    ensures { λ r. ⌜ r ≤ length (now (text .entry)) ⌝ }
+{
+    let mut i = start;
+    while i < text.len() {
+        if text[i] == byte {
+            return i;
+        }
+        i = i + 1;
+    }
+    i
+}
+
+// Internal: where the line that begins at a position ends.
+pub fn line_end(text: &[u8], start: usize) -> usize
+    requires { ⌜ start ≤ length (now text) ⌝ }
+    ensures { λ r. ⌜ start ≤ r ⌝ }
+    ensures { λ r. ⌜ r ≤ length (now (text .entry)) ⌝ }
+{
+    place_of(text, start, b'\n')
+}
+
+// Internal: how many bytes of a line are read: those before a comment or a carriage return at its end.
+pub fn content_end(line: &[u8]) -> usize
+    ensures { λ r. ⌜ r ≤ length (now (line .entry)) ⌝ }
+{
+    let end = place_of(line, 0, b'#');
+    if end < line.len() {
+        return end;
+    }
+    if end == 0 {
+        return 0;
+    }
+    if line[end - 1] == b'\r' {
+        return end - 1;
+    }
+    end
+}
+
+// Where the n-th line begins, counted from 1, or the end.
+fn line_start(text: &[u8], n: u32) -> usize
+    ensures { λ r. ⌜ r ≤ length (now (text .entry)) ⌝ }
+{
+    let mut start: usize = 0;
+    let mut i: u32 = 1;
+    while i < n {
+        let end = line_end(text, start);
+        if end == text.len() {
+            return end;
+        }
+        start = end + 1;
+        i = i + 1;
+    }
+    start
+}
+
+// Internal: what is read of the n-th line, counted from 1.
+pub fn numbered(text: &[u8], n: u32) -> &[u8] {
+    let start = line_start(text, n);
+    let end = line_end(text, start);
+    let line = &text[start..end];
+    let n = content_end(line);
+    &line[0..n]
+}
