@@ -1,10 +1,12 @@
 // A temporal network as a person writes it: a constraint to a line. It is read here, and nothing is printed. Events are numbered in the order in which their
 // names first appear.
+pub mod bounds;
 pub mod forms;
 pub mod lines;
 pub mod names;
 pub mod number;
 pub mod reading;
+pub mod sums;
 pub mod words;
 
 // How many bytes a text may have.

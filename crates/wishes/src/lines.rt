@@ -27,8 +27,8 @@ pub fn line_end(text: &[u8], start: usize) -> usize
     place_of(text, start, b'\n')
 }
 
-// Internal: how many bytes of a line are read: those before a comment or a carriage return at its end.
-pub fn content_end(line: &[u8]) -> usize
+// How many bytes of a line are read: those before a comment or a carriage return at its end.
+fn content_end(line: &[u8]) -> usize
     ensures { λ r. ⌜ r ≤ length (now (line .entry)) ⌝ }
 {
     let end = place_of(line, 0, b'#');
@@ -42,6 +42,16 @@ pub fn content_end(line: &[u8]) -> usize
         return end - 1;
     }
     end
+}
+
+// Internal: what is read of the line from a position of the text to another.
+pub fn content(text: &[u8], start: usize, end: usize) -> &[u8]
+    requires { ⌜ start ≤ end ⌝ }
+    requires { ⌜ end ≤ length (now text) ⌝ }
+{
+    let line = &text[start..end];
+    let n = content_end(line);
+    &line[0..n]
 }
 
 // Where the n-th line begins, counted from 1, or the end.
@@ -65,7 +75,5 @@ fn line_start(text: &[u8], n: u32) -> usize
 pub fn numbered(text: &[u8], n: u32) -> &[u8] {
     let start = line_start(text, n);
     let end = line_end(text, start);
-    let line = &text[start..end];
-    let n = content_end(line);
-    &line[0..n]
+    content(text, start, end)
 }

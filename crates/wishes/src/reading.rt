@@ -1,6 +1,4 @@
 // A network read from its text.
-ghost use Prim.Native.Nat.{_≤_};
-ghost use lib.ListN.{length};
 use crate::CONSTRAINT_WORDS;
 use crate::forms;
 use crate::forms::Wish;
@@ -141,16 +139,6 @@ fn with_line(
     }
 }
 
-// What is read of the line from a position of the text to another.
-fn read_part(text: &[u8], start: usize, end: usize) -> &[u8]
-    requires { ⌜ start ≤ end ⌝ }
-    requires { ⌜ end ≤ length (now text) ⌝ }
-{
-    let line = &text[start..end];
-    let n = lines::content_end(line);
-    &line[0..n]
-}
-
 // Internal: reads a network. Lent are the places of the names, the constraints as the solver takes them, and the line of each.
 pub fn read(
     text: &[u8],
@@ -168,7 +156,7 @@ pub fn read(
     while start < text.len() {
         let end = lines::line_end(text, start);
         n = std::num::wrapping_add_u32(n, 1);
-        let line = read_part(text, start, end);
+        let line = lines::content(text, start, end);
         got = with_line(text, start, line, n, got, at, constraints, in_lines);
         start = end + 1;
     }

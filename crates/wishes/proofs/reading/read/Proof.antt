@@ -21,8 +21,8 @@ line-end-requires c κs = search needs
 wrapping-add-u32-requires : tie.Need-wrapping-add-u32-requires Inv-loop μ-loop
 wrapping-add-u32-requires c κs = search needs
 
-read-part-requires : tie.Need-read-part-requires Inv-loop μ-loop
-read-part-requires c κs = search needs
+content-requires : tie.Need-content-requires Inv-loop μ-loop
+content-requires c κs = search needs
 
 with-line-requires : tie.Need-with-line-requires Inv-loop μ-loop
 with-line-requires c κs = search needs
@@ -57,7 +57,7 @@ read-spec =
     loop-holds
     line-end-requires
     wrapping-add-u32-requires
-    read-part-requires
+    content-requires
     with-line-requires
     add-start
     loop-less

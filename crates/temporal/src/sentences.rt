@@ -1,0 +1,135 @@
+// Why a network is refused, on standard error.
+ghost use Prim.Native.Nat.{_≤_};
+ghost use lib.ListN.{length};
+use crate::out;
+use reasons::begin;
+use reasons::line;
+use reasons::say;
+use reasons::small;
+use reasons::text;
+use wishes::bounds;
+use wishes::forms;
+use wishes::forms::Wish;
+use wishes::lines;
+use wishes::reading::Counts;
+use wishes::words;
+
+// The refusals of the solver: too many, and a constraint out of range.
+const TOO_MANY: u32 = 27;
+
+// How much is shown of a line.
+const SHOWN: usize = 60;
+
+fn shown_byte(byte: u8) {
+    if byte < 32 {
+        text(b"?");
+        return;
+    }
+    if byte == 127 {
+        text(b"?");
+        return;
+    }
+    text(&[byte]);
+}
+
+fn shown_bytes(bytes: &[u8]) {
+    let mut i: usize = 0;
+    while i < bytes.len() {
+        shown_byte(bytes[i]);
+        i = i + 1;
+    }
+}
+
+// Says what stands somewhere, without what a terminal would act on.
+pub(crate) fn shown(bytes: &[u8]) {
+    text(b"'");
+    if bytes.len() <= SHOWN {
+        shown_bytes(bytes);
+        text(b"'");
+        return;
+    }
+    shown_bytes(&bytes[0..SHOWN]);
+    text(b"...'");
+}
+
+// Says that a line has none of the forms that it may have.
+pub(crate) fn wrong(n: u32, of: &[u8], bytes: &[u8], forms: &[u8]) {
+    begin();
+    say(b"line #", &[n]);
+    text(of);
+    text(b" is ");
+    shown(bytes);
+    text(b", but a line there is ");
+    text(forms);
+    text(b"\n");
+}
+
+fn judged(line: &[u8], n: u32) {
+    let wish = forms::wish_in(line);
+    match wish {
+        Wish::Nothing => {}
+        Wish::Event => {}
+        Wish::Most(_) => {}
+        Wish::Least(_) => {}
+        Wish::Wrong => {
+            wrong(
+                n,
+                b" of the network",
+                line,
+                b"TO - FROM <= NUMBER, TO - FROM >= NUMBER, event NAME or empty",
+            );
+        }
+    }
+}
+
+// Says of each line with none of the forms what stands there.
+pub(crate) fn wrong_lines(network: &[u8]) {
+    let mut start: usize = 0;
+    let mut n: u32 = 0;
+    while start < network.len() {
+        let end = lines::line_end(network, start);
+        n = std::num::wrapping_add_u32(n, 1);
+        judged(lines::content(network, start, end), n);
+        start = end + 1;
+    }
+}
+
+fn too_many(got: Counts) {
+    if network::MAX_EVENTS < got.events {
+        line(
+            b"the network has more than # events, but a network has at most #",
+            &[128, 128],
+        );
+        return;
+    }
+    line(
+        b"the network has # constraints, but a network has at most #",
+        &[small(got.constraints), 2048],
+    );
+}
+
+// The number of a constraint is the last word of its line.
+fn out_of_range(network: &[u8], n: u32) {
+    begin();
+    say(b"line # of the network has the number ", &[n]);
+    shown(words::word(lines::numbered(network, n), 4));
+    text(b", but numbers are -1000000000 to 1000000000\n");
+}
+
+// The refusal of a network that was read.
+pub(crate) fn refused(network: &[u8], got: Counts, in_lines: &[u32], number: u32, k: usize) {
+    if number == TOO_MANY {
+        too_many(got);
+    } else {
+        out_of_range(network, bounds::line(in_lines, k));
+    }
+    out::refused(number, k);
+}
+
+// The refusal of a text that is too long.
+pub(crate) fn too_long(what: &[u8]) {
+    begin();
+    text(what);
+    text(b" has more than 262144 bytes, and there is no room for it\n");
+    out::text(b"refused long\nstatus 2\n");
+}
