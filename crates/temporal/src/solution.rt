@@ -40,20 +40,13 @@ pub(crate) fn sum_of(constraints: &[i64], chain: &[u32]) -> Sum {
     let mut sum = sums::none();
     let mut i: usize = 0;
     while i < chain.len() {
-        sum = sums::plus(sum, bounds::most(constraints, chain[i] as usize));
+        sum = sums::plus(sum, bounds::most(constraints, bounds::chained(chain, i)));
         i = i + 1;
     }
     sum
 }
 
-fn link(
-    network: &[u8],
-    at: &[usize],
-    constraints: &[i64],
-    in_lines: &[u32],
-    k: usize,
-    sum: Sum,
-) {
+fn link(network: &[u8], at: &[usize], constraints: &[i64], in_lines: &[u32], k: usize, sum: Sum) {
     out::constraint(network, at, constraints, in_lines, k);
     out::text(b", sum ");
     out::sum(sum);
@@ -64,7 +57,7 @@ fn links(network: &[u8], at: &[usize], constraints: &[i64], in_lines: &[u32], ch
     let mut sum = sums::none();
     let mut i: usize = 0;
     while i < chain.len() {
-        let k = chain[i] as usize;
+        let k = bounds::chained(chain, i);
         sum = sums::plus(sum, bounds::most(constraints, k));
         link(network, at, constraints, in_lines, k, sum);
         i = i + 1;

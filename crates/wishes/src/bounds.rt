@@ -33,6 +33,18 @@ pub fn most(constraints: &[i64], k: usize) -> i64 {
     word(constraints, std::num::wrapping_add_usize(words_of(k), 2))
 }
 
+// Internal: the i-th constraint of a chain.
+pub fn chained(chain: &[u32], i: usize) -> usize {
+    if i < chain.len() {
+        return wide(chain[i]);
+    }
+    0
+}
+
+fn wide(k: u32) -> usize {
+    k as usize
+}
+
 // Internal: the line in which the k-th constraint stands.
 pub fn line(in_lines: &[u32], k: usize) -> u32 {
     if k < in_lines.len() {
