@@ -2,6 +2,7 @@
 ghost use Prim.Native.Nat.{_≤_};
 ghost use lib.ListN.{length};
 use crate::out;
+use libc::STDERR_FILENO;
 use reasons::begin;
 use reasons::line;
 use reasons::say;
@@ -12,6 +13,7 @@ use wishes::forms;
 use wishes::forms::Wish;
 use wishes::lines;
 use wishes::reading::Counts;
+use wishes::sums::Sum;
 use wishes::words;
 
 // The refusals of the solver: too many, and a constraint out of range.
@@ -50,6 +52,13 @@ pub(crate) fn shown(bytes: &[u8]) {
     }
     shown_bytes(&bytes[0..SHOWN]);
     text(b"...'");
+}
+
+pub(crate) fn sum(s: Sum) {
+    if s.below {
+        text(b"-");
+    }
+    io::print_decimal(STDERR_FILENO, s.size);
 }
 
 // Says that a line has none of the forms that it may have.
