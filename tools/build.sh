@@ -73,6 +73,7 @@ run_rt() { # COMMAND CRATE LOG
     case $2 in
     timetable) what="the checker" ;;
     operator) what="the program for slices, moves, words and shape" ;;
+    temporal) what="the program for temporal networks" ;;
     host) what="the calls for C" ;;
     network_host) what="the calls for C of temporal networks" ;;
     esac
@@ -217,10 +218,11 @@ do_install() {
     [[ ! -L $to/bin && ! -L $to/lib ]] || stop "$to/bin or $to/lib is a link: give the folder that it leads to"
     build timetable
     build operator
+    build temporal
     build_library
     umask 022
     make_temp && write_copy || stop "cannot make the copy"
-    for name in timetable operator; do put ".built/$name" "lib/conepalhui/$name" 755; done
+    for name in timetable operator temporal; do put ".built/$name" "lib/conepalhui/$name" 755; done
     for name in help run; do put "tools/$name.sh" "lib/conepalhui/$name.sh"; done
     for name in conepalhui conepalhui-network; do
         put ".built/lib$name.a" "lib/lib$name.a"

@@ -10,6 +10,7 @@ commands=(
     'run|PLAN CURSOR --budget N [--rate R]|slices of N places until there is a verdict'
     'words|[PLAN]|print the numbers of a plan, one record per line'
     'shape|[PLAN]|say whether a plan is well-formed'
+    'network|[NETWORK [CLAIM]]|find times that keep all constraints, or test a claim'
 )
 is_installed || commands+=(
     'library||prove and build the calls for C'
@@ -187,6 +188,34 @@ about_shape() {
     cat <<'END'
 Reads the plan file PLAN, or standard input, and prints 'well-formed', or one line, 'refused NUMBER AT', with the exit
 status 2; standard error says why. The rules are not judged: that is 'check'.
+END
+}
+
+about_network() {
+    cat <<'END'
+Reads a temporal network, the file NETWORK or standard input: a text with a constraint to a line.
+
+  TO - FROM <= NUMBER    the time of the event TO minus that of the event FROM is at most NUMBER
+  TO - FROM >= NUMBER    it is at least NUMBER
+  event NAME             names an event that no constraint needs to name
+  # ...                  a comment, also after one of these
+
+Words have spaces or tabs between them. A name is any word; events are numbered in the order in which their names first
+appear. Numbers are whole, from -1000000000 to 1000000000. There are at most 128 events and 2048 constraints.
+
+It prints 'times N' and a line 'time NAME T' for each event: these times keep all constraints, none is above 0, and
+each is the latest that is possible so. Where no times exist it prints 'chain L sum S' and the constraints of a closed
+chain, 'line N: TO - FROM <= C, sum R', with the line in the text and the sum so far: added up they say that a time is
+below itself. Which chain is printed may change with the version.
+
+With a CLAIM it tests one, whoever made it: a text with lines 'time NAME NUMBER', or with lines 'line N: ...', as above.
+It prints 'kept', or 'broken' and the first constraint that the times do not keep; 'chain', or 'no chain'. An event
+without a time keeps no constraint. What this command printed can be given back as it is.
+
+A text that cannot be read gives 'refused line N' with the first bad line, 'refused long' or 'refused claim', a network
+past the limits 'refused 27 0', a number out of range 'refused 16 K' with its constraint, counted from 0. Standard error
+says why. Exit status: 0 times, kept or chain of a claim; 1 a chain that was found, broken or no chain; 2 refused;
+4 where a text cannot be read.
 END
 }
 

@@ -58,14 +58,17 @@ take_status() {
     [[ -n $wrote ]]
 }
 
+# What a program reads from standard input: a plan, or what a command says in its place.
+read_as=plan
+
 # Asks a program of the plan on standard input, and passes its answer on.
 answer() { # PROGRAM ARGUMENT...
     local wrote status why
     # Where it is closed, the program would be given the end of a pipe in its place.
-    [[ -e /dev/fd/0 ]] || stop "standard input is closed: the plan cannot be read"
+    [[ -e /dev/fd/0 ]] || stop "standard input is closed: the $read_as cannot be read"
     prepare "$1"
     wrote=$(run_program "$@" && printf .) || stop "the program $1 ended with status $?"
-    [[ $wrote != . ]] || stop "the program $1 printed nothing: the plan cannot be read"
+    [[ $wrote != . ]] || stop "the program $1 printed nothing: the $read_as cannot be read"
     take_status || stop "the program $1 gave no whole answer"
     printf '%s' "$wrote" | cat || stop "cannot write to standard output"
     return $status
@@ -73,23 +76,43 @@ answer() { # PROGRAM ARGUMENT...
 
 # ---- Plans
 
+# Finds a file that is read, $file.
+find_input() { # WHAT PATH
+    file=$2
+    [[ $file == /* ]] || file=$from/$file
+    [[ -e $file ]] || stop "there is no $1 $file"
+    [[ -f $file || -p $file || -c $file ]] || stop "$file is not a file"
+    [[ -r $file ]] || stop "the $1 $file may not be read"
+}
+
 # Makes the plan that a command is given its standard input, where one is given.
 take_plan() { # COMMAND [PLAN]
-    local plan=${2-}
-    (($# <= 2)) || stop "$1 takes one plan at most: $(usage "$1")"
+    local file
+    (($# <= 2)) || stop "$1 takes one $read_as at most: $(usage "$1")"
     if (($# == 2)); then
-        [[ $plan == /* ]] || plan=$from/$plan
-        [[ -e $plan ]] || stop "there is no plan $plan"
-        [[ -f $plan || -p $plan || -c $plan ]] || stop "$plan is not a file"
-        [[ -r $plan ]] && exec <"$plan" || stop "the plan $plan may not be read"
+        find_input "$read_as" "$2"
+        exec <"$file" || stop "the $read_as $file may not be read"
     elif [[ -t 0 ]]; then
-        note "the plan is read from this terminal: to give a file, $(usage "$1")"
+        note "the $read_as is read from this terminal: to give a file, $(usage "$1")"
     fi
 }
 
 do_check() { take_plan check "$@" && answer timetable; }
 do_words() { take_plan words "$@" && answer operator words; }
 do_shape() { take_plan shape "$@" && answer operator shape; }
+
+# A temporal network, and a claim on it, which the program opens by its path.
+do_network() {
+    local read_as=network file claim=()
+    (($# <= 2)) || stop "network takes a network and a claim at most: $(usage network)"
+    if (($# == 2)); then
+        find_input claim "$2"
+        claim=("$file")
+    fi
+    take_plan network "${@:1:1}"
+    ((${#claim[@]} == 0)) || read_as="network or the claim"
+    answer temporal "${claim[@]}"
+}
 
 # Prints what the header defines by a name, without quotes.
 defined() { # NAME
