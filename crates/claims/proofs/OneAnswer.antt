@@ -55,7 +55,7 @@ each-kept n ws ts r h q k z = record { from = omega (arith, bounded r .from k z)
 pub tests-are-exact : TestsAreExact
 tests-are-exact =
     record {
-      kept = λ n ws ts r range h x e. record { keeps = λ k z. subst (TestsTimes n ws ts) e x .1 k z .holds };
+      kept = λ n ws ts r range x e. record { keeps = λ k z. subst (TestsTimes n ws ts) e x .1 k z .holds };
       is-kept = λ n ws ts r range h x q. test-times-one-answer n ws ts r times.Kept x (range, each-kept n ws ts range h q);
       chain = λ n ws ks r range x e. subst (TestsChain n ws ks) e x .1;
       is-chain = λ n ws ks r range x q. test-chain-one-answer n ws ks r chains.Chain x (range, q);

@@ -69,8 +69,8 @@ fn lowest_broken(events: usize, constraints: &[i64], times: &[i64]) -> Found
     Found::Nowhere
 }
 
-// Tests times: whether they keep every constraint, be they above zero or not. Event v has the v-th of them; an event past their end has no time, and a constraint
-// that names it is not kept.
+// Tests times: whether they keep every constraint, be they above zero or not, the latest or not. Event v has the v-th of them, counted from 0; an event past their
+// end has no time, and a constraint that names it is not kept. Refused: 27, 16.
 pub fn test_times(events: usize, constraints: &[i64], times: &[i64]) -> TimesTest
     ensures { λ r. ⌜ TestsTimes events (now (constraints .entry)) (now (times .entry)) r ⌝ }
 {
@@ -144,7 +144,8 @@ fn chain_told(events: usize, constraints: &[i64], numbers: &[u32]) -> Holds
     Holds::Yes
 }
 
-// Tests a chain: whether the constraints with these numbers, in this order, are closed, meet no event twice and have a negative sum.
+// Tests a chain: whether the constraints with these numbers, at least one and in this order, are linked and closed, meet no event twice and have a negative sum.
+// Refused: 27, 16.
 pub fn test_chain(events: usize, constraints: &[i64], numbers: &[u32]) -> ChainTest
     ensures { λ r. ⌜ TestsChain events (now (constraints .entry)) (now (numbers .entry)) r ⌝ }
 {

@@ -1,4 +1,4 @@
--- A network as it is handed in: the number of its events, and three signed words for each constraint: from, to and most. When it is refused.
+-- A network as it is handed in: how many events it has, and three signed words for each constraint: from, to and most. When it is refused.
 use Prim.Native.Nat.{ℕ, _+_, _*_, _/_, _≤_, _<_}
 use mathlib.Core.List.{List}
 use lib.IntN.{ℤ, pos, natAbs}
@@ -8,7 +8,7 @@ use Rattle.basics.specs.Lowest.{All}
 use Rattle.basics.specs.Refusals.{Refusals, unless, lowest, _then_, _called_}
 use Rattle.network.specs.Network.{Network, Times}
 
--- The most events and constraints, and the largest number that a constraint may name, above or below 0.
+-- How many events and constraints there may be, and how far from 0 the most of a constraint may be.
 abbrev pub maxEvents : ℕ
 maxEvents = 128
 
@@ -40,7 +40,7 @@ numbersOf l a = getD l a 0
 abbrev pub constraintCount : List ℤ → ℕ
 constraintCount ws = (length ws + 2) / 3
 
--- The network of the words. Where a constraint is in range its events are not negative, so that their sizes are their numbers.
+-- The network of the words. The words of events are not negative where a constraint is in range, so nothing is lost by leaving their sign out.
 abbrev pub networkOf : List ℤ → Network
 networkOf ws =
     record {
@@ -55,7 +55,7 @@ pub record IsEvent (n : ℕ) (z : ℤ) : Type 0 where
   pub least : pos 0 ≤ℤ z
   pub below : z <ℤ pos n
 
--- Constraint k is in range: none of its words is missing, it names two of n events, which may be one, and its number is -1,000,000,000 to 1,000,000,000.
+-- Constraint k is in range: none of its words is missing, it names two of n events, which may be one, and its most is -1,000,000,000 to 1,000,000,000.
 pub record InRange (n : ℕ) (ws : List ℤ) (k : ℕ) : Type 0 where
   pub whole : 3 * k + 2 < length ws
   pub from : IsEvent n (wordAt ws (3 * k))

@@ -4,7 +4,7 @@ use mathlib.Core.Path.{_≡_}
 use lib.IntN.{ℤ, pos, _+ℤ_, _-ℤ_}
 use lib.Signed.{_≤ℤ_, _<ℤ_}
 
--- So many constraints. Constraint k says: the time of event `to k` minus the time of event `from k` is at most `most k`.
+-- The constraints, `size` of them. Constraint k says: the time of event `to k` minus the time of event `from k` is at most `most k`.
 pub record Network : Type 0 where
   pub size : ℕ
   pub from : ℕ → ℕ

@@ -12,7 +12,7 @@ use basics::Checked;
 use basics::Found;
 use basics::Holds;
 
-// The most events and constraints, and the largest number of a constraint, above or below 0.
+// How many events and constraints there may be, and how far from 0 the most of a constraint may be.
 pub const MAX_EVENTS: usize = 128;
 
 pub const MAX_CONSTRAINTS: usize = 2048;
@@ -59,7 +59,7 @@ fn event_told(events: usize, words: &[i64], i: usize) -> Holds
     Holds::Yes
 }
 
-// Whether word i is a number that a constraint may name.
+// Whether word i may be the most of a constraint.
 fn most_told(words: &[i64], i: usize) -> Holds
     requires { ⌜ i < length (now words) ⌝ }
     ensures { λ r. ⌜ Tells (natAbs (wordAt (now (words .entry)) i) ≤ maxMost) r ⌝ }

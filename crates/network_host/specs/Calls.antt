@@ -41,7 +41,7 @@ chainVerdict chains.Chain = verdict 1 0
 chainVerdict chains.NoChain = verdict 3 0
 chainVerdict (chains.Refused k p) = verdict (refusedResult k) p
 
--- The calls. given is what the call of the same name on words gives.
+-- The calls: given is an answer that solving, or the test, allows, and C gets it in numbers.
 pub record HostSolves (n : ℕ) (ws : List ℤ) (before : List ℕ) (a : NetworkAnswer) (after : List ℕ) : Type 0 where
   pub given : Solved
   pub solves : Solves n ws before given after

@@ -4,6 +4,10 @@ use mathlib.Core.Path.{_≡_}
 use mathlib.Core.List.{List}
 use mathlib.Core.Logic.{_⊎_}
 use lib.IntN.{ℤ}
+use lib.ListN.{length}
+use Rattle.network.specs.Network.{Times, Keeps}
+use Rattle.network.specs.Constraints.{networkOf}
+use Rattle.solver.specs.Solving.{solveRefusals}
 use Rattle.network_host.specs.Calls.{refusedResult, HostSolves, HostTestsTimes, HostTestsChain}
 use Rattle.network_host.specs.declared.NetworkAnswer.{NetworkAnswer}
 use Rattle.network_host.specs.declared.Verdict.{Verdict}
@@ -21,6 +25,19 @@ HostTestTimesOneAnswer = (n : ℕ) (ws ts : List ℤ) (v v′ : Verdict) → Hos
 
 abbrev pub HostTestChainOneAnswer : Type 0
 HostTestChainOneAnswer = (n : ℕ) (ws : List ℤ) (ks : List ℕ) (v v′ : Verdict) → HostTestsChain n ws ks v → HostTestsChain n ws ks v′ → v ≡ v′
+
+-- Of calls that are not refused, the result is 1, a chain, exactly when no times keep the constraints.
+pub record HostChainsExactlyWithoutTimes : Type 0 where
+  pub refutes : (n : ℕ) (ws : List ℤ) (before : List ℕ) (a : NetworkAnswer) (after : List ℕ) → HostSolves n ws before a after → a .result ≡ 1 → (t : Times) → Keeps (networkOf ws) t → ⊥
+  pub found : (n : ℕ) (ws : List ℤ) (before : List ℕ) (a : NetworkAnswer) (after : List ℕ) → HostSolves n ws before a after → solveRefusals n ws (length before) .Clear
+      → ((t : Times) → Keeps (networkOf ws) t → ⊥) → a .result ≡ 1
+
+-- Which results there are: of solving 0, 1, 115, 116 and 127, of the test of times 0, 2, 116 and 127, of the test of a chain 1, 3, 116 and 127.
+pub record NetworkResultsAreThese : Type 0 where
+  pub solve : (n : ℕ) (ws : List ℤ) (before : List ℕ) (a : NetworkAnswer) (after : List ℕ) → HostSolves n ws before a after
+      → (a .result ≡ 0) ⊎ (a .result ≡ 1) ⊎ (a .result ≡ 115) ⊎ (a .result ≡ 116) ⊎ (a .result ≡ 127)
+  pub test-times : (n : ℕ) (ws ts : List ℤ) (v : Verdict) → HostTestsTimes n ws ts v → (v .result ≡ 0) ⊎ (v .result ≡ 2) ⊎ (v .result ≡ 116) ⊎ (v .result ≡ 127)
+  pub test-chain : (n : ℕ) (ws : List ℤ) (ks : List ℕ) (v : Verdict) → HostTestsChain n ws ks v → (v .result ≡ 1) ⊎ (v .result ≡ 3) ⊎ (v .result ≡ 116) ⊎ (v .result ≡ 127)
 
 -- A refusal, which is a result of 100 or more, writes nothing.
 abbrev pub HostSolveRefusalsWriteNothing : Type 0

@@ -54,7 +54,7 @@ fn times_or_chain(events: usize, constraints: &[i64], chain: &mut [u32]) -> Solv
 
 // Solves a network: events 0 to events - 1, and three words for each constraint, from, to and most: the time of event `to` minus the time of event `from` is at most
 // `most`. The times are the latest that keep every constraint with none above zero. Where no times do, the first words of `chain` get the numbers of constraints
-// that show it.
+// that show it. Refused: 27, 16, 15.
 pub fn solve(events: usize, constraints: &[i64], chain: &mut [u32]) -> Solved
     ensures { λ r. ⌜ Solves events (now (constraints .entry)) (now (chain .entry)) r (now (chain .exit)) ⌝ }
 {

@@ -1,7 +1,7 @@
 // The answer of the solver, printed.
 use crate::out;
 use crate::sentences;
-use solver::Found;
+use solver::Outcome;
 use wishes::bounds;
 use wishes::names;
 use wishes::reading::Counts;
@@ -95,16 +95,16 @@ pub(crate) fn solved(
 ) {
     let mut chain = [0u32; network::MAX_EVENTS];
     let solved = solver::solve(got.events, constraints, &mut chain);
-    let found = solved.found;
+    let outcome = solved.outcome;
     let times = solved.times;
-    match found {
-        Found::Times => {
+    match outcome {
+        Outcome::Times => {
             first_times(network, at, got.events, &times);
         }
-        Found::Chain(n) => {
+        Outcome::Chain(n) => {
             first_links(network, at, constraints, in_lines, &chain, n);
         }
-        Found::Refused(number, k) => {
+        Outcome::Refused(number, k) => {
             sentences::refused(network, got, in_lines, number, k);
         }
     }

@@ -36,13 +36,9 @@ pub fn most(constraints: &[i64], k: usize) -> i64 {
 // Internal: the i-th constraint of a chain.
 pub fn chained(chain: &[u32], i: usize) -> usize {
     if i < chain.len() {
-        return wide(chain[i]);
+        return network::wide(chain[i]);
     }
     0
-}
-
-fn wide(k: u32) -> usize {
-    k as usize
 }
 
 // Internal: the line in which the k-th constraint stands.
