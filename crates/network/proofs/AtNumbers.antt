@@ -160,6 +160,7 @@ networks-at-numbers =
       free = record { keeps = record { keeps = λ k z. absurd (omega arith) }; none = record { below = below-1 _ (leZ-yes tt) }; latest = λ s k n. below-1 _ (n .below 0 (omega arith)) };
       free-earlier = λ l. let h : pos 0 ≤ℤ minus 1 = l .latest (λ v. pos 0) (record { keeps = λ k z. absurd (omega arith) }) (record { below = λ v z. leZ-yes tt }) 0 (omega arith) in omega (arith, le h);
       itself = record { keeps = record { keeps = below-1 _ (leZ-yes tt) }; none = record { below = below-1 _ (leZ-yes tt) }; latest = λ s k n. below-1 _ (n .below 0 (omega arith)) };
+      itself-zero = λ c. omega (arith, lt (c .negative));
       itself-below = record { some = omega arith; known = below-1 _ (omega arith); linked = λ a z. absurd (omega arith); closed = λ a z. below-1 (λ i. networkOf (oneConstraint (pos 0) (pos 0) (minus 1)) .to (numbersOf (0 ∷ []) i) ≡ 0) refl a (omega arith); once = λ a b z y e. omega arith; negative = ltZ-yes tt };
       closed = record { some = omega arith; known = below-2 _ (omega arith) (omega arith); linked = λ a z. below-1 (λ i. networkOf toAndFro .to (numbersOf (0 ∷ 1 ∷ []) i) ≡ networkOf toAndFro .from (numbersOf (0 ∷ 1 ∷ []) (i + 1))) refl a (omega arith); closed = λ a z. let e : a ≡ 1 = omega arith in ap (λ (i : ℕ). networkOf toAndFro .to (numbersOf (0 ∷ 1 ∷ []) i)) e; once = to-and-fro-once; negative = ltZ-yes tt };
       twice = λ c. c .once 0 2 (omega arith) (omega arith) refl;

@@ -53,6 +53,7 @@ pub record NetworksAtNumbers : Type 0 where
   pub free : Latest 1 (networkOf []) (timesOf (pos 0 ∷ []))
   pub free-earlier : Latest 1 (networkOf []) (timesOf (minus 1 ∷ [])) → ⊥
   pub itself : Latest 1 (networkOf (oneConstraint (pos 0) (pos 0) (pos 0))) (timesOf (pos 0 ∷ []))
+  pub itself-zero : Chain (networkOf (oneConstraint (pos 0) (pos 0) (pos 0))) 1 (numbersOf (0 ∷ [])) → ⊥
   pub itself-below : Chain (networkOf (oneConstraint (pos 0) (pos 0) (minus 1))) 1 (numbersOf (0 ∷ []))
   -- A chain is closed, meets no event twice, and is not empty.
   pub closed : Chain (networkOf toAndFro) 2 (numbersOf (0 ∷ 1 ∷ []))
