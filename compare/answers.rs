@@ -3,6 +3,7 @@
 use crate::check::{begin, host_move, host_slice, host_start, Checker, Plain};
 use crate::format::{encoded, table, table_words, write_cursor, write_plan, Cursor, Move, Outcome, Refusal};
 use crate::list::{bytes, hex, joined, numbers};
+use crate::network_list;
 use crate::paper::{LIMITS, NOTHING_VIOLATED, NUMBER_BYTES, PAUSED};
 use crate::told::{refusal, rule_named, words};
 
@@ -10,7 +11,7 @@ type Told = Result<String, String>;
 
 /// The marks of lent bytes and words.
 const MARK: u8 = 0xEE;
-const WORD_MARK: u32 = 7777;
+pub const WORD_MARK: u32 = 7777;
 
 /// The number that what is kept beside a cursor begins with.
 const SEEN_MARK: u32 = 2_718_281_828;
@@ -27,7 +28,7 @@ fn cursor_told(cursor: Cursor) -> String {
 }
 
 /// Words of a lent buffer on one line.
-fn row(words: &[u32]) -> String {
+pub fn row(words: &[u32]) -> String {
     if words.is_empty() {
         "none\n".to_string()
     } else {
@@ -188,6 +189,7 @@ impl Calls {
                 let words = numbers(rest)?;
                 self.cursor = Cursor::of(words[..].try_into().map_err(|_| "a cursor has three words")?);
             }
+            _ if network_list::is_call(verb) => return network_list::told(verb, rest),
             _ => return self.call(verb, &numbers(rest)?),
         }
         Ok(String::new())

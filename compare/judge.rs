@@ -40,6 +40,9 @@ mod format;
 mod inputs;
 mod layout;
 mod list;
+#[allow(dead_code)] // It also serves the comparison of networks.
+mod network;
+mod network_list;
 mod paper;
 mod reasons;
 mod rules;

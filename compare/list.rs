@@ -7,10 +7,11 @@
 //! PLAN is a name, or words, with | between records, and changes, each after a comma: revision 7, link 1 ns_per_octet 80, words 31 (so many
 //! alone). A call on bytes takes the file of such words, or bytes as they stand, =80 00 or "text"; its changes may be bytes 40 (so many
 //! alone), and 00 (so much more), leg 1 offset as 98 00. CURSOR is three words, for a call on bytes their file or bytes as they stand.
-//! A call without them goes on with those of the call before it, and with what that call made of them.
+//! A call without them goes on with those of the call before it, and with what that call made of them. network_list.rs has the calls on networks.
 
 use crate::check::Plain;
 use crate::format::{encoded, index_of, table, Plan, HEADER};
+use crate::network_list;
 use crate::paper::CURSOR_WORDS;
 use std::collections::HashMap;
 
@@ -112,6 +113,8 @@ struct List {
     names: HashMap<String, Written>,
     /// What the lines so far have set, so that nothing is set twice.
     set: HashMap<&'static str, String>,
+    /// The network of the call before, below the same heading.
+    network: Option<network_list::Words>,
     out: String,
 }
 
@@ -145,7 +148,20 @@ impl List {
         }
     }
 
+    fn network_call(&mut self, line: &str) -> Spelled<()> {
+        let (call, network) = parted(line, " of ");
+        if let Some(text) = network {
+            self.network = Some(network_list::words(text)?);
+        }
+        let spelled = network_list::spelled(call, self.network.as_ref().ok_or("no network")?)?;
+        self.say(&spelled);
+        Ok(())
+    }
+
     fn call(&mut self, line: &str) -> Spelled<()> {
+        if network_list::is_call(line.split(' ').next().unwrap_or("")) {
+            return self.network_call(line);
+        }
         let (line, plan) = parted(line, " of ");
         let (line, cursor) = parted(line, " from ");
         let verb = line.split(' ').next().unwrap_or("");
@@ -182,6 +198,7 @@ impl List {
 
     fn line(&mut self, line: &str) -> Spelled<()> {
         if line.starts_with("# ") {
+            self.network = None;
             self.say(line);
             return Ok(());
         }
@@ -213,7 +230,7 @@ pub fn hex(bytes: &[u8]) -> String {
 
 /// The lines that the program reads.
 pub fn spelled(list: &str) -> Spelled<String> {
-    let mut state = List { names: HashMap::new(), set: HashMap::new(), out: String::new() };
+    let mut state = List { names: HashMap::new(), set: HashMap::new(), network: None, out: String::new() };
     for (number, line) in list.lines().enumerate() {
         if !line.is_empty() && !line.starts_with("##") {
             state.line(line).map_err(|fault| format!("line {}: {}", number + 1, fault))?;

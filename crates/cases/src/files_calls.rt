@@ -11,7 +11,7 @@ use numbers::Written;
 // The marks of lent bytes and words, and how many of them a list may ask for.
 pub(crate) const MARK: u8 = 0xEE;
 
-const WORD_MARK: u32 = 7777;
+pub(crate) const WORD_MARK: u32 = 7777;
 
 pub(crate) const MAX_ROOM: usize = 64;
 

@@ -4,6 +4,8 @@ use files::Cursor;
 
 mod files_calls;
 mod host_calls;
+mod integers;
+mod network_calls;
 mod table_calls;
 mod text;
 mod tool_calls;
@@ -76,6 +78,9 @@ fn asked(verb: &[u8], rest: &[u8], table: &[u32], plan: &[u8], saved: &[u8], cur
         return;
     }
     if tool_calls::asked(verb, numbers, plan, saved) {
+        return;
+    }
+    if network_calls::asked(verb, rest) {
         return;
     }
     show::text(b"bad line: ");

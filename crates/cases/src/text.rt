@@ -81,7 +81,7 @@ pub(crate) fn cursor(text: &[u8]) -> Cursor {
 }
 
 // The value of a digit in hexadecimal. What is no digit is 0.
-fn digit(b: u8) -> u32
+pub(crate) fn digit(b: u8) -> u32
     ensures { λ r. ⌜ r ≤ 15 ⌝ }
 {
     if b < 48 {
