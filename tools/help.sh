@@ -59,8 +59,9 @@ list_commands() {
         printf '  %s %-38s %s\n' "$called" "$name $arguments" "$summary"
     done
     printf '\n%s\n' "'$called help answers' explains what start, slice, move and run print."
-    printf '%s\n%s\n' 'Exit status: 0 done, accepted, granted or nothing violated; 1 a violated plan, or a test that failed; 2 the input was' \
-        'refused; 3 paused; 4 bad arguments, a file that cannot be read or written, or a program that cannot be built or run.'
+    printf '%s\n%s\n%s\n' 'Exit status: 0 done, accepted, granted or nothing violated; 1 a violated plan, a network without times, a false claim' \
+        'or a failed test; 2 the input was refused; 3 paused; 4 bad arguments, a file that cannot be read or written, or a program' \
+        'that cannot be built or run.'
 }
 
 # Prints what one command does, or what answers there are.

@@ -101,17 +101,18 @@ do_check() { take_plan check "$@" && answer timetable; }
 do_words() { take_plan words "$@" && answer operator words; }
 do_shape() { take_plan shape "$@" && answer operator shape; }
 
-# A temporal network, and a claim on it, which the program opens by its path.
+# A temporal network, and a claim on it. The program opens the claim by the file that is open here: standard input is the network's by then.
 do_network() {
-    local read_as=network file claim=()
+    local read_as=network file claim open=()
     (($# <= 2)) || stop "network takes a network and a claim at most: $(usage network)"
     if (($# == 2)); then
         find_input claim "$2"
-        claim=("$file")
+        exec {claim}<"$file" || stop "the claim $file may not be read"
+        open=("/dev/fd/$claim")
     fi
     take_plan network "${@:1:1}"
-    ((${#claim[@]} == 0)) || read_as="network or the claim"
-    answer temporal "${claim[@]}"
+    ((${#open[@]} == 0)) || read_as="network or the claim"
+    answer temporal "${open[@]}"
 }
 
 # Prints what the header defines by a name, without quotes.

@@ -144,11 +144,11 @@ fn with_time(
     }
 }
 
-fn no_constraint(got: Claimed, n: u32, named: u32) -> Claimed {
-    reasons::line(
-        b"line # of the claim names line # of the network, but there is no constraint in that line",
-        &[n, named],
-    );
+fn no_constraint(got: Claimed, line: &[u8], n: u32) -> Claimed {
+    begin();
+    say(b"line # of the claim is ", &[n]);
+    sentences::shown(line);
+    text(b", but there is no constraint in that line of the network\n");
     with_wrong(got, n)
 }
 
@@ -157,13 +157,14 @@ fn with_link(
     counts: Counts,
     in_lines: &[u32],
     got: Claimed,
+    line: &[u8],
     n: u32,
     named: u32,
     chain: &mut [u32],
 ) -> Claimed {
     let k = bounds::in_line(in_lines, counts.constraints, named);
     if counts.constraints <= k {
-        return no_constraint(got, n, named);
+        return no_constraint(got, line, n);
     }
     set_link(chain, got.links, reasons::small(k));
     Claimed {
@@ -193,7 +194,7 @@ fn with_line(
         Claim::Head => with_head(got, line, n),
         Claim::Time(time) => with_time(network, counts, at, got, line, n, time, times, places),
         Claim::FarTime => far_time(got, line, n),
-        Claim::Line(named) => with_link(counts, in_lines, got, n, named, chain),
+        Claim::Line(named) => with_link(counts, in_lines, got, line, n, named, chain),
         Claim::Wrong => bad_form(got, line, n),
     }
 }

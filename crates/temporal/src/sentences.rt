@@ -1,6 +1,4 @@
 // Why a network is refused, on standard error.
-ghost use Prim.Native.Nat.{_≤_};
-ghost use lib.ListN.{length};
 use crate::out;
 use libc::STDERR_FILENO;
 use reasons::begin;
@@ -12,11 +10,12 @@ use wishes::bounds;
 use wishes::forms;
 use wishes::forms::Wish;
 use wishes::lines;
+use wishes::names;
 use wishes::reading::Counts;
 use wishes::sums::Sum;
 use wishes::words;
 
-// The refusals of the solver: too many, and a constraint out of range.
+// The refusal of too many events or constraints. The other one is of a constraint out of range.
 const TOO_MANY: u32 = 27;
 
 // How much is shown of a line.
@@ -103,17 +102,20 @@ pub(crate) fn wrong_lines(network: &[u8]) {
     }
 }
 
-fn too_many(got: Counts) {
+fn too_many(text_of: &[u8], got: Counts, at: &[usize]) {
     if network::MAX_EVENTS < got.events {
-        line(
-            b"the network has more than # events, but a network has at most #",
-            &[128, 128],
+        begin();
+        say(
+            b"the network has more than # events: the first past them is ",
+            &[small(network::MAX_EVENTS)],
         );
+        shown(names::name(text_of, at, network::MAX_EVENTS));
+        text(b"\n");
         return;
     }
     line(
-        b"the network has # constraints, but a network has at most #",
-        &[small(got.constraints), 2048],
+        b"the network has # constraints, but at most # are allowed",
+        &[small(got.constraints), small(network::MAX_CONSTRAINTS)],
     );
 }
 
@@ -126,9 +128,16 @@ fn out_of_range(network: &[u8], n: u32) {
 }
 
 // The refusal of a network that was read.
-pub(crate) fn refused(network: &[u8], got: Counts, in_lines: &[u32], number: u32, k: usize) {
+pub(crate) fn refused(
+    network: &[u8],
+    got: Counts,
+    at: &[usize],
+    in_lines: &[u32],
+    number: u32,
+    k: usize,
+) {
     if number == TOO_MANY {
-        too_many(got);
+        too_many(network, got, at);
     } else {
         out_of_range(network, bounds::line(in_lines, k));
     }

@@ -105,7 +105,7 @@ pub(crate) fn solved(
             first_links(network, at, constraints, in_lines, &chain, n);
         }
         Outcome::Refused(number, k) => {
-            sentences::refused(network, got, in_lines, number, k);
+            sentences::refused(network, got, at, in_lines, number, k);
         }
     }
 }

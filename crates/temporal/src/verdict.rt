@@ -1,6 +1,5 @@
 // The verdict on a claim, printed.
 use crate::claim;
-use crate::claim::Claimed;
 use crate::out;
 use crate::sentences;
 use crate::solution;
@@ -120,7 +119,7 @@ fn on_times(
             but(network, at, to, from, times, places);
         }
         TimesTest::Refused(number, k) => {
-            sentences::refused(network, counts, in_lines, number, k);
+            sentences::refused(network, counts, at, in_lines, number, k);
         }
     }
 }
@@ -280,7 +279,7 @@ fn on_chain(
             out::text(b"no chain\nstatus 1\n");
         }
         ChainTest::Refused(number, k) => {
-            sentences::refused(network, counts, in_lines, number, k);
+            sentences::refused(network, counts, at, in_lines, number, k);
         }
     }
 }
@@ -337,7 +336,9 @@ fn on_claim(
     }
     if got.links == 0 {
         if got.times == 0 {
-            refused_claim(b"the claim has no line time NAME NUMBER and no line N:");
+            refused_claim(
+                b"the claim has neither lines time NAME NUMBER nor lines line N:, and it needs one of the two",
+            );
             return;
         }
         on_first_times(
@@ -354,7 +355,7 @@ fn on_claim(
     }
     if got.times != 0 {
         refused_claim(
-            b"the claim has lines time NAME NUMBER and lines N:, but it is on times or on a chain",
+            b"the claim has lines time NAME NUMBER and lines line N:, and only one of the two may be there",
         );
         return;
     }
@@ -385,7 +386,7 @@ pub(crate) fn judged(
             on_claim(claim, network, counts, at, constraints, in_lines);
         }
         ChainTest::Refused(number, k) => {
-            sentences::refused(network, counts, in_lines, number, k);
+            sentences::refused(network, counts, at, in_lines, number, k);
         }
     }
 }
