@@ -1,5 +1,8 @@
 // Signed numbers as a person types them: a sign or none, and digits.
-ghost use Prim.Native.Nat.{_≤_};
+ghost use mathlib.Core.Path.{_≡_};
+ghost use Prim.Native.Nat.{_-_};
+ghost use Rattle.decimal.specs.Decimal.{zeroDigit, IsDigit, Typed};
+ghost use Rattle.wishes.specs.Number.{WorthTold, ReadsDigits, ReadsSigned};
 use decimal::Decimal;
 
 // A number read: whether it is below zero, and its size; only the former where it has more than 64 bits or close to it; or that it is none.
@@ -10,7 +13,7 @@ pub enum Number {
 }
 
 // What digits are worth. Enough are taken for any number of 64 bits with a sign.
-enum Worth {
+pub enum Worth {
     Value(u64),
     Far,
 }
@@ -21,19 +24,16 @@ const ENOUGH: u64 = 922337203685477580;
 pub const MAX_SIZE: u64 = 9223372036854775808;
 
 fn digit(byte: u8) -> u64
-    ensures { λ r. ⌜ r ≤ 9 ⌝ }
+    requires { ⌜ IsDigit byte ⌝ }
+    ensures { λ r. ⌜ r ≡ byte - zeroDigit ⌝ }
 {
-    let b = numbers::wide(byte);
-    if b < decimal::ZERO {
-        return 0;
-    }
-    if decimal::NINE < b {
-        return 0;
-    }
-    b - decimal::ZERO
+    numbers::wide(byte) - decimal::ZERO
 }
 
-fn worth_of(digits: &[u8]) -> Worth {
+fn worth_of(digits: &[u8]) -> Worth
+    requires { ⌜ Typed (now digits) ⌝ }
+    ensures { λ r. ⌜ WorthTold (now (digits .entry)) r ⌝ }
+{
     let mut value: u64 = 0;
     let mut i: usize = 0;
     while i < digits.len() {
@@ -46,7 +46,10 @@ fn worth_of(digits: &[u8]) -> Worth {
     Worth::Value(value)
 }
 
-fn sized(below: bool, digits: &[u8]) -> Number {
+fn sized(below: bool, digits: &[u8]) -> Number
+    requires { ⌜ Typed (now digits) ⌝ }
+    ensures { λ r. ⌜ ReadsDigits (now (digits .entry)) below r ⌝ }
+{
     let worth = worth_of(digits);
     match worth {
         Worth::Value(value) => Number::Value(below, value),
@@ -54,7 +57,9 @@ fn sized(below: bool, digits: &[u8]) -> Number {
     }
 }
 
-fn signed(below: bool, digits: &[u8]) -> Number {
+fn signed(below: bool, digits: &[u8]) -> Number
+    ensures { λ r. ⌜ ReadsDigits (now (digits .entry)) below r ⌝ }
+{
     let read = decimal::read_decimal(digits);
     match read {
         Decimal::Value(value) => Number::Value(below, value as u64),
@@ -65,7 +70,9 @@ fn signed(below: bool, digits: &[u8]) -> Number {
 }
 
 // Internal: reads a number.
-pub fn read(word: &[u8]) -> Number {
+pub fn read(word: &[u8]) -> Number
+    ensures { λ r. ⌜ ReadsSigned (now (word .entry)) r ⌝ }
+{
     if word.len() == 0 {
         return Number::Wrong;
     }
