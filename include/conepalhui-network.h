@@ -28,8 +28,10 @@
  * words is no multiple of three, the last constraint is cut.
  *
  * Times. Each constraint holds, none is above zero, and they are the latest such times: no others are later at any
- * event. They go down to -127,000,000,000. Constraints speak of differences alone: subtract the time of one event from
- * all, and that event is at 0.
+ * event. They can go down to -127,000,000,000. Constraints speak of differences alone: subtract the time of one event
+ * from all, and they keep them with that event at 0. THEN THEY ARE NO LONGER THE LATEST, nor the earliest in general:
+ * of one constraint, event 1 minus event 0 at most 10, the times are 0 and 0, and with event 0 at 0 event 1 may be as
+ * late as 10.
  *
  * Chains. A chain is numbers of constraints. Each begins at the event where the one before it ends, the first where
  * the last ends; no event is met twice; the sum of their mosts is below zero. It is given exactly where no times exist.
@@ -112,8 +114,9 @@ conepalhui_network_answer conepalhui_network(size_t events, const int64_t *const
                                              size_t chain_len);
 
 /*
- * Tests times, whoever made them: whether they keep all constraints. Any numbers will do, also above zero. An event
- * past the end of times has no time, and a constraint on it is not kept. Times past the last event are not looked at.
+ * Tests times, whoever made them: whether they keep all constraints, and not whether they are the latest. Any numbers
+ * will do, also above zero. An event past the end of times has no time, and a constraint on it is not kept. Times past
+ * the last event are not looked at.
  *
  *   result                          number
  *   0 CONEPALHUI_NETWORK_TIMES      0: kept

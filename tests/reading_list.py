@@ -26,7 +26,7 @@ CONTRACT = {"now", "⌜", "⌝"}
 MOMENTS = {".entry", ".exit"}
 CONSTRUCTORS = {"zero", "suc", "[]", "∷", "true", "false"}
 KIT = ("Prim", "mathlib", "lib", "native", "borrow")
-NUMBERS = {"u8", "u16", "u32", "u64", "usize", "bool"}
+NUMBERS = {"u8", "u16", "u32", "u64", "usize", "i64", "bool"}
 
 NAME = r"[^\s(){}.;,]+"
 TOKEN = re.compile(rf"(?<![^\s(])\.{NAME}|{NAME}(?:\.{NAME})*|[(){{}}.;,]")
@@ -190,11 +190,11 @@ class Source:
             if declared:
                 end = self.lines.index("}", n)
                 body = [line.strip() for line in self.lines[n + 1:end] if not line.strip().startswith("//")]
-                member = r"(\w+)(?:\(([\w:, ]*)\))?," if declared.group(1) == "enum" else r"(?:pub )?(\w+): ([\w:]+),"
+                member = r"(\w+)(?:\(([\w:, ]*)\))?," if declared.group(1) == "enum" else r"(?:pub )?(\w+): (\[\w+; [\w:]+\]|[\w:]+),"
                 if not all(re.fullmatch(member, line) for line in body):
                     raise Unknown(f"{self.path}:{n + 1}: a form that is not known: {line}")
                 parts = [re.fullmatch(member, line).groups() for line in body]
-                members, named = [name for name, _ in parts], re.findall(r"[\w:]+", " ".join(kind or "" for _, kind in parts))
+                members, named = [name for name, _ in parts], re.findall(r"[\w:]+", re.sub(r"; [\w:]+\]", "", " ".join(kind or "" for _, kind in parts)))
                 self.types[declared.group(2)] = (self.above(n) + list(range(n, end + 1)), members, named)
             elif re.match(r"pub (struct|enum|type|union) ", line):
                 raise Unknown(f"{self.path}:{n + 1}: a form that is not known: {line}")
