@@ -75,11 +75,11 @@
 #include <stdint.h>
 
 /* The version of this header and of the archive that it belongs to. A NUMBER is 10000 MAJOR + 100 MINOR + PATCH. */
-#define CONEPALHUI_VERSION "2.0.0"
+#define CONEPALHUI_VERSION "2.1.0"
 #define CONEPALHUI_VERSION_MAJOR 2
-#define CONEPALHUI_VERSION_MINOR 0
+#define CONEPALHUI_VERSION_MINOR 1
 #define CONEPALHUI_VERSION_PATCH 0
-#define CONEPALHUI_VERSION_NUMBER 20000
+#define CONEPALHUI_VERSION_NUMBER 20100
 
 /*
  * The edition of the rules: what a plan file, a place and a cursor mean, and when a place holds. It is raised whenever
