@@ -15,8 +15,11 @@ pub fn none() -> Sum {
     }
 }
 
-// The sum of two numbers with other signs: it has the sign of the larger one.
+// The sum of two numbers with other signs: it has the sign of the larger one. Nothing is not below zero.
 fn apart(a: Sum, below: bool, size: u64) -> Sum {
+    if a.size == size {
+        return none();
+    }
     if a.size < size {
         return Sum {
             below,
