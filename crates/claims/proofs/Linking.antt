@@ -2,14 +2,13 @@
 use mathlib.Core.Path.{_≡_, refl, sym, ap, subst, _∙_}
 use mathlib.Core.List.{List}
 use mathlib.Core.Logic.{⊎-elim}
-use Prim.Native.Nat.{ℕ, zero, suc, _+_, _*_, _-_, _<_, _≤_}
+use Prim.Native.Nat.{ℕ, zero, suc, _+_, _-_, _<_, _≤_}
 use native.Mathlib.Omega.{arith}
 use native.Mathlib.Numerals.{add-one}
-use lib.IntN.{ℤ, pos, natAbs, _+ℤ_}
+use lib.IntN.{ℤ, pos, _+ℤ_}
 use lib.Signed.{_<ℤ_, _≤ℤ_}
-use lib.ListN.{length, getD, set, replicate, length-set, length-replicate}
-use lib.Seq.{getD-set-same, getD-set-other}
-use Rattle.network.specs.Network.{Chain, total}
+use lib.ListN.{length, set, replicate, length-set, length-replicate}
+use Rattle.network.specs.Network.{total}
 use Rattle.network.specs.Constraints.{networkOf, numbersOf, constraintCount, NetworkInRange}
 use Rattle.network.specs.Marks.{Put}
 use Rattle.network.specs.Steps.{Reads}

@@ -1,6 +1,6 @@
 -- The tests have one answer, and say yes exactly when the definitions hold. Assumes nothing.
-use Prim.Native.Nat.{ℕ, _≤_, _<_}
-use mathlib.Core.Path.{_≡_, refl, subst}
+use Prim.Native.Nat.{ℕ, _≤_}
+use mathlib.Core.Path.{refl, subst}
 use mathlib.Core.List.{List}
 use native.Mathlib.Omega.{arith}
 use lib.IntN.{ℤ}
@@ -11,11 +11,9 @@ use Rattle.network.specs.Network.{Keeps}
 use Rattle.network.specs.Constraints.{timesOf, networkOf, constraintCount, NetworkInRange}
 use Rattle.network.proofs.Ranges.{bounded}
 use Rattle.network.proofs.Judging.{network-one}
-use Rattle.claims.specs.Claims.{KeepsOne, TestsTimes, IsChain, TestsChain}
+use Rattle.claims.specs.Claims.{KeepsOne, TestsTimes, TestsChain}
 use Rattle.claims.specs.Theorems.{TestTimesOneAnswer, TestChainOneAnswer, TestsAreExact}
-use Rattle.claims.specs.declared.TimesTest.{TimesTest}
 use Rattle.claims.specs.declared.TimesTest.the-variants as times
-use Rattle.claims.specs.declared.ChainTest.{ChainTest}
 use Rattle.claims.specs.declared.ChainTest.the-variants as chains
 
 pub test-times-one-answer : TestTimesOneAnswer

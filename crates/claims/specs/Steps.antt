@@ -4,7 +4,7 @@ use mathlib.Core.Path.{_≡_}
 use mathlib.Core.List.{List}
 use lib.IntN.{ℤ, natAbs}
 use lib.ListN.{length}
-use Rattle.network.specs.Network.{Network, total}
+use Rattle.network.specs.Network.{total}
 use Rattle.network.specs.Constraints.{maxEvents, maxMost, numbersOf, networkOf, constraintCount, NetworkInRange}
 use Rattle.network.specs.Marks.{unseen}
 use Rattle.network.specs.Steps.{Reads}

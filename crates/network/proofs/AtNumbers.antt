@@ -1,21 +1,20 @@
 -- The networks at numbers, by computing, and the longest ring and line by induction. Assumes nothing.
 use Prim.Native.Nat.{ℕ, zero, suc, _+_, _*_, _≤_, _<_}
-use mathlib.Core.Path.{_≡_, refl, sym, ap, subst, _∙_}
+use mathlib.Core.Path.{_≡_, refl, sym, ap, _∙_}
 use mathlib.Core.Bool.{Bool, true, false}
-use mathlib.Core.List.{List, [], _∷_}
-use mathlib.Core.Logic.{inl, inr, ⊎-elim}
+use mathlib.Core.List.{[], _∷_}
+use mathlib.Core.Logic.{inl, inr}
 use native.Mathlib.Omega.{arith}
 use native.Mathlib.Numerals.{add-one}
 use lib.Dec.{eqb}
-use lib.IntN.{ℤ, pos, negsuc, negℤ, _+ℤ_, _-ℤ_}
-use lib.ListN.{length}
+use lib.IntN.{ℤ, pos, _+ℤ_, _-ℤ_}
 use lib.Signed.{_≤ℤ_, _<ℤ_, leZ-yes, ltZ-yes}
-use borrow.Author.Tests.{eq-eqb, ne-eqb}
+use borrow.Author.Tests.{ne-eqb}
 use Rattle.basics.specs.Pick.{pick}
 use Rattle.signed.proofs.Parts as parts
 use Rattle.signed.proofs.Parts.{le, lt, to-le, up-neg, down-neg}
 use Rattle.network.specs.Network.{Network, Times, Keeps, NoneAbove, Latest, total, Chain}
-use Rattle.network.specs.Constraints.{timesOf, numbersOf, constraintCount, networkOf, IsEvent, InRange}
+use Rattle.network.specs.Constraints.{timesOf, numbersOf, networkOf, IsEvent, InRange}
 use Rattle.network.specs.AtNumbers.{minus, threeEvents, oneConstraint, toAndFro, ring, line, NetworksAtNumbers, RangesAtNumbers}
 use Rattle.network.proofs.Refuting.{kept}
 

@@ -7,7 +7,7 @@ use native.Mathlib.Omega.{arith}
 use lib.IntN.{ℤ, natAbs}
 use lib.ListN.{length}
 use Rattle.basics.specs.Tells.{Tells}
-use Rattle.basics.specs.Lowest.{All, Lowest, Finds}
+use Rattle.basics.specs.Lowest.{Finds}
 use Rattle.basics.specs.Refusals.{Told, OneFault}
 use Rattle.basics.specs.declared.Checked.{Checked}
 use Rattle.basics.specs.declared.Checked.the-variants.{Clear, Refused}
@@ -15,7 +15,7 @@ use Rattle.basics.specs.declared.Holds.{Holds}
 use Rattle.basics.specs.declared.Holds.the-variants.{Yes, No}
 use Rattle.basics.specs.declared.Found.{Found}
 use Rattle.basics.specs.declared.Found.the-variants.{At, Nowhere}
-use Rattle.basics.proofs.Lowest.{lowest-of-all, from-first, all-of}
+use Rattle.basics.proofs.Lowest.{all-of}
 use Rattle.basics.proofs.Refusals.{unless-one, lowest-one, then-one, called-one}
 use Rattle.network.specs.Constraints.{tooLarge, outOfRange, maxEvents, maxConstraints, maxMost, wordAt, constraintCount, IsEvent, InRange, SizeAllowed, NetworkInRange, networkRefusals}
 

@@ -12,7 +12,7 @@ use mir.Val.{SFits, toZ, ofZ, Fits}
 use mir.Facts.{toZ-ofZ}
 use Rattle.signed.proofs.Parts.{le, lt, to-lt}
 use Rattle.signed.proofs.Ranges.{lt-true, lt-false, abs-of, abs-high, abs-low}
-use Rattle.network.specs.Constraints.{maxMost, constraintCount, wordAt, networkOf, IsEvent, InRange, NetworkInRange}
+use Rattle.network.specs.Constraints.{networkOf, IsEvent, NetworkInRange}
 use Rattle.network.specs.Steps.{Bounded}
 
 -- An event's number, as a size.

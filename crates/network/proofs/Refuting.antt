@@ -1,12 +1,12 @@
 -- A negative chain leaves no times. Assumes nothing.
-use mathlib.Core.Path.{_≡_, refl, sym, ap}
-use Prim.Native.Nat.{ℕ, zero, suc, _+_, _-_, _≤_, _<_}
+use mathlib.Core.Path.{_≡_, refl, ap}
+use Prim.Native.Nat.{ℕ, zero, suc, _<_}
 use native.Mathlib.Omega.{arith}
 use native.Mathlib.Numerals.{add-one}
-use lib.IntN.{ℤ, pos, _+ℤ_, _-ℤ_}
-use lib.Signed.{_≤ℤ_, _<ℤ_}
+use lib.IntN.{pos, _+ℤ_}
+use lib.Signed.{_≤ℤ_}
 use Rattle.network.specs.Network.{Network, Times, Keeps, Chain, total}
-use Rattle.signed.proofs.Parts.{up, down, le, lt, to-le, to-lt, add, minus}
+use Rattle.signed.proofs.Parts.{up, down, le, lt, to-le, add, minus}
 
 module _ (w : Network) (t : Times) where
   -- the difference as a sum

@@ -1,11 +1,10 @@
 -- The numbers of an answer are small. Assumes nothing.
-use Prim.Native.Nat.{ℕ, _≤_}
+use Prim.Native.Nat.{ℕ}
 use mathlib.Core.Path.{_≡_, _∙_, ap, sym}
 use mathlib.Core.List.{List}
 use mathlib.Core.Logic.{inl, inr}
 use native.Mathlib.Omega.{arith}
 use lib.IntN.{ℤ}
-use lib.ListN.{length}
 use Rattle.network.specs.Constraints.{networkRefusals}
 use Rattle.claims.specs.Claims.{TestsTimes, TestsChain}
 use Rattle.claims.specs.declared.TimesTest.{TimesTest}

@@ -1,12 +1,11 @@
 -- The start of the rounds, the start of the walk, and the chain in its own words. Assumes nothing.
-use mathlib.Core.Path.{_≡_, refl, sym, ap, subst, _∙_}
+use mathlib.Core.Path.{_≡_, refl, sym, ap, _∙_}
 use mathlib.Core.List.{List}
 use mathlib.Core.Logic.{inl, inr}
 use Prim.Native.Nat.{ℕ, zero, suc, _+_, _-_, _<_, _≤_}
 use native.Mathlib.Omega.{arith}
-use lib.IntN.{ℤ, pos, _+ℤ_}
-use lib.Signed.{_<ℤ_}
-use lib.ListN.{length, getD, replicate, length-replicate}
+use lib.IntN.{ℤ, pos}
+use lib.ListN.{getD, replicate, length-replicate}
 use Rattle.network.specs.Network.{Network, Chain, total}
 use Rattle.basics.specs.Refusals.{Told}
 use Rattle.basics.specs.declared.Checked.{Checked}

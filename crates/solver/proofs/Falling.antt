@@ -1,14 +1,14 @@
 -- A closed chain of constraints that lowered their ends has a negative sum. Assumes nothing.
-use mathlib.Core.Path.{_≡_, refl, sym, ap, subst, _∙_}
-use mathlib.Core.Logic.{_⊎_, inl, inr, ⊎-elim}
-use Prim.Native.Nat.{ℕ, zero, suc, _+_, _*_, _-_, _≤_, _<_}
+use mathlib.Core.Path.{_≡_, refl, sym, subst}
+use mathlib.Core.Logic.{inl, inr, ⊎-elim}
+use Prim.Native.Nat.{ℕ, zero, suc, _+_, _<_}
 use native.Mathlib.Omega.{arith}
 use native.Mathlib.Numerals.{add-one}
 use lib.IntN.{ℤ, pos, _+ℤ_}
-use lib.Signed.{_≤ℤ_, _<ℤ_}
+use lib.Signed.{_<ℤ_}
 use Rattle.network.specs.Network.{Network, Times, total}
 use Rattle.solver.specs.Rounds.{Falls}
-use Rattle.signed.proofs.Parts.{up, down, le, lt, to-le, to-lt, add}
+use Rattle.signed.proofs.Parts.{le, lt, to-le, to-lt, add}
 
 module _ (t : Times) (tick : ℕ → ℕ) where
   further : (u v x : ℕ) (s r : ℤ) → Falls t tick u s v → Falls t tick v r x → Falls t tick u (s +ℤ r) x

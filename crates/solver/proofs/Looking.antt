@@ -1,16 +1,16 @@
 -- The rounds keep what they promise. Assumes nothing.
-use mathlib.Core.Path.{_≡_, refl, sym, ap, subst, _∙_}
+use mathlib.Core.Path.{_≡_, sym, ap, subst, _∙_}
 use mathlib.Core.Logic.{_⊎_, inl, inr, ⊎-elim}
-use Prim.Native.Nat.{ℕ, zero, suc, _+_, _*_, _-_, _≤_, _<_}
+use Prim.Native.Nat.{ℕ, _+_, _*_, _≤_, _<_}
 use native.Mathlib.Omega.{arith}
-use lib.IntN.{ℤ, pos, natAbs, _+ℤ_, _-ℤ_}
+use lib.IntN.{ℤ, pos, natAbs, _+ℤ_}
 use lib.Signed.{_≤ℤ_, _<ℤ_}
 use Rattle.network.specs.Network.{Network, Times, Keeps, NoneAbove, Latest}
 use Rattle.network.specs.Constraints.{maxMost}
 use Rattle.network.specs.Marks.{Put}
 use Rattle.network.specs.Steps.{Bounded}
 use Rattle.solver.specs.Rounds.{Holds, Falls, Kept}
-use Rattle.signed.proofs.Parts.{up, down, le, lt, to-le, to-lt, add, minus, parts, no-up}
+use Rattle.signed.proofs.Parts.{up, down, le, lt, to-le, to-lt, add, parts, no-up}
 use Rattle.basics.proofs.Splits.{lt-or-ge, eq-or-ne}
 use Rattle.network.proofs.Refuting.{kept, keeps}
 

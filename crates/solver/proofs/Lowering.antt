@@ -1,18 +1,11 @@
 -- A look at a constraint, on the lists that the arrays hold. Assumes nothing.
-use mathlib.Core.Path.{_≡_, refl, sym, ap, subst, _∙_}
+use mathlib.Core.Path.{_≡_, subst, _∙_}
 use mathlib.Core.List.{List}
-use mathlib.Core.Bool.{Bool, true, false}
-use Prim.Native.Nat.{ℕ, _+_, _*_, _<_, _≤_}
+use Prim.Native.Nat.{ℕ, _+_, _<_}
 use native.Mathlib.Omega.{arith}
-use lib.IntN.{ℤ, pos, natAbs, _+ℤ_}
-use lib.Dec.{T}
-use lib.ListN.{length, getD, set, length-set}
-use lib.Seq.{getD-set-same, getD-set-other}
-use lib.Signed.{mag, ltZ, _≤ℤ_, _<ℤ_, ltZ-yes, ltZ-no}
-use mir.Syntax.{w64}
-use mir.Val.{SFits, toZ, ofZ}
-use mir.Facts.{toZ-ofZ}
-use Rattle.network.specs.Network.{Network}
+use lib.IntN.{ℤ, pos, _+ℤ_}
+use lib.ListN.{set, length-set}
+use lib.Signed.{_≤ℤ_, _<ℤ_}
 use Rattle.network.specs.Marks.{Put}
 use Rattle.network.specs.Constraints.{networkOf, NetworkInRange, timesOf, numbersOf}
 use Rattle.network.specs.Steps.{Reads}

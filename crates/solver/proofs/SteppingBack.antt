@@ -1,18 +1,18 @@
 -- The walk back, on the lists that the arrays hold. Assumes nothing.
-use mathlib.Core.Path.{_≡_, refl, sym, ap, subst, _∙_}
+use mathlib.Core.Path.{_≡_, sym, ap, subst}
 use mathlib.Core.List.{List}
-use Prim.Native.Nat.{ℕ, _+_, _*_, _-_, _<_, _≤_}
+use Prim.Native.Nat.{ℕ, _+_, _-_, _<_, _≤_}
 use native.Mathlib.Omega.{arith}
 use lib.IntN.{ℤ}
-use lib.ListN.{length, getD, set, length-set}
+use lib.ListN.{getD, set, length-set}
 use lib.Seq.{getD-set-same, getD-set-other}
-use Rattle.network.specs.Network.{Network, Chain}
+use Rattle.network.specs.Network.{Chain}
 use Rattle.solver.specs.Walks.{Walked}
 use Rattle.network.specs.Constraints.{networkOf, NetworkInRange, timesOf, numbersOf}
 use Rattle.network.proofs.Ranges.{bounded}
 use Rattle.solver.specs.Steps.{Walking}
 use Rattle.network.proofs.Marks.{put}
-use Rattle.solver.proofs.Walking.{set-out, room, was-lowered, step, chain, fits}
+use Rattle.solver.proofs.Walking.{room, was-lowered, step, chain, fits}
 
 module _ (n : ℕ) (ws : List ℤ) (by : List ℕ) (k x : ℕ) (path seen : List ℕ) (f : NetworkInRange n ws) (c : Walking n ws by k x path seen) where
   here : x < n

@@ -1,14 +1,14 @@
 -- The walk back meets an event again, and the part between is a chain. Assumes nothing.
 use mathlib.Core.Path.{_≡_, refl, sym, ap, subst, _∙_}
-use mathlib.Core.Bool.{Bool, true, false, cond}
+use mathlib.Core.Bool.{true}
 use mathlib.Core.Logic.{_⊎_, inl, inr, ⊎-elim}
 use Prim.Native.Nat.{ℕ, zero, suc, _+_, _*_, _-_, _≤_, _<_}
 use native.Mathlib.Omega.{arith}
 use native.Mathlib.Numerals.{add-one}
 use native.Mathlib.Nat as NatL
 use lib.Dec.{eqb}
-use borrow.Author.Tests.{eq-eqb, ne-eqb}
-use Rattle.network.specs.Network.{Network, Times, Chain, total}
+use borrow.Author.Tests.{eq-eqb}
+use Rattle.network.specs.Network.{Network, Times, Chain}
 use Rattle.network.specs.Marks.{Put, unseen}
 use Rattle.network.specs.Steps.{Bounded}
 use Rattle.network.proofs.Marks.{one-less, none-seen}

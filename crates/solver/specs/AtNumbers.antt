@@ -1,5 +1,4 @@
 -- The refusals of solving at numbers: 15 where times exist and one word is missing for a chain; 16 and 27 before it.
-use Prim.Native.Nat.{ℕ}
 use mathlib.Core.Path.{_≡_}
 use lib.IntN.{pos}
 use Rattle.numbers.specs.Number.{noRoom}

@@ -1,9 +1,7 @@
 -- `claims::named_at` meets its contract. Assumes nothing.
-use mathlib.Core.Path.{_≡_, subst}
-use Prim.Native.Nat.{_<_}
+use mathlib.Core.Path.{subst}
 use native.Mathlib.Omega.{arith}
-use lib.ListN.{getD}
-use Rattle.network.specs.Constraints.{networkOf, constraintCount}
+use Rattle.network.specs.Constraints.{networkOf}
 use Rattle.network.specs.Steps.{Reads}
 use borrow.Author.Needs.{needs}
 use Rattle.claims.proofs.named_at.Statement.{statement}

@@ -1,12 +1,10 @@
 -- `network::constraint_at` meets its contract. Assumes nothing.
-use mathlib.Core.Path.{_≡_}
-use Prim.Native.Nat.{_+_, _*_, _<_}
+use Prim.Native.Nat.{_+_, _*_}
 use native.Mathlib.Omega.{arith}
-use lib.ListN.{length}
 use mir.Syntax.{w64}
 use mir.Val.{SFits}
 use mir.Facts.{toZ-ofZ}
-use Rattle.network.specs.Constraints.{wordAt, networkOf, InRange}
+use Rattle.network.specs.Constraints.{wordAt, InRange}
 use Rattle.network.proofs.Ranges.{event-below}
 use borrow.Author.Needs.{needs}
 use Rattle.network.proofs.constraint_at.Statement.{statement}

@@ -1,7 +1,6 @@
 -- `network::event_in` meets its contract. Assumes nothing.
 use mir.Syntax.{w64}
 use mir.Val.{SFits}
-use mir.Facts.{toZ-ofZ}
 use Rattle.network.specs.Constraints.{wordAt}
 use Rattle.network.proofs.Ranges.{a-number}
 use borrow.Author.Needs.{needs}

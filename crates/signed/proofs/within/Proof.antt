@@ -1,13 +1,13 @@
 -- `signed::within` meets its contract: x plus c is made only where it fits, and elsewhere the answer is known. Assumes nothing.
 use native.Mathlib.Omega.{arith}
-use mathlib.Core.Path.{_≡_, refl, sym, ap, _∙_}
+use mathlib.Core.Path.{_≡_, sym}
 use mathlib.Core.Bool.{true, false}
-use lib.IntN.{ℤ, pos, negsuc, _+ℤ_, _-ℤ_}
-use lib.Signed.{_≤ℤ_, _<ℤ_, leZ, ltZ, ltZ-no}
+use lib.IntN.{pos, _+ℤ_, _-ℤ_}
+use lib.Signed.{_≤ℤ_, _<ℤ_, leZ, ltZ}
 use mir.Syntax.{w64}
 use mir.Val.{SFits, toZ, ofZ}
 use mir.Facts.{toZ-ofZ}
-use Rattle.signed.proofs.Parts.{up, down, le, lt, to-le, to-lt, add, minus}
+use Rattle.signed.proofs.Parts.{le, lt, to-le, to-lt, add, minus}
 use Rattle.signed.proofs.Ranges.{less-yes, less-no, top, bottom, fits-of, fits-top, fits-bottom, le-true, le-false, true-le, false-le, moved}
 use Rattle.signed.proofs.within.Statement.{statement}
 use Rattle.signed.proofs.within.Tie as tie

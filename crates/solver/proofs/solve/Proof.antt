@@ -1,6 +1,5 @@
 -- `solver::solve` meets its contract. Assumes nothing.
 use mathlib.Core.Path.{refl}
-use native.Mathlib.Omega.{arith}
 use lib.ListN.{length}
 use Rattle.solver.proofs.Ends.{refused, no-room}
 use Rattle.network.proofs.Judging.{told-in-range}

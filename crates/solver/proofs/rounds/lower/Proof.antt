@@ -2,7 +2,7 @@
 use mathlib.Core.Path.{_≡_, _∙_}
 use Prim.Native.Nat.{_+_, _<_}
 use native.Mathlib.Omega.{arith}
-use lib.IntN.{ℤ, _+ℤ_}
+use lib.IntN.{_+ℤ_}
 use lib.Seq.{getD-set-same}
 use mir.Syntax.{w64}
 use mir.Val.{SFits}
