@@ -18,7 +18,9 @@
 
 use crate::answers::{row, WORD_MARK};
 use crate::format::Refusal;
-use crate::network::{self, constraints, Answer, Call, Kind, Network, ALL_TIMES, BROKEN, CHAIN, RECORD, REFUSED, RIGHT};
+use crate::network::{
+    self, constraints, Answer, Call, Kind, Network, ALL_TIMES, BROKEN, CHAIN, RECORD, REFUSED, RIGHT,
+};
 use crate::told::refusal;
 use std::sync::Arc;
 

@@ -5,27 +5,23 @@ use crate::text;
 
 const MINUS: u8 = 45;
 
-// The size of the smallest number, and the most that one more digit can be put to.
+// How far the smallest number is below zero, and the largest value that has room for one more digit.
 const SMALLEST_SIZE: u64 = 9223372036854775808;
 
 const MAX_BEFORE_DIGIT: u64 = 1844674407370955160;
 
-// A number that is not negative, without its sign. Any other is 0.
-fn unsigned(z: i64) -> u64 {
+// How far a number is above zero.
+pub(crate) fn above(z: i64) -> u64 {
     if z < 0 {
         return 0;
     }
     z as u64
 }
 
-// Internal: how far a number is above zero, and how far below.
-pub(crate) fn above(z: i64) -> u64 {
-    unsigned(z)
-}
-
+// How far a number is below zero.
 pub(crate) fn below(z: i64) -> u64 {
     if z < 0 {
-        return std::num::wrapping_add_u64(unsigned(!z), 1);
+        return std::num::wrapping_add_u64(above(!z), 1);
     }
     0
 }
@@ -105,18 +101,18 @@ fn worth(text: &[u8]) -> u64 {
     value
 }
 
-fn positive(size: u64) -> i64 {
+fn at_least_zero(size: u64) -> i64 {
     if size < SMALLEST_SIZE {
         return size as i64;
     }
     0
 }
 
-fn negative(size: u64) -> i64 {
+fn minus(size: u64) -> i64 {
     if size == 0 {
         return 0;
     }
-    !positive(size - 1)
+    !at_least_zero(size - 1)
 }
 
 // A number in decimal, with a minus in front where it is negative. What is too large is 0.
@@ -125,9 +121,9 @@ fn number(text: &[u8]) -> i64 {
         return 0;
     }
     if text[0] == MINUS {
-        return negative(worth(&text[1..]));
+        return minus(worth(&text[1..]));
     }
-    positive(worth(text))
+    at_least_zero(worth(text))
 }
 
 // Puts a number where there is room for it.

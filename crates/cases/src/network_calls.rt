@@ -17,7 +17,7 @@ const MAX_LENT: usize = 160;
 
 const BEFORE: usize = 2;
 
-// Prints the sum of the constraints with these numbers. None of the two sums wraps: a chain has 128 constraints or fewer.
+// Prints the sum of the constraints with these numbers. Neither of the two sums wraps: a chain has 128 constraints or fewer.
 fn show_sum(constraints: &[i64], chain: &[u32]) {
     let mut up: u64 = 0;
     let mut down: u64 = 0;
@@ -235,13 +235,16 @@ fn called(verb: &[u8], front: &[u8], events: usize, room: usize, constraints: &[
     tested_chain(verb, events, constraints, &chain, n)
 }
 
-// Repeats the first n words of a buffer to its end.
-fn repeat(words: &mut [i64], n: usize) {
+// Repeats the first n words of a buffer up to a position.
+fn repeat(words: &mut [i64], n: usize, end: usize) {
     if n == 0 {
         return;
     }
+    if words.len() < end {
+        return;
+    }
     let mut at = n;
-    while at < words.len() {
+    while at < end {
         let word = words[at - n];
         words[at] = word;
         at = at + 1;
@@ -256,7 +259,7 @@ fn on_words(verb: &[u8], front: &[u8], text: &[u8]) -> bool {
     }
     let mut constraints = [0i64; MAX_WORDS];
     let given = integers::words(text, &mut constraints);
-    repeat(&mut constraints, given);
+    repeat(&mut constraints, given, count);
     called(
         verb,
         front,

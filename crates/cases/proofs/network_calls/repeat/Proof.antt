@@ -7,13 +7,16 @@ use Rattle.cases.proofs.network_calls.repeat.Statement.{statement}
 use Rattle.cases.proofs.network_calls.repeat.Tie as tie
 
 abbrev Inv-loop : tie.InvT-loop
-Inv-loop words₀ n at₀ words at = (n ≤ at) × (length words ≡ length words₀)
+Inv-loop words₀ n end at₀ words at = (n ≤ at) × (end ≤ length words₀) × (length words ≡ length words₀)
 
 abbrev μ-loop : tie.MeasureT-loop
-μ-loop words₀ n at₀ words at = length words₀ - at
+μ-loop words₀ n end at₀ words at = end - at
 
 returns : tie.Need-returns Inv-loop μ-loop
 returns c = search needs
+
+returns-2 : tie.Need-returns-2 Inv-loop μ-loop
+returns-2 c = search needs
 
 loop-holds : tie.Need-loop-holds Inv-loop μ-loop
 loop-holds c = search needs
@@ -45,8 +48,8 @@ loop-again c = search needs
 same-length : tie.Need-same-length Inv-loop μ-loop
 same-length c = search needs
 
-returns-2 : tie.Need-returns-2 Inv-loop μ-loop
-returns-2 c = search needs
+returns-3 : tie.Need-returns-3 Inv-loop μ-loop
+returns-3 c = search needs
 
 pub repeat-spec : {M : Type 1} → statement M
 repeat-spec =
@@ -55,6 +58,7 @@ repeat-spec =
     Inv-loop
     μ-loop
     returns
+    returns-2
     loop-holds
     sub-word
     mul-word
@@ -65,4 +69,4 @@ repeat-spec =
     loop-less
     loop-again
     same-length
-    returns-2)
+    returns-3)
