@@ -33,6 +33,10 @@
  * of one constraint, event 1 minus event 0 at most 10, the times are 0 and 0, and with event 0 at 0 event 1 may be as
  * late as 10.
  *
+ * TIMES SAY THAT IT CAN GO WELL, NOT THAT IT ALWAYS DOES. Where the parts of a way take 42 ms at worst and the wish
+ * allows 40, times exist: those at which the parts are quick. To be sure that it is never late, ask for the contrary,
+ * that it takes 41 or more: a chain shows that this cannot be.
+ *
  * Chains. A chain is numbers of constraints. Each begins at the event where the one before it ends, the first where
  * the last ends; no event is met twice; the sum of their mosts is below zero. It is given exactly where no times exist.
  * WHICH CHAIN IS GIVEN MAY DIFFER between versions of the library. A chain can be checked by hand, or with

@@ -203,15 +203,18 @@ Reads a temporal network, the file NETWORK or standard input: a text with a cons
 
 Words have spaces or tabs between them. A name is any word; events are numbered in the order in which their names first
 appear. Numbers are whole, from -1000000000 to 1000000000. There are at most 128 events and 2048 constraints.
+A name has no '#', which begins a comment, and no byte that a screen does not show.
 
 It prints 'times N' and a line 'time NAME T' for each event: these times keep all constraints, none is above 0, and
-each is the latest that is possible so. Where no times exist it prints 'chain L sum S' and the constraints of a closed
-chain, 'line N: TO - FROM <= C, sum R', with the line in the text and the sum so far: added up they say that a time is
-below itself. Which chain is printed may change with the version.
+each is the latest that is possible so. TIMES SAY THAT IT CAN GO WELL, NOT THAT IT ALWAYS DOES (docs/NETWORKS.md). Where
+no times exist it prints 'chain L sum S' and the constraints of a closed chain, 'line N: TO - FROM <= C, sum R', with
+the line in the text and the sum so far: each goes from FROM to TO, and added up they say that a time is below itself.
+Which chain is printed may change with the version.
 
 With a CLAIM it tests one, whoever made it: a text with lines 'time NAME NUMBER', or with lines 'line N: ...', as above.
 It prints 'kept', or 'broken' and the first constraint that the times do not keep; 'chain', or 'no chain'. An event
-without a time keeps no constraint. What this command printed can be given back as it is.
+without a time keeps no constraint. What this command printed can be given back as it is; of it only the times and the
+line numbers are read.
 
 A text that cannot be read gives 'refused line N' with the first bad line, 'refused long' or 'refused claim', a network
 past the limits 'refused 27 0', a number out of range 'refused 16 K' with its constraint, counted from 0. Standard error

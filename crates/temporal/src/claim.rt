@@ -36,7 +36,7 @@ fn bad_form(got: Claimed, line: &[u8], n: u32) -> Claimed {
         n,
         b" of the claim",
         line,
-        b"time NAME NUMBER, line N: or empty",
+        b"time NAME NUMBER, line N: or empty, with blanks between all words and whole numbers",
     );
     with_wrong(got, n)
 }

@@ -4,6 +4,7 @@
 use durable::FileRead;
 use libc::STDIN_FILENO;
 use wishes::bounds;
+use wishes::lines;
 use wishes::reading;
 use wishes::reading::Counts;
 
@@ -103,7 +104,7 @@ fn with_claim(network: &[u8], claim: &[u8], n: usize) {
     if claim.len() < n {
         return;
     }
-    on_texts(network, &claim[0..n], true);
+    on_texts(network, lines::without_mark(&claim[0..n]), true);
 }
 
 fn on_network(network: &[u8]) {
@@ -130,5 +131,5 @@ fn main() {
         sentences::too_long(b"the network");
         return;
     }
-    on_network(&network[..n]);
+    on_network(lines::without_mark(&network[..n]));
 }

@@ -84,7 +84,7 @@ fn judged(line: &[u8], n: u32) {
                 n,
                 b" of the network",
                 line,
-                b"TO - FROM <= NUMBER, TO - FROM >= NUMBER, event NAME or empty",
+                b"TO - FROM <= NUMBER, TO - FROM >= NUMBER, event NAME or empty, with blanks between all words and whole numbers",
             );
         }
     }

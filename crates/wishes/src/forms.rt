@@ -4,6 +4,7 @@ use crate::number;
 use crate::number::Number;
 use crate::words::are_same;
 use crate::words::count;
+use crate::words::has_control;
 use crate::words::word;
 use decimal::Decimal;
 
@@ -62,6 +63,9 @@ fn constraint(line: &[u8]) -> Wish {
 
 // Internal: what a line of a network says. A number that no constraint may have is one past the limit.
 pub fn wish_in(line: &[u8]) -> Wish {
+    if has_control(line) {
+        return Wish::Wrong;
+    }
     let words = count(line);
     match words {
         0 => Wish::Nothing,
@@ -144,6 +148,9 @@ fn numbered(word: &[u8]) -> Claim {
 
 // Internal: what a line of a claim says.
 pub fn claim_in(line: &[u8]) -> Claim {
+    if has_control(line) {
+        return Claim::Wrong;
+    }
     let words = count(line);
     if words == 0 {
         return Claim::Nothing;

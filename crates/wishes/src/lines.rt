@@ -77,3 +77,20 @@ pub fn numbered(text: &[u8], n: u32) -> &[u8] {
     let end = line_end(text, start);
     content(text, start, end)
 }
+
+// Internal: a text without the mark that some editors put in front of it (EF BB BF), which no screen shows.
+pub fn without_mark(text: &[u8]) -> &[u8] {
+    if text.len() < 3 {
+        return text;
+    }
+    if text[0] != 0xEF {
+        return text;
+    }
+    if text[1] != 0xBB {
+        return text;
+    }
+    if text[2] != 0xBF {
+        return text;
+    }
+    &text[3..]
+}

@@ -16,6 +16,29 @@ fn is_blank(byte: u8) -> bool {
     byte == b'\t'
 }
 
+// Whether a byte is one that no text shows. A tab is a blank.
+fn is_control(byte: u8) -> bool {
+    if byte == b'\t' {
+        return false;
+    }
+    if byte < 32 {
+        return true;
+    }
+    byte == 127
+}
+
+// Internal: whether a line has a byte that no text shows: two names could look the same.
+pub fn has_control(line: &[u8]) -> bool {
+    let mut i: usize = 0;
+    while i < line.len() {
+        if is_control(line[i]) {
+            return true;
+        }
+        i = i + 1;
+    }
+    false
+}
+
 // The first byte from a position on that is a blank, or that is none; or the end.
 fn next(line: &[u8], start: usize, blank: bool) -> usize
     requires { ⌜ start ≤ length (now line) ⌝ }
