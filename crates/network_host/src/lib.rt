@@ -7,7 +7,15 @@ use claims::ChainTest;
 use claims::TimesTest;
 use solver::Outcome;
 
-// What is added to a refusal's number.
+// The results: times, a chain, times that break a constraint, and no chain; and what is added to a refusal's number.
+const TIMES: u32 = 0;
+
+const CHAIN: u32 = 1;
+
+const BROKEN: u32 = 2;
+
+const NO_CHAIN: u32 = 3;
+
 const REFUSED: u32 = 100;
 
 // What C gets of solving, laid out as the struct in the header: a result, a number beside it, and the times.
@@ -41,11 +49,11 @@ fn of_outcome(outcome: Outcome) -> Verdict
 {
     match outcome {
         Outcome::Times => Verdict {
-            result: 0,
+            result: TIMES,
             number: 0,
         },
         Outcome::Chain(length) => Verdict {
-            result: 1,
+            result: CHAIN,
             number: length as u32,
         },
         Outcome::Refused(number, at) => refused(number, at),
@@ -58,11 +66,11 @@ fn of_times(test: TimesTest) -> Verdict
 {
     match test {
         TimesTest::Kept => Verdict {
-            result: 0,
+            result: TIMES,
             number: 0,
         },
         TimesTest::Broken(k) => Verdict {
-            result: 2,
+            result: BROKEN,
             number: k as u32,
         },
         TimesTest::Refused(number, at) => refused(number, at),
@@ -75,11 +83,11 @@ fn of_chain(test: ChainTest) -> Verdict
 {
     match test {
         ChainTest::Chain => Verdict {
-            result: 1,
+            result: CHAIN,
             number: 0,
         },
         ChainTest::NoChain => Verdict {
-            result: 3,
+            result: NO_CHAIN,
             number: 0,
         },
         ChainTest::Refused(number, at) => refused(number, at),
