@@ -69,16 +69,16 @@ show_build() { # LOG CRATES
 
 # Runs rt, which takes minutes: says so at once, and on a terminal how far it is. What rt says goes to the log.
 run_rt() { # COMMAND CRATE LOG
-    local used status=0 shower='' began=$SECONDS what="the program $2"
+    local used status=0 shower='' began=$SECONDS what="the program $2" time=three
     case $2 in
     timetable) what="the checker" ;;
     operator) what="the program for slices, moves, words and shape" ;;
-    temporal) what="the program for temporal networks" ;;
+    temporal) what="the program for temporal networks" time=five ;;
     host) what="the calls for C" ;;
     network_host) what="the calls for C of temporal networks" ;;
     esac
     mapfile -t used < <(uses "$2")
-    note "proving and building $what first. This is done once, until the sources change, and takes about three minutes on two idle cores. If you stop it, what is proved stays proved"
+    note "proving and building $what first. This is done once, until the sources change, and takes about $time minutes on two idle cores. If you stop it, what is proved stays proved"
     : >"$3"
     [[ ! -t 2 ]] || { show_build "$3" ${#used[@]} & shower=$!; }
     rt "$1" "$2" >"$3" 2>&1 </dev/null || status=$?
