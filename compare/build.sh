@@ -44,7 +44,7 @@ build_comparison() {
     build_library
     need rustc rustc
     find_c
-    make_if_old driver .built/libconepalhui.a include/conepalhui.h compare/driver.c -- \
+    make_if_old driver .built/libconepalhui.a include/conepalhui.h compare/driver.c compare/lent.h -- \
         "$c_compiler" -O2 -static -Iinclude compare/driver.c .built/libconepalhui.a -o
 }
 
@@ -53,7 +53,7 @@ build_network_comparison() {
     build_library
     need rustc rustc
     find_c
-    make_if_old network-driver .built/libconepalhui-network.a include/conepalhui-network.h compare/network_driver.c -- \
+    make_if_old network-driver .built/libconepalhui-network.a include/conepalhui-network.h compare/network_driver.c compare/lent.h -- \
         "$c_compiler" -O2 -static -Iinclude compare/network_driver.c .built/libconepalhui-network.a -o
     make_if_old network compare/network*.rs compare/chance.rs compare/driver.rs compare/fail.rs -- \
         rustc --edition 2021 -O compare/network_compare.rs -o

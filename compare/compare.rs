@@ -2,7 +2,7 @@
 
 use crate::calls::{answer, receive, send, send_flush, Answer, Call, Kind};
 use crate::cases::{batch, Case, BATCH};
-use crate::driver::Driver;
+use crate::driver::{in_batches, Driver};
 use crate::fail::given;
 use crate::paper::{
     ABOVE_LIMIT, BAD_FORM, ENDS_EARLY, GRANTED, LAST_REVISION, LEFT_OVER, LEG_WRONG, LINK_RANGE, LINK_TWICE, NO_LEG,
@@ -10,9 +10,7 @@ use crate::paper::{
 };
 use crate::wrong::{all, Wrong};
 use std::collections::BTreeMap;
-use std::sync::atomic::{AtomicU64, Ordering};
 use std::sync::Mutex;
-use std::thread;
 
 const SHOWN: usize = 5;
 /// Plans up to this length are given to the third opinion too.
@@ -203,24 +201,10 @@ pub fn run(seed: u64, wanted: u64, driver: &[String]) -> bool {
         pairs_laid_out: 0,
         seen: BTreeMap::new(),
     });
-    let next = AtomicU64::new(0);
-    let workers = thread::available_parallelism().map_or(1, |count| count.get());
-    thread::scope(|scope| {
-        for _ in 0..workers {
-            scope.spawn(|| {
-                let mut driver = Driver::new(driver);
-                loop {
-                    let number = next.fetch_add(1, Ordering::Relaxed);
-                    if number >= batches {
-                        break;
-                    }
-                    let cases = batch(seed, number);
-                    let answers = answers(&mut driver, &cases);
-                    compare(number * BATCH as u64, &wrong, &cases, &answers, &found);
-                }
-                driver.end();
-            });
-        }
+    in_batches(driver, batches, |driver, number| {
+        let cases = batch(seed, number);
+        let answers = answers(driver, &cases);
+        compare(number * BATCH as u64, &wrong, &cases, &answers, &found);
     });
 
     let found = found.into_inner().expect("no thread failed");

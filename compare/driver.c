@@ -9,31 +9,14 @@
    With an argument the program spoils something in each call, so that a comparison which misses that is seen: 0 to 3
    change the last byte of a buffer after the call, 4 to 7 the byte before one. */
 #define _GNU_SOURCE
-#include <stdint.h>
-#include <stdio.h>
 #include <stdlib.h>
 #include <string.h>
-#include <sys/mman.h>
-#include <unistd.h>
 
 #include "conepalhui.h"
+#include "lent.h"
 
 enum { SLICE, SLICE_FULL, START, MOVE, FLUSH };
 enum { PLAN, CURSOR, NEW_PLAN, OUT, BUFFERS };
-enum { MARGIN = 32, MOST = 1 << 17 };
-
-static void fail(const char *what) {
-    fprintf(stderr, "driver: %s\n", what);
-    _exit(3);
-}
-
-/* Gives the end of MOST writable bytes, after which nothing may be touched. */
-static uint8_t *lent_end(void) {
-    size_t page = (size_t)sysconf(_SC_PAGESIZE);
-    uint8_t *at = mmap(NULL, MOST + page, PROT_READ | PROT_WRITE, MAP_PRIVATE | MAP_ANONYMOUS, -1, 0);
-    if (at == MAP_FAILED || mprotect(at + MOST, page, PROT_NONE) != 0) fail("no memory");
-    return at + MOST;
-}
 
 static conepalhui_answer made(const uint32_t *head, uint8_t *const *at, const uint32_t *length) {
     conepalhui_answer answer = {0, 0};

@@ -2,6 +2,7 @@
 
 use std::io::{self, BufReader, BufWriter};
 use std::process::{Child, ChildStdin, ChildStdout, Command, Stdio};
+use std::sync::atomic::{AtomicU64, Ordering};
 use std::thread;
 
 pub type Input = BufWriter<ChildStdin>;
@@ -53,4 +54,25 @@ impl Driver {
         let status = child.wait().expect("the driver ends");
         assert!(status.success(), "the driver ended with {}", status);
     }
+}
+
+/// Does the work of so many batches, each by its number, on every processor with a driver of its own.
+pub fn in_batches(command: &[String], batches: u64, work: impl Fn(&mut Driver, u64) + Sync) {
+    let next = AtomicU64::new(0);
+    let workers = thread::available_parallelism().map_or(1, |count| count.get());
+    thread::scope(|scope| {
+        for _ in 0..workers {
+            scope.spawn(|| {
+                let mut driver = Driver::new(command);
+                loop {
+                    let number = next.fetch_add(1, Ordering::Relaxed);
+                    if number >= batches {
+                        break;
+                    }
+                    work(&mut driver, number);
+                }
+                driver.end();
+            });
+        }
+    });
 }

@@ -16,7 +16,7 @@ mod network_drafts;
 mod network_pairs;
 mod network_wrong;
 
-use driver::Driver;
+use driver::{in_batches, Driver};
 use fail::{fail_silently, given};
 use network::{
     answer, is_right, Answer, Call, Kind, ABOVE_LIMIT, BROKEN, CHAIN, NO_CHAIN, NO_ROOM, OUT_OF_RANGE, REFUSED, RIGHT,
@@ -26,9 +26,7 @@ use network_calls::{receive, send, send_flush};
 use network_cases::{batch, Case, BATCH};
 use network_wrong::{all, Wrong};
 use std::collections::BTreeMap;
-use std::sync::atomic::{AtomicU64, Ordering};
 use std::sync::{Arc, Mutex};
-use std::thread;
 
 const SHOWN: usize = 5;
 /// What a spoiled driver does, by the number that tells it to.
@@ -176,24 +174,10 @@ fn run(seed: u64, wanted: u64, driver: &[String]) -> bool {
         by_pairs: 0,
         seen: BTreeMap::new(),
     });
-    let next = AtomicU64::new(0);
-    let workers = thread::available_parallelism().map_or(1, |count| count.get());
-    thread::scope(|scope| {
-        for _ in 0..workers {
-            scope.spawn(|| {
-                let mut driver = Driver::new(driver);
-                loop {
-                    let number = next.fetch_add(1, Ordering::Relaxed);
-                    if number >= batches {
-                        break;
-                    }
-                    let cases = batch(seed, number);
-                    let answers = answers(&mut driver, &cases);
-                    compare(number, &wrong, &cases, &answers, &found);
-                }
-                driver.end();
-            });
-        }
+    in_batches(driver, batches, |driver, number| {
+        let cases = batch(seed, number);
+        let answers = answers(driver, &cases);
+        compare(number, &wrong, &cases, &answers, &found);
     });
     let found = found.into_inner().expect("no thread failed");
     report(&wrong, &found, batches * BATCH as u64, &spoilers_at_large(driver))

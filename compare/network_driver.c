@@ -11,18 +11,15 @@
    change the last byte of a buffer after the call, 3 to 5 the byte before one, 6 the result, 7 the number, 8 the last
    of the times. */
 #define _GNU_SOURCE
-#include <stdint.h>
-#include <stdio.h>
 #include <stdlib.h>
 #include <string.h>
-#include <sys/mman.h>
-#include <unistd.h>
 
 #include "conepalhui-network.h"
+#include "lent.h"
 
 enum { SOLVE, TIMES, CHAIN, FLUSH };
 enum { WORDS, GIVEN, LENT, BUFFERS };
-enum { MARGIN = 32, MOST = 1 << 17, EVENTS = 128 };
+enum { EVENTS = 128 };
 enum { SPOIL_RESULT = 2 * BUFFERS, SPOIL_NUMBER, SPOIL_TIME };
 
 struct head {
@@ -31,19 +28,6 @@ struct head {
 };
 
 static const size_t width[BUFFERS] = {sizeof(int64_t), sizeof(int64_t), sizeof(uint32_t)};
-
-static void fail(const char *what) {
-    fprintf(stderr, "driver: %s\n", what);
-    _exit(3);
-}
-
-/* Gives the end of MOST writable bytes, after which nothing may be touched. */
-static uint8_t *lent_end(void) {
-    size_t page = (size_t)sysconf(_SC_PAGESIZE);
-    uint8_t *at = mmap(NULL, MOST + page, PROT_READ | PROT_WRITE, MAP_PRIVATE | MAP_ANONYMOUS, -1, 0);
-    if (at == MAP_FAILED || mprotect(at + MOST, page, PROT_NONE) != 0) fail("no memory");
-    return at + MOST;
-}
 
 /* Leaves no zeros on the stack, so that an answer which is not written whole is seen. */
 static __attribute__((noinline)) void soil_the_stack(void) {
