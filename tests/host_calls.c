@@ -15,13 +15,12 @@
 #include <stdlib.h>
 #include <string.h>
 #include <sys/mman.h>
-#include <ucontext.h>
+
+#include "stack.h"
 
 #define ROOM 65536 /* more than any lent buffer */
 #define PAGE 65536 /* as large as a page of any machine */
 #define UNTOUCHED 0xA5
-#define PAINT 0xC7
-#define STACK 262144
 #define TOP UINT32_MAX
 
 static unsigned cases, faults;
@@ -398,33 +397,7 @@ static void helpers(void)
         fault("helpers", "refusal");
 }
 
-/* ---- The stack, measured by painting one */
-
-static uint8_t stack[STACK];
-static ucontext_t outside, inside;
-static void (*measured)(void);
-
-static void run_measured(void)
-{
-    measured();
-}
-
-/* Gives how many bytes of the stack a function uses. */
-static size_t stack_of(void (*function)(void))
-{
-    size_t clean = 0;
-    measured = function;
-    memset(stack, PAINT, sizeof stack);
-    getcontext(&inside);
-    inside.uc_stack.ss_sp = stack;
-    inside.uc_stack.ss_size = sizeof stack;
-    inside.uc_link = &outside;
-    makecontext(&inside, run_measured, 0);
-    swapcontext(&outside, &inside);
-    while (clean < sizeof stack && stack[clean] == PAINT)
-        clean++;
-    return sizeof stack - clean;
-}
+/* ---- The stack */
 
 static void stack_start(void)
 {

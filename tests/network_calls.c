@@ -16,7 +16,8 @@
 #include <stdlib.h>
 #include <string.h>
 #include <sys/mman.h>
-#include <ucontext.h>
+
+#include "stack.h"
 
 #define ROOM 65536 /* bytes, as many as the largest lent buffer has */
 #define PAGE 65536 /* as large as a page of any machine */
@@ -26,8 +27,6 @@
 #endif
 #define ANY 0 /* no chain has this length */
 #define UNTOUCHED 0xA5
-#define PAINT 0xC7
-#define STACK 262144
 #define EVENTS CONEPALHUI_NETWORK_EVENTS
 #define MOST INT64_C(1000000000)
 #define TOP INT64_MAX
@@ -700,34 +699,9 @@ static void layout_and_helpers(void)
     }
 }
 
-/* ---- The stack, measured by painting one */
+/* ---- The stack */
 
-static uint8_t stack[STACK];
-static ucontext_t outside, inside;
-static void (*measured)(void);
 static conepalhui_network_answer last_answer;
-
-static void run_measured(void)
-{
-    measured();
-}
-
-/* Gives how many bytes of the stack a function uses. */
-static size_t stack_of(void (*function)(void))
-{
-    size_t clean = 0;
-    measured = function;
-    memset(stack, PAINT, sizeof stack);
-    getcontext(&inside);
-    inside.uc_stack.ss_sp = stack;
-    inside.uc_stack.ss_size = sizeof stack;
-    inside.uc_link = &outside;
-    makecontext(&inside, run_measured, 0);
-    swapcontext(&outside, &inside);
-    while (clean < sizeof stack && stack[clean] == PAINT)
-        clean++;
-    return sizeof stack - clean;
-}
 
 static void stack_solve(void)
 {
