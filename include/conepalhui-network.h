@@ -34,8 +34,9 @@
  * late as 10.
  *
  * TIMES SAY THAT IT CAN GO WELL, NOT THAT IT ALWAYS DOES. Where the parts of a way take 42 ms at worst and the wish
- * allows 40, times exist: those at which the parts are quick. To be sure that it is never late, ask for the contrary,
- * that it takes 41 or more: a chain shows that this cannot be.
+ * allows 40, times exist: those at which the parts are quick. To be sure that it is never late, ask for the contrary:
+ * give every part its upper limit, LEAVE THE WISH OUT, and add that it takes 41 or more. A chain with that constraint
+ * in it shows that this cannot be; a chain without it, that the others contradict each other.
  *
  * Chains. A chain is numbers of constraints. Each begins at the event where the one before it ends, the first where
  * the last ends; no event is met twice; the sum of their mosts is below zero. It is given exactly where no times exist.

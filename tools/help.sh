@@ -203,7 +203,7 @@ Reads a temporal network, the file NETWORK or standard input: a text with a cons
 
 Words have spaces or tabs between them. A name is any word; events are numbered in the order in which their names first
 appear. Numbers are whole, from -1000000000 to 1000000000. There are at most 128 events and 2048 constraints.
-A name has no '#', which begins a comment, and no byte that a screen does not show.
+A name has no '#', which begins a comment, and no control byte; what else a screen does not show makes another name.
 
 It prints 'times N' and a line 'time NAME T' for each event: these times keep all constraints, none is above 0, and
 each is the latest that is possible so. TIMES SAY THAT IT CAN GO WELL, NOT THAT IT ALWAYS DOES (docs/NETWORKS.md). Where
@@ -213,13 +213,13 @@ Which chain is printed may change with the version.
 
 With a CLAIM it tests one, whoever made it: a text with lines 'time NAME NUMBER', or with lines 'line N: ...', as above.
 It prints 'kept', or 'broken' and the first constraint that the times do not keep; 'chain', or 'no chain'. An event
-without a time keeps no constraint. What this command printed can be given back as it is; of it only the times and the
-line numbers are read.
+without a time keeps no constraint. What this command printed can be given back as it is (but 'times 0'); of it
+only the times and the line numbers are read.
 
-A text that cannot be read gives 'refused line N' with the first bad line, 'refused long' or 'refused claim', a network
+A text with a bad line gives 'refused line N' with the first one, 'refused long' or 'refused claim', a network
 past the limits 'refused 27 0', a number out of range 'refused 16 K' with its constraint, counted from 0. Standard error
 says why. Exit status: 0 times, kept or chain of a claim; 1 a chain that was found, broken or no chain; 2 refused;
-4 where a text cannot be read.
+4 where a file cannot be read.
 END
 }
 

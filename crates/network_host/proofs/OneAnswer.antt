@@ -27,7 +27,16 @@ host-solve-one-answer n ws before a b after after′ x y =
       x .times ∙ o .0 ∙ sym (y .times),
       ⊎-elim
           (λ q. inl (x .result ∙ ap (λ r. outcomeVerdict r .result) (q .0) ∙ sym (y .result), x .number ∙ ap (λ r. outcomeVerdict r .number) (q .0) ∙ sym (y .number), q .1))
-          (λ q. inr (x .result ∙ ap (λ r. outcomeVerdict r .result) (q .0 .1), y .result ∙ ap (λ r. outcomeVerdict r .result) (q .1 .1)))
+          (λ q.
+          let e : a .number ≡ q .one = x .number ∙ ap (λ r. outcomeVerdict r .number) (q .first) in
+          let f : b .number ≡ q .other = y .number ∙ ap (λ r. outcomeVerdict r .number) (q .second) in
+          inr
+          (record {
+            first = x .result ∙ ap (λ r. outcomeVerdict r .result) (q .first);
+            second = y .result ∙ ap (λ r. outcomeVerdict r .result) (q .second);
+            past = λ i h k. q .past i (omega arith) (omega arith);
+            long = q .long;
+          }))
           (o .1),
     )
 

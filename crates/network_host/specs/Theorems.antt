@@ -6,18 +6,25 @@ use mathlib.Core.Logic.{_⊎_}
 use lib.IntN.{ℤ}
 use lib.ListN.{length}
 use Rattle.network.specs.Network.{Times, Keeps}
-use Rattle.network.specs.Constraints.{networkOf}
+use Rattle.network.specs.Constraints.{numbersOf, networkOf}
 use Rattle.solver.specs.Solving.{solveRefusals}
 use Rattle.network_host.specs.Calls.{refusedResult, HostSolves, HostTestsTimes, HostTestsChain}
 use Rattle.network_host.specs.declared.NetworkAnswer.{NetworkAnswer}
 use Rattle.network_host.specs.declared.Verdict.{Verdict}
 
--- Solving has one answer, but for the chain: two answers have the same times, and are the same, with the same lent words, unless the result of both is 1, a chain.
+-- The result of both is 1, a chain, and every lent word past both chains is the same.
+pub record HostBothChains (a b : NetworkAnswer) (after after′ : List ℕ) : Type 0 where
+  pub first : a .result ≡ 1
+  pub second : b .result ≡ 1
+  pub past : (i : ℕ) → a .number ≤ i → b .number ≤ i → numbersOf after i ≡ numbersOf after′ i
+  pub long : length after ≡ length after′
+
+-- Solving has one answer, but for the chain: two answers have the same times, and are the same, with the same lent words, unless both gave a chain.
 abbrev pub HostSolveOneAnswer : Type 0
 HostSolveOneAnswer =
     (n : ℕ) (ws : List ℤ) (before : List ℕ) (a b : NetworkAnswer) (after after′ : List ℕ)
     → HostSolves n ws before a after → HostSolves n ws before b after′
-    → (a .times ≡ b .times) × (((a .result ≡ b .result) × (a .number ≡ b .number) × (after ≡ after′)) ⊎ ((a .result ≡ 1) × (b .result ≡ 1)))
+    → (a .times ≡ b .times) × (((a .result ≡ b .result) × (a .number ≡ b .number) × (after ≡ after′)) ⊎ HostBothChains a b after after′)
 
 -- Each test has one answer.
 abbrev pub HostTestTimesOneAnswer : Type 0

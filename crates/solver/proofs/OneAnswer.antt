@@ -20,7 +20,7 @@ use Rattle.claims.specs.declared.TimesTest.the-variants as times
 use Rattle.claims.specs.declared.ChainTest.the-variants as chains
 use Rattle.claims.proofs.OneAnswer.{test-times-one-answer, test-chain-one-answer, each-kept}
 use Rattle.solver.specs.Solving.{solveRefusals, GivesTimes, GivesChain, SolvesWith}
-use Rattle.solver.specs.Theorems.{GaveChain, SolveOneAnswer, ChainsExactlyWithoutTimes, SolvedPassesTheTests}
+use Rattle.solver.specs.Theorems.{GaveChain, BothChains, SolveOneAnswer, ChainsExactlyWithoutTimes, SolvedPassesTheTests}
 use Rattle.solver.specs.declared.Outcome.{Outcome}
 use Rattle.solver.specs.declared.Outcome.the-variants as outcome
 use Rattle.solver.proofs.Ends.{same-chain}
@@ -43,12 +43,15 @@ not-both {l = l} {ws} {t} {after = after} x y = chains-refute-times (networkOf w
 
 one : (n : ℕ) (ws : List ℤ) (before : List ℕ) (o p : Outcome) (t u : List ℤ) (after after′ : List ℕ)
     → SolvesWith n ws before o t after → SolvesWith n ws before p u after′
-    → (t ≡ u) × (((o ≡ p) × (after ≡ after′)) ⊎ (GaveChain o × GaveChain p))
+    → (t ≡ u) × (((o ≡ p) × (after ≡ after′)) ⊎ BothChains o p after after′)
 one n ws before outcome.Times outcome.Times t u after after′ x y = (same-times (x .1) (y .1), inl (refl, x .2 ∙ sym (y .2)))
 one n ws before outcome.Times (outcome.Chain l) t u after after′ x y = absurd (not-both (x .1) (y .1))
 one n ws before outcome.Times (outcome.Refused k p) t u after after′ x y = absurd (solve-one n ws (length before) .none (x .0) (y .0))
 one n ws before (outcome.Chain l) outcome.Times t u after after′ x y = absurd (not-both (y .1) (x .1))
-one n ws before (outcome.Chain l) (outcome.Chain m) t u after after′ x y = (x .2 ∙ sym (y .2), inr ((l, refl), (m, refl)))
+one n ws before (outcome.Chain l) (outcome.Chain m) t u after after′ x y = (
+  x .2 ∙ sym (y .2),
+  inr (record { one = l; other = m; first = refl; second = refl; past = λ a h k. x .1 .rest a h ∙ sym (y .1 .rest a k); long = x .1 .long ∙ sym (y .1 .long) }),
+)
 one n ws before (outcome.Chain l) (outcome.Refused k p) t u after after′ x y = absurd (solve-one n ws (length before) .none (x .0) (y .0))
 one n ws before (outcome.Refused k p) outcome.Times t u after after′ x y = absurd (solve-one n ws (length before) .none (y .0) (x .0))
 one n ws before (outcome.Refused k p) (outcome.Chain l) t u after after′ x y = absurd (solve-one n ws (length before) .none (y .0) (x .0))
