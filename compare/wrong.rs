@@ -556,6 +556,40 @@ fn of_deadlines() -> Vec<Wrong> {
     ]
 }
 
+/// The overlap of two legs by what is taken for the divisor of their periods. In one of 0 no two slots fit.
+fn apart_by(divisor: u32, a: &Sent, b: &Sent) -> bool {
+    divisor > 0 && Plain.apart(&Sent { period: divisor, ..*a }, &Sent { period: divisor, ..*b })
+}
+
+/// A divisor of both numbers, but not the greatest where that is even.
+fn lesser_divisor(a: u32, b: u32) -> u32 {
+    let g = divisor(a, b);
+    if g % 2 == 0 {
+        g / 2
+    } else {
+        g
+    }
+}
+
+/// Euclid, with the last division but one taken for the last.
+fn one_step_short(mut a: u32, mut b: u32) -> u32 {
+    while b != 0 && a % b != 0 {
+        (a, b) = (b, a % b);
+    }
+    a
+}
+
+/// The overlap by the divisor of the periods of the leg and of the leg before the other one on the link.
+fn by_the_pair_before(plan: &Plan, leg: usize, place: u32) -> bool {
+    let frame = |leg: usize| sent(&Plain, plan, leg);
+    let link = |leg: usize| plan.legs[leg].link;
+    but_for(OVERLAP, plan, leg, place, |other| {
+        let before = (0..other).rev().find(|&before| link(before) == link(other)).unwrap_or(other);
+        link(leg) != link(other)
+            || apart_by(divisor(frame(leg).period, frame(before).period), &frame(leg), &frame(other))
+    })
+}
+
 fn of_overlaps() -> Vec<Wrong> {
     let absolute = |_: &Bent, a: &Sent, b: &Sent| {
         let difference = a.offset.max(b.offset) - a.offset.min(b.offset);
@@ -620,6 +654,18 @@ fn of_overlaps() -> Vec<Wrong> {
             c.apart = |_, a, b| Plain.apart(a, &Sent { period: a.period, ..*b })
         }),
         wrong("overlap with a difference that is not brought into 0 to g - 1", |c| c.apart = difference_negative),
+        wrong("overlap by a divisor that is not the greatest", |c| {
+            c.apart = |_, a, b| apart_by(lesser_divisor(a.period, b.period), a, b)
+        }),
+        wrong("overlap by a divisor of 0 for equal periods", |c| {
+            c.apart = |_, a, b| apart_by(if a.period == b.period { 0 } else { divisor(a.period, b.period) }, a, b)
+        }),
+        wrong("overlap by a divisor one step short", |c| {
+            c.apart = |_, a, b| apart_by(one_step_short(a.period, b.period), a, b)
+        }),
+        wrong("overlap by the divisor of the pair before", |c| {
+            c.holds = |_, plan, leg, place| by_the_pair_before(plan, leg, place)
+        }),
         wrong("overlap with legs of other links", |c| {
             c.holds = |_, plan, leg, place| overlap_by(plan, leg, place, |_| 0)
         }),

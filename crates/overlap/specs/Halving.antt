@@ -1,0 +1,19 @@
+-- What the inner functions of the divisor tell: a number halved, and two numbers parted.
+use Prim.Native.Nat.{ℕ, _+_, _*_, _%_, _^_, _<_}
+use mathlib.Core.Path.{_≡_}
+use mathlib.Core.Logic.{_⊎_}
+use Rattle.overlap.specs.declared.divisor.Halved.{Halved}
+use Rattle.overlap.specs.declared.divisor.Parted.{Parted}
+
+abbrev pub Odd : ℕ → Type 0
+Odd x = x % 2 ≡ 1
+
+-- x is the odd number doubled so many times. A word of 64 bits is doubled less than 64 times.
+pub record HalvedFrom (x : ℕ) (h : Halved) : Type 0 where
+  pub odd : Odd (h .odd)
+  pub whole : h .odd * 2 ^ h .times ≡ x
+  pub few : h .times < 64
+
+-- The lesser of x and y, and what it takes to make the other one.
+abbrev pub PartedFrom : ℕ → ℕ → Parted → Type 0
+PartedFrom x y p = ((p .lesser ≡ x) × (x + p .rest ≡ y)) ⊎ ((p .lesser ≡ y) × (y + p .rest ≡ x))
