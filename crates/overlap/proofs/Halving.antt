@@ -3,7 +3,7 @@
 use Prim.Native.Nat.{ℕ, zero, suc, _+_, _*_, _/_, _%_, _^_, _∣_, _≤_, _<_}
 use mathlib.Core.Path.{_≡_, refl, _∙_, sym, ap, subst}
 use mathlib.Core.Logic.{_⊎_, inl, inr, ⊎-elim}
-use native.Mathlib.Nat.{dvd-refl, dvd-add, dvd-trans, dvd-add-iff-right, dvd-mul-left, dvd-mul-left-of-dvd, dvd-mul-right-of-dvd, dvd-of-mod-eq-zero, mod-eq-zero-of-dvd, mul-dvd-mul-left, dvd-of-mul-dvd-mul-left, mul-one, mul-suc, mul-comm, mul-left-comm, pow-succ', div-one, div-div-eq-div-mul, div-lt-iff-lt-mul, mod-eq-of-lt, not-suc-le-zero, zero-lt-suc, le-of-suc-le-suc, mul-le-mul-left}
+use native.Mathlib.Nat.{dvd-add, dvd-trans, dvd-add-iff-right, dvd-mul-left, dvd-mul-left-of-dvd, dvd-mul-right-of-dvd, dvd-of-mod-eq-zero, mod-eq-zero-of-dvd, mul-dvd-mul-left, dvd-of-mul-dvd-mul-left, mul-one, mul-suc, mul-comm, mul-left-comm, pow-succ', div-one, div-div-eq-div-mul, mod-eq-of-lt, not-suc-le-zero, zero-lt-suc, le-of-suc-le-suc, mul-le-mul-left}
 use native.Mathlib.Omega.{arith}
 use lib.Count.{trailingZeros, under}
 use lib.Pow.{pow-pos}
@@ -11,7 +11,7 @@ use mir.Syntax.{w64}
 use mir.Val.{Fits}
 use Rattle.basics.proofs.Splits.{lt-or-ge}
 use Rattle.overlap.specs.Divisor.{IsGcd}
-use Rattle.overlap.specs.Halving.{Odd, HalvedFrom, PartedFrom}
+use Rattle.overlap.specs.Halving.{Odd, HalvedFrom, LeadsTo, PartedFrom}
 use Rattle.overlap.specs.declared.divisor.Halved.{Halved}
 use Rattle.overlap.specs.declared.divisor.Parted.{Parted}
 use Rattle.overlap.proofs.Congruent.{swap-gcd}
@@ -151,7 +151,7 @@ module _ {a b x y : ℕ} (n : Narrowed a b x y) where
     pub rest-positive : (x ≡ y → ⊥) → 0 < p .rest
     rest-positive far =
         ⊎-elim
-        (λ (z : p .rest < 1). absurd (far (⊎-elim (λ (f : (p .lesser ≡ x) × (x + p .rest ≡ y)). omega (arith, f .1)) (λ (f : (p .lesser ≡ y) × (y + p .rest ≡ x)). omega (arith, f .1)) parts)))
+        (λ (z : p .rest < 1). absurd (far (⊎-elim (λ (f : LeadsTo p x y). omega (arith, f .1)) (λ (f : LeadsTo p y x). omega (arith, f .1)) parts)))
         (λ (z : 1 ≤ p .rest). z)
         (lt-or-ge (p .rest) 1)
 
@@ -167,23 +167,23 @@ module _ {a b x y : ℕ} (n : Narrowed a b x y) where
           let ox = n .odd in
           let oy = n .other in
           ⊎-elim
-          (λ (f : (p .lesser ≡ x) × (x + p .rest ≡ y)). omega (arith, f .0, f .1))
-          (λ (f : (p .lesser ≡ y) × (y + p .rest ≡ x)). omega (arith, f .0, f .1))
+          (λ (f : LeadsTo p x y). omega (arith, f .0, f .1))
+          (λ (f : LeadsTo p y x). omega (arith, f .0, f .1))
           parts
 
       -- From the lesser, which is odd, and the halved rest to the two numbers.
-      widened : (m w g : ℕ) → Odd m → p .lesser ≡ m → m + p .rest ≡ w → IsGcd (p .lesser) (h .odd) g → IsGcd m w g
-      widened m w g o q s e = added m (p .rest) w g s (with-twos (h .times) m (h .odd) (p .rest) g o (halved .whole) (subst (λ (z : ℕ). IsGcd z (h .odd) g) q e))
+      widened : (m w g : ℕ) → Odd m → LeadsTo p m w → IsGcd (p .lesser) (h .odd) g → IsGcd m w g
+      widened m w g o (q, s) e = added m (p .rest) w g s (with-twos (h .times) m (h .odd) (p .rest) g o (halved .whole) (subst (λ (z : ℕ). IsGcd z (h .odd) g) q e))
 
       pub narrowed-next : Narrowed a b (p .lesser) (h .odd)
       narrowed-next = record {
-        odd = ⊎-elim (λ (f : (p .lesser ≡ x) × (x + p .rest ≡ y)). rw (f .0) (n .odd)) (λ (f : (p .lesser ≡ y) × (y + p .rest ≡ x)). rw (f .0) (n .other)) parts;
+        odd = ⊎-elim (λ (f : LeadsTo p x y). rw (f .0) (n .odd)) (λ (f : LeadsTo p y x). rw (f .0) (n .other)) parts;
         other = halved .odd;
         same = λ g e.
             n .same g
             (⊎-elim
-            (λ (f : (p .lesser ≡ x) × (x + p .rest ≡ y)). widened x y g (n .odd) (f .0) (f .1) e)
-            (λ (f : (p .lesser ≡ y) × (y + p .rest ≡ x)). swap-gcd y x g (widened y x g (n .other) (f .0) (f .1) e))
+            (λ (f : LeadsTo p x y). widened x y g (n .odd) f e)
+            (λ (f : LeadsTo p y x). swap-gcd y x g (widened y x g (n .other) f e))
             parts);
       }
 
@@ -195,16 +195,17 @@ none-left {a} {b} z = rw z (swap-gcd b 0 b (ends b))
 pub none-right : {a b : ℕ} → b ≡ 0 → IsGcd a b a
 none-right {a} {b} z = rw z (ends a)
 
--- The divisor of the odd parts, doubled as often as the one that was halved less often, is the divisor. It is no greater than that one, so no bit is lost.
-module _ {a b g : ℕ} {x y : Halved} (first : HalvedFrom a x) (second : HalvedFrom b y) (e : IsGcd (x .odd) (y .odd) g) where
-  less-often : {p q : ℕ} {h k : Halved} → HalvedFrom p h → HalvedFrom q k → IsGcd (h .odd) (k .odd) g → h .times ≤ k .times → 0 < p → Fits w64 p
-      → IsGcd p q (g * 2 ^ h .times) × (g * 2 ^ h .times < 2 ^ 64)
-  less-often {p} {q} {h} {k} u v w l pos f =
-      let d : IsGcd p q (g * 2 ^ h .times) = rw (sym (u .whole), sym (v .whole)) (twos _ _ _ _ _ l (u .odd) w) in
-      (d, omega (arith, gcd-positive _ _ _ pos d .1, f .fits))
+-- The divisor of the odd parts, doubled as often as the number that was halved less often. It is no greater than that number, so no bit is lost.
+less-often : {p q g : ℕ} {h k : Halved} → HalvedFrom p h → HalvedFrom q k → IsGcd (h .odd) (k .odd) g → h .times ≤ k .times → 0 < p → Fits w64 p
+    → IsGcd p q ((g * 2 ^ h .times) % 2 ^ 64)
+less-often {p} {q} {g} {h} {k} u v w l pos f =
+    let d : IsGcd p q (g * 2 ^ h .times) = rw (sym (u .whole), sym (v .whole)) (twos _ _ _ _ _ l (u .odd) w) in
+    let small : g * 2 ^ h .times < 2 ^ 64 = omega (arith, gcd-positive _ _ _ pos d .1, f .fits) in
+    rw (mod-eq-of-lt small) d
 
+module _ {a b g : ℕ} {x y : Halved} (first : HalvedFrom a x) (second : HalvedFrom b y) (e : IsGcd (x .odd) (y .odd) g) where
   pub first-less : x .times < y .times → 0 < a → Fits w64 a → IsGcd a b ((g * 2 ^ x .times) % 2 ^ 64)
-  first-less l pos f = let d = less-often first second e (omega arith) pos f in rw (mod-eq-of-lt (d .1)) (d .0)
+  first-less l pos f = less-often first second e (omega arith) pos f
 
   pub second-less : y .times ≤ x .times → 0 < b → Fits w64 b → IsGcd a b ((g * 2 ^ y .times) % 2 ^ 64)
-  second-less l pos f = let d = less-often second first (swap-gcd _ _ _ e) l pos f in rw (mod-eq-of-lt (d .1)) (swap-gcd _ _ _ (d .0))
+  second-less l pos f = swap-gcd _ _ _ (less-often second first (swap-gcd _ _ _ e) l pos f)

@@ -14,6 +14,10 @@ pub record HalvedFrom (x : ℕ) (h : Halved) : Type 0 where
   pub whole : h .odd * 2 ^ h .times ≡ x
   pub few : h .times < 64
 
+-- m is the lesser, and the rest leads from it to w.
+abbrev pub LeadsTo : Parted → ℕ → ℕ → Type 0
+LeadsTo p m w = (p .lesser ≡ m) × (m + p .rest ≡ w)
+
 -- The lesser of x and y, and what it takes to make the other one.
 abbrev pub PartedFrom : ℕ → ℕ → Parted → Type 0
-PartedFrom x y p = ((p .lesser ≡ x) × (x + p .rest ≡ y)) ⊎ ((p .lesser ≡ y) × (y + p .rest ≡ x))
+PartedFrom x y p = LeadsTo p x y ⊎ LeadsTo p y x
