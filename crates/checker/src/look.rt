@@ -86,6 +86,6 @@ pub fn looked(t: &[u32], cursor: Cursor, budget: u32) -> SliceAnswer
     ensures { λ r. ⌜ Slices (now (t .entry)) cursor budget r ⌝ }
 {
     let mut first = [places::chains::NO_CHAIN; table::MAX_LINKS];
-    let mut next = [0usize; table::MAX_LEGS];
+    let mut next = [places::chains::NO_CHAIN; table::MAX_LEGS];
     look_in(t, &mut first, &mut next, cursor, budget)
 }

@@ -23,22 +23,11 @@ use Rattle.files.specs.Steps.{PlanTold}
 use Rattle.files.specs.Cursors.{cursorNumbers, CursorComplete}
 use Rattle.files.specs.declared.PlanRead.the-variants.{Words}
 
--- A buffer filled whole holds the numbers that stand in front.
-filled-row : {s b b′ : List ℕ} {n next : ℕ} → Numbers s 0 n next → length b ≡ n → Filled s 0 n b b′ → (length b′ ≡ n) × Row s 0 b′ next
-filled-row {s} {b} {b′} r h l =
-    let e : b′ ≡ l .ws = l .after ∙ overlaid-all b (l .ws) (l .count ∙ sym h) in
-    let q = row-same (l .ws) (r .ws) (l .row) (r .row) (l .count ∙ sym (r .count)) in
-    (ap length e ∙ l .count, rw e (rw (q .1) at (l .row)))
-
 -- The numbers of a header, and what was told of them as the words of an edition's header.
 pub record Header (e : Edition) (s h : List ℕ) (next : ℕ) (told : Limits) : Type 0 where
   pub five : length h ≡ headWords
   pub row : Row s 0 h next
   pub limits : LimitsTold e h told
-
-pub header-stands : {e : Edition} {s b b′ : List ℕ} {next : ℕ} {told : Limits}
-    → Numbers s 0 headWords next → length b ≡ headWords → Filled s 0 headWords b b′ → LimitsTold e b′ told → Header e s b′ next told
-header-stands r z l t = let f = filled-row r z l in record { five = f .0; row = f .1; limits = t }
 
 -- The same with its values inside.
 pub record Headed : Type 0 where
@@ -49,16 +38,15 @@ pub record Headed : Type 0 where
   pub told : Limits
   pub header : Header e s h next told
 
-abbrev pub headed : (e : Edition) (told : Limits) {s b b′ : List ℕ} {next : ℕ}
-    → Numbers s 0 headWords next → length b ≡ headWords → Filled s 0 headWords b b′ → LimitsTold e b′ told → Headed
-headed e told {s} {b} {b′} {next} r z l t = record { e = e; s = s; h = b′; next = next; told = told; header = header-stands r z l t }
+abbrev pub headed : (e : Edition) (told : Limits) {s h : List ℕ} {next : ℕ} → length h ≡ headWords → Row s 0 h next → LimitsTold e h told → Headed
+headed e told {s} {h} {next} n r t = record { e = e; s = s; h = h; next = next; told = told; header = record { five = n; row = r; limits = t } }
 
 pub header-above : {e : Edition} {s h : List ℕ} {next : ℕ} {told : Limits} → Header e s h next told → told ≡ Above → HeaderAboveIn e s
 header-above {e} {s} {h} {next} d a = record { head = h; next = next; row = d .row; five = d .five; above = subst (LimitsTold e h) a (d .limits) }
 
 -- After a header that is within its limits: the words that are told, and the records up to p.
 module _ {e : Edition} {s h : List ℕ} {next : ℕ} {told : Limits} (d : Header e s h next told) {size : ℕ} (w : told ≡ Within size) where
-  within : LimitsIn e h × (size ≡ wordsIn e h)
+  pub within : LimitsIn e h × (size ≡ wordsIn e h)
   within = subst (LimitsTold e h) w (d .limits)
 
   pub header-first : headWords ≤ size
@@ -78,13 +66,16 @@ module _ {e : Edition} {s h : List ℕ} {next : ℕ} {told : Limits} (d : Header
     pub table-over : p < length s → Over (SizedIn e) s p
     table-over z = record { ws = h ++ n .ws; row = row-append h (n .ws) (d .row) (n .row); complete = table-whole (n .ws) (n .count); left-over = z }
 
+    pub table-is : length s ≤ p → IsFile (SizedIn e) s (h ++ n .ws)
+    table-is z =
+        let t = row-append h (n .ws) (d .row) (n .row) in
+        record { complete = table-whole (n .ws) (n .count); words = t .words; bytes = row-whole (h ++ n .ws) t z }
+
+    pub table-size : size ≡ length (h ++ n .ws)
+    table-size = omega (arith, length-append h (n .ws), d .five, n .count, within .1)
+
     pub table-file : length s ≤ p → PlanTold e s (Words size)
-    table-file z =
-        let t = row-append h (n .ws) (d .row) (n .row) in (
-          h ++ n .ws,
-          record { complete = table-whole (n .ws) (n .count); words = t .words; bytes = row-whole (h ++ n .ws) t z },
-          omega (arith, length-append h (n .ws), d .five, n .count, within .1),
-        )
+    table-file z = (h ++ n .ws, table-is z, table-size)
 
   -- A record is cut short: another number is due.
   pub table-cut : {k p : ℕ} → Stopped s next (size - headWords) k p → Cut (PlanDueIn e) s k p
@@ -108,11 +99,6 @@ filled-table {s = s} {b = b} t f e h l =
     let r : Row s 0 t (length (fileOf t)) = rw (f .bytes) (file-row t (f .words)) in
     record { count = e; room = omega arith; after = l .after ∙ ap (overlaid b 0) (row-same (l .ws) t (l .row) r (l .count ∙ e) .0) }
 
--- A buffer filled whole with numbers up to the end of the bytes: they are its file.
-pub filled-whole : {s b b′ : List ℕ} {n next : ℕ} → Numbers s 0 n next → length s ≤ next → length b ≡ n → Filled s 0 n b b′
-    → (length b′ ≡ n) × AllWords b′ × (s ≡ fileOf b′)
-filled-whole {b′ = b′} r z h l = let f = filled-row r h l in (f .0, f .1 .words, row-whole b′ (f .1) z)
-
 -- Three words, one by one.
 three-words : (ws : List ℕ) → length ws ≡ cursorNumbers → getD ws 0 0 ∷ getD ws 1 0 ∷ getD ws 2 0 ∷ [] ≡ ws
 three-words [] h = absurd (omega arith)
@@ -121,6 +107,7 @@ three-words (a ∷ b ∷ []) h = absurd (omega arith)
 three-words (a ∷ b ∷ c ∷ []) h = refl
 three-words (a ∷ b ∷ c ∷ d ∷ ws) h = absurd (omega arith)
 
-pub three-file : (s ws : List ℕ) → (length ws ≡ cursorNumbers) × AllWords ws × (s ≡ fileOf ws)
+-- Three words up to the end of the bytes: they are the file of the cursor that they make.
+pub three-file : {s ws : List ℕ} {next : ℕ} → length ws ≡ cursorNumbers → Row s 0 ws next → length s ≤ next
     → IsFile CursorComplete s (getD ws 0 0 ∷ getD ws 1 0 ∷ getD ws 2 0 ∷ [])
-three-file s ws (n, w, b) = subst (IsFile CursorComplete s) (sym (three-words ws n)) (record { complete = n; words = w; bytes = b })
+three-file {s} {ws} n r z = subst (IsFile CursorComplete s) (sym (three-words ws n)) (record { complete = n; words = r .words; bytes = row-whole ws r z })

@@ -5,7 +5,8 @@ use Prim.Native.Nat.{ℕ, _≤_, _<_}
 use mathlib.Core.Path.{_≡_, refl, _∙_, sym, ap}
 use mathlib.Core.List.{List, _++_}
 use mathlib.Core.Logic.{inl, inr, ⊎-elim}
-use lib.ListN.{length, length-append}
+use lib.ListN.{length, take, length-append}
+use lib.Seq.{length-take-le}
 use native.Mathlib.Omega.{arith}
 use Rattle.basics.specs.Refusals.{OneFault}
 use Rattle.basics.proofs.Refusals.{unless-one, then-one}
@@ -13,16 +14,16 @@ use Rattle.numbers.specs.Number.{noRoom}
 use Rattle.numbers.specs.Series.{fileOf, Row, Laid}
 use Rattle.basics.proofs.Splits.{lt-or-ge}
 use Rattle.numbers.proofs.OneNumber.{refused-once}
-use Rattle.numbers.proofs.Overlay.{laid-once, laid-fits, too-small-once}
+use Rattle.numbers.proofs.Overlay.{laid-once, laid-fits, too-small-once, overlaid-taken, overlaid-length}
 use Rattle.numbers.proofs.Rows.{row-compare, row-same, row-stops, file-row}
 use Rattle.table.specs.Layout.{current, headWords, wordsIn, LimitsIn, SizedIn, Sized}
 use Rattle.table.specs.declared.Edition.{Edition}
 use Rattle.table.proofs.Headers.{header-in-front, limits-same, words-same, same-header-back}
-use Rattle.table.proofs.Sizes.{size-one}
+use Rattle.table.proofs.Sizes.{size-one, table-words-at-most}
 use Rattle.files.specs.Reading.{IsFile, Cut, Over}
-use Rattle.files.specs.Plan.{PlanDueIn, HeaderAboveIn, PlanFaultIn, PlanUnreadIn, asItStands, writeRefusals}
+use Rattle.files.specs.Plan.{PlanDueIn, HeaderAboveIn, PlanFaultIn, PlanUnreadIn, InFront, asItStands, writeRefusals}
 use Rattle.files.specs.Cursors.{cursorWords, CursorDue, CursorComplete, ReadsCursor}
-use Rattle.files.specs.Theorems.{ReadPlanInOneAnswer, ReadPlanOneAnswer, WritePlanOneAnswer, ReadCursorOneAnswer, WriteCursorOneAnswer}
+use Rattle.files.specs.Theorems.{ReadPlanInOneAnswer, ReadPlanOneAnswer, TakePlanOneAnswer, ReadingTakes, WritePlanOneAnswer, ReadCursorOneAnswer, WriteCursorOneAnswer}
 use Rattle.numbers.specs.declared.Written.the-variants as written
 use Rattle.files.specs.declared.PlanRead.the-variants as plan
 use Rattle.files.specs.declared.Cursor.{Cursor}
@@ -136,6 +137,33 @@ read-plan-in-one-answer v given s b b′ b″ (plan.Refused k p) (plan.Refused l
 
 pub read-plan-one-answer : ReadPlanOneAnswer
 read-plan-one-answer = read-plan-in-one-answer current asItStands
+
+-- A table in front has as many words as are told.
+front-length : {s w : List ℕ} {n : ℕ} (f : InFront s n w) → n ≡ length (f .table)
+front-length {w = w} {n = n} f = sym (length-take-le n w (f .inside)) ∙ ap length (f .is)
+
+pub take-plan-one-answer : TakePlanOneAnswer
+take-plan-one-answer s w w′ (plan.Words n) (plan.Words m) f g =
+    let same = same-file (f .file) (g .file) in
+    let e : n ≡ m = front-length f ∙ ap length same ∙ sym (front-length g) in
+    (ap plan.Words e, λ k h. let q : n ≡ k = cc in rw (← q) (f .is ∙ same ∙ sym (g .is) ∙ ap (λ (i : ℕ). take i w′) (sym e)))
+take-plan-one-answer s w w′ (plan.Words n) (plan.Refused k p) f g = absurd (file-no-fault (f .file) g)
+take-plan-one-answer s w w′ (plan.Refused k p) (plan.Words n) f g = absurd (file-no-fault (g .file) f)
+take-plan-one-answer s w w′ (plan.Refused k p) (plan.Refused l q) f g =
+    let e = plan-fault-one s k p l q f g in
+    let e0 = e .0 in
+    let e1 = e .1 in
+    (cc, λ n h. let z : _≡_ {A = ℕ} 0 1 = cc in absurd (omega arith))
+
+pub reading-takes : ReadingTakes
+reading-takes s b b′ (plan.Words n) room (t, f, l) = record {
+  table = t;
+  file = f;
+  is = ap (λ (m : ℕ). take m b′) (l .count) ∙ ap (take (length t)) (l .after) ∙ overlaid-taken b t;
+  inside = omega (arith, l .room, ap length (l .after), overlaid-length b 0 t (omega (arith, l .room, l .count)));
+}
+reading-takes s b b′ (plan.Refused k p) room (inl f, h) = f
+reading-takes s b b′ (plan.Refused k p) room (inr x, h) = absurd (omega (arith, x .2 .long, table-words-at-most .1 (x .2 .table) (x .2 .file .complete)))
 
 pub write-one : (t : List ℕ) (room : ℕ) → OneFault (writeRefusals t room)
 write-one t room = then-one (size-one t) (unless-one noRoom _)

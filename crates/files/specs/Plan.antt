@@ -3,7 +3,7 @@ use Prim.Native.Nat.{ℕ, _≤_, _<_}
 use mathlib.Core.Path.{_≡_}
 use mathlib.Core.List.{List}
 use mathlib.Core.Logic.{_⊎_}
-use lib.ListN.{length}
+use lib.ListN.{length, take}
 use Rattle.basics.specs.Refusals.{Refusals, unless, _then_}
 use Rattle.numbers.specs.Number.{noRoom}
 use Rattle.numbers.specs.Series.{fileOf, Row, Laid}
@@ -63,6 +63,19 @@ PlanUnread s room k p = PlanUnreadIn current asItStands s room k p
 
 abbrev pub ReadsPlan : List ℕ → List ℕ → PlanRead → List ℕ → Type 0
 ReadsPlan s b r b′ = ReadsPlanIn current asItStands s b r b′
+
+-- The first n of the words w are the table whose file s is.
+pub record InFront (s : List ℕ) (n : ℕ) (w : List ℕ) : Type 0 where
+  pub table : List ℕ
+  pub file : IsFile Sized s table
+  pub is : take n w ≡ table
+  pub inside : n ≤ length w
+
+-- Reading the plan file s into words of the reader's own, with room for any table, which makes them w: the table lies in the first words, and the answer is how
+-- many; or what is wrong with the file. No other word is promised, after a refusal none.
+abbrev pub TakesPlan : List ℕ → PlanRead → List ℕ → Type 0
+TakesPlan s (plan.Words n) w = InFront s n w
+TakesPlan s (plan.Refused k p) w = PlanFault s k p
 
 -- Why a table is not written: 1, 2, 3, then 15 by the exact size.
 abbrev pub writeRefusals : List ℕ → ℕ → Refusals

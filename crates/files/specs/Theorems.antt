@@ -10,7 +10,7 @@ use Rattle.numbers.specs.declared.Written.the-variants as written
 use Rattle.table.specs.Layout.{maxTableWords, Sized}
 use Rattle.table.specs.PlanA.{planA}
 use Rattle.table.specs.declared.Edition.{Edition}
-use Rattle.files.specs.Plan.{ReadsPlanIn, ReadsPlan, WritesPlan}
+use Rattle.files.specs.Plan.{ReadsPlanIn, ReadsPlan, TakesPlan, WritesPlan}
 use Rattle.files.specs.Cursors.{cursorNumbers, cursorWords, cursorFile, ReadsCursor, WritesCursor}
 use Rattle.files.specs.declared.PlanRead.{PlanRead}
 use Rattle.files.specs.declared.PlanRead.the-variants as plan
@@ -29,6 +29,15 @@ ReadPlanInOneAnswer =
 abbrev pub ReadPlanOneAnswer : Type 0
 ReadPlanOneAnswer =
     (s b b′ b″ : List ℕ) (r r′ : PlanRead) → ReadsPlan s b r b′ → ReadsPlan s b r′ b″ → (r ≡ r′) × (b′ ≡ b″)
+
+-- So does a plan file that is read into words of the reader's own: one answer, and one table in front.
+abbrev pub TakePlanOneAnswer : Type 0
+TakePlanOneAnswer =
+    (s w w′ : List ℕ) (r r′ : PlanRead) → TakesPlan s r w → TakesPlan s r′ w′ → (r ≡ r′) × ((n : ℕ) → r ≡ plan.Words n → take n w ≡ take n w′)
+
+-- Both readers tell the same: where lent words have room for any table, reading into them is reading into words of one's own.
+abbrev pub ReadingTakes : Type 0
+ReadingTakes = (s b b′ : List ℕ) (r : PlanRead) → maxTableWords ≤ length b → ReadsPlan s b r b′ → TakesPlan s r b′
 
 abbrev pub WritePlanOneAnswer : Type 0
 WritePlanOneAnswer =

@@ -5,6 +5,7 @@ use basics::Checked;
 use numbers::Written;
 
 mod look;
+pub mod own;
 
 pub const LEFT_OVER: u32 = 14;
 
@@ -80,15 +81,14 @@ pub fn write_plan(table: &[u32], bytes: &mut [u8]) -> Written
 pub fn read_cursor(bytes: &[u8]) -> CursorRead
     ensures { λ r. ⌜ ReadsCursor (now (bytes .entry)) r ⌝ }
 {
-    let seen = numbers::series::look_through(bytes, 0, CURSOR_NUMBERS);
+    let mut words = [0u32; CURSOR_NUMBERS];
+    let seen = numbers::series::take_words(bytes, 0, &mut words);
     match seen {
         numbers::series::Scan::Stop(number, at) => CursorRead::Refused(number, at),
         numbers::series::Scan::End(next) => {
             if next < bytes.len() {
                 return CursorRead::Refused(LEFT_OVER, next);
             }
-            let mut words = [0u32; CURSOR_NUMBERS];
-            numbers::series::fill(bytes, 0, CURSOR_NUMBERS, &mut words);
             CursorRead::Saved(Cursor {
                 revision: words[0],
                 leg: words[1],

@@ -1,4 +1,4 @@
--- The numbers and positions of refusals are small, since every table and every file is, and no file is refused for room. Assumes nothing.
+-- The numbers and positions of refusals are small, since every table and every file is. Assumes nothing.
 use Prim.Native.Nat.{ℕ, _≤_}
 use mathlib.Core.List.{List}
 use mathlib.Core.Logic.{inl, inr, ⊎-elim}
@@ -10,7 +10,7 @@ use Rattle.numbers.proofs.Rows.{file-length}
 use Rattle.table.specs.Layout.{maxTableWords, Sized}
 use Rattle.table.proofs.Sizes.{table-words-at-most}
 use Rattle.shape.specs.OfTables.{maxRefusal, OfTable}
-use Rattle.files.specs.Plan.{PlanDue, PlanFault, PlanUnread}
+use Rattle.files.specs.Plan.{PlanDue, PlanFault}
 use Rattle.files.specs.Theorems.{maxFileBytes}
 use Rattle.host.specs.Refusals.{CursorUnread}
 use Rattle.host.specs.Steps.{Small}
@@ -31,11 +31,6 @@ plan-fault-small s k p (inl c) = record { number = no-number-small s p k (c .no-
 plan-fault-small s k p (inr (inl x)) = record { number = omega (arith, x .0); position = omega (arith, x .1) }
 plan-fault-small s k p (inr (inr x)) =
     let o = x .1 in record { number = omega (arith, x .0); position = row-end s (o .ws) p (o .row) (table-words-at-most .1 (o .ws) (o .complete)) }
-
--- There is room for every table.
-pub plan-fault : (s : List ℕ) (room k p : ℕ) → maxTableWords ≤ room → PlanUnread s room k p → PlanFault s k p
-plan-fault s room k p h (inl f) = f
-plan-fault s room k p h (inr x) = absurd (omega (arith, x .2 .long, table-words-at-most .1 (x .2 .table) (x .2 .file .complete)))
 
 pub cursor-file-small : (s : List ℕ) (k p : ℕ) → CursorUnread s k p → Small k p
 cursor-file-small s k p (inl c) = record { number = no-number-small s p k (c .no-number); position = row-end s (c .ws) p (c .row) (omega (arith, c .due)) }

@@ -11,11 +11,10 @@ use Rattle.numbers.specs.Number.{noRoom, maxWord}
 use Rattle.numbers.specs.Series.{fileOf}
 use Rattle.numbers.specs.declared.Written.{Written}
 use Rattle.numbers.specs.declared.Written.the-variants as written
-use Rattle.numbers.proofs.Overlay.{overlaid-taken, overlaid-length}
 use Rattle.table.specs.Layout.{maxTableWords, maxLegs, legCount, Sized}
 use Rattle.table.specs.declared.Move.{Move}
 use Rattle.table.proofs.Sizes.{size-one}
-use Rattle.files.specs.Plan.{PlanFault, writeRefusals, ReadsPlan, WritesPlan}
+use Rattle.files.specs.Plan.{PlanFault, InFront, writeRefusals, TakesPlan, WritesPlan}
 use Rattle.files.specs.Cursors.{ReadsCursor}
 use Rattle.files.specs.Theorems.{maxFileBytes}
 use Rattle.files.specs.declared.PlanRead.{PlanRead}
@@ -43,8 +42,8 @@ use Rattle.host.specs.declared.Opened.the-variants as opened
 use Rattle.host.specs.Answers.{answered, ruleResult, refusal, withCursor}
 use Rattle.host.specs.Refusals.{RefusedFor, CursorUnread, AfterPlan, AfterCursor}
 use Rattle.host.specs.Calls.{Lent, lent, WritesBoth, MovedLeg, Started, Sliced, StartsTable, SlicesTable, MovesTable, HostStarts, HostSlices, HostMoves}
-use Rattle.host.specs.Steps.{Small, InFront, Opens}
-use Rattle.host.proofs.Laws.{plan-fault, plan-fault-small, cursor-file-small, table-small}
+use Rattle.host.specs.Steps.{Small, Opens}
+use Rattle.host.proofs.Laws.{plan-fault-small, cursor-file-small, table-small}
 
 -- Too few bytes are lent for the cursor that comes back: each call on a table looks there first.
 pub no-room : {M : Type 0} {room needed : ℕ} {m : M} {a : Answer} → room < needed → a ≡ refusal noRoom 0
@@ -52,30 +51,21 @@ pub no-room : {M : Type 0} {room needed : ℕ} {m : M} {a : Answer} → room < n
 no-room h f = record { number = noRoom; at = 0; fault = (refl, refl, λ k. omega (arith, h, k)); answer = f; kept = refl }
 
 -- A plan file was read: a table, which lies in the first words; or a fault of the file.
-module _ (s w w′ : List ℕ) {r : PlanRead} where
-  pub read-front : {n : ℕ} → r ≡ plan.Words n → ReadsPlan s w r w′ → InFront s n w′
-  read-front e h =
-      let k = subst (λ (x : PlanRead). ReadsPlan s w x w′) e h in
-      let l = k .2 in
-      let t = k .0 in
-      record {
-        table = t;
-        file = k .1;
-        is = ap (λ (m : ℕ). take m w′) (l .count) ∙ ap (take (length t)) (l .after) ∙ overlaid-taken w t;
-        inside = omega (arith, l .room, ap length (l .after), overlaid-length w 0 t (omega (arith, l .room, l .count)));
-      }
+module _ (s w : List ℕ) {r : PlanRead} where
+  pub read-front : {n : ℕ} → r ≡ plan.Words n → TakesPlan s r w → InFront s n w
+  read-front e h = subst (λ (x : PlanRead). TakesPlan s x w) e h
 
-  pub read-fault : {k p : ℕ} → r ≡ plan.Refused k p → maxTableWords ≤ length w → ReadsPlan s w r w′ → PlanFault s k p
-  read-fault {k} {p} e h x = plan-fault s (length w) k p h (subst (λ (y : PlanRead). ReadsPlan s w y w′) e x .0)
+  pub read-fault : {k p : ℕ} → r ≡ plan.Refused k p → TakesPlan s r w → PlanFault s k p
+  read-fault e h = subst (λ (x : PlanRead). TakesPlan s x w) e h
 
-  pub unread-small : {k p : ℕ} → r ≡ plan.Refused k p → maxTableWords ≤ length w → ReadsPlan s w r w′ → Small k p
-  unread-small {k} {p} e h x = plan-fault-small s k p (read-fault e h x)
+  pub unread-small : {k p : ℕ} → r ≡ plan.Refused k p → TakesPlan s r w → Small k p
+  unread-small {k} {p} e h = plan-fault-small s k p (read-fault e h)
 
-  pub unread-refused : {M : Type 0} {m : M} {a : Answer} {k p : ℕ} → r ≡ plan.Refused k p → maxTableWords ≤ length w → ReadsPlan s w r w′ → a ≡ refusal k p
+  pub unread-refused : {M : Type 0} {m : M} {a : Answer} {k p : ℕ} → r ≡ plan.Refused k p → TakesPlan s r w → a ≡ refusal k p
       → RefusedFor M (PlanFault s) m a m
-  unread-refused {M} {m} {a} {k} {p} e h x f = record { number = k; at = p; fault = read-fault e h x; answer = f; kept = refl }
+  unread-refused {M} {m} {a} {k} {p} e h f = record { number = k; at = p; fault = read-fault e h; answer = f; kept = refl }
 
-  pub start-on : {out : List ℕ} {a : Answer} {out′ : List ℕ} {n : ℕ} → r ≡ plan.Words n → ReadsPlan s w r w′ → StartsTable (take n w′) out a out′
+  pub start-on : {out : List ℕ} {a : Answer} {out′ : List ℕ} {n : ℕ} → r ≡ plan.Words n → TakesPlan s r w → StartsTable (take n w) out a out′
       → HostStarts s out a out′
   start-on {out} {a} {out′} e h x =
       let f = read-front e h in inr (f .table, f .file, subst (λ (t : List ℕ). StartsTable t out a out′) (f .is) x)

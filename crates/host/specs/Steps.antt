@@ -1,13 +1,11 @@
 -- What the inner functions of this crate tell.
 use Prim.Native.Nat.{ℕ, _≤_}
-use mathlib.Core.Path.{_≡_}
 use mathlib.Core.List.{List}
 use mathlib.Core.Logic.{_⊎_}
-use lib.ListN.{length, take}
 use Rattle.table.specs.Layout.{Sized}
 use Rattle.shape.specs.OfTables.{maxRefusal}
 use Rattle.files.specs.Reading.{IsFile}
-use Rattle.files.specs.Plan.{PlanFault}
+use Rattle.files.specs.Plan.{PlanFault, InFront}
 use Rattle.files.specs.Cursors.{ReadsCursor}
 use Rattle.files.specs.Theorems.{maxFileBytes}
 use Rattle.files.specs.declared.CursorRead.the-variants as read
@@ -19,13 +17,6 @@ use Rattle.host.specs.Refusals.{CursorUnread}
 pub record Small (k p : ℕ) : Type 0 where
   pub number : k ≤ maxRefusal
   pub position : p ≤ maxFileBytes
-
--- The first n words are a table whose file is the plan.
-pub record InFront (plan : List ℕ) (n : ℕ) (words : List ℕ) : Type 0 where
-  pub table : List ℕ
-  pub file : IsFile Sized plan table
-  pub is : take n words ≡ table
-  pub inside : n ≤ length words
 
 -- A plan file and a saved cursor: both read, or the first refusal.
 abbrev pub Opens : List ℕ → List ℕ → Opened → List ℕ → Type 0

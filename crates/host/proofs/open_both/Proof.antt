@@ -5,8 +5,8 @@ use borrow.Author.Needs.{needs}
 use Rattle.host.proofs.open_both.Statement.{statement}
 use Rattle.host.proofs.open_both.Tie as tie
 
-read-plan-requires : tie.Need-read-plan-requires
-read-plan-requires c κs = search needs
+take-plan-requires : tie.Need-take-plan-requires
+take-plan-requires c κs = search needs
 
 enum-known-read : tie.Need-enum-known-read
 enum-known-read c = search needs
@@ -29,9 +29,8 @@ same-length c = search needs
 returns : tie.Need-returns
 returns c =
     let refused : tie.After-read = search in
-    let plan : tie.After-read-plan = search in
-    let entry : tie.Start = search in
-    inl (read-fault _ _ _ (refused .read .given .1) (entry .pre) (plan .read-plan .ensures))
+    let plan : tie.After-take-plan = search in
+    inl (read-fault _ _ (refused .read .given .1) (plan .take-plan .ensures))
 
 same-length-2 : tie.Need-same-length-2
 same-length-2 c = search needs
@@ -41,8 +40,8 @@ returns-2 c =
     let refused : tie.After-saved = search in
     let cursor : tie.After-read-cursor = search in
     let words : tie.After-read2 = search in
-    let plan : tie.After-read-plan = search in
-    let front = read-front _ _ _ (words .read2 .given .1) (plan .read-plan .ensures) in
+    let plan : tie.After-take-plan = search in
+    let front = read-front _ _ (words .read2 .given .1) (plan .take-plan .ensures) in
     inr (front .table, front .file, cursor-unread (refused .saved .given .1) (cursor .read-cursor .ensures))
 
 same-length-3 : tie.Need-same-length-3
@@ -53,14 +52,14 @@ returns-3 c =
     let saved : tie.After-saved2 = search in
     let cursor : tie.After-read-cursor = search in
     let words : tie.After-read2 = search in
-    let plan : tie.After-read-plan = search in
-    (read-front _ _ _ (words .read2 .given .1) (plan .read-plan .ensures), cursor-saved (saved .saved2 .given .1) (cursor .read-cursor .ensures))
+    let plan : tie.After-take-plan = search in
+    (read-front _ _ (words .read2 .given .1) (plan .take-plan .ensures), cursor-saved (saved .saved2 .given .1) (cursor .read-cursor .ensures))
 
 pub open-both-spec : {M : Type 1} → statement M
 open-both-spec =
     tie.close
     (tie.spec
-    read-plan-requires
+    take-plan-requires
     enum-known-read
     enum-known-read-2
     read-cursor-requires

@@ -1,5 +1,5 @@
--- `files::look::after_header` meets its contract: the header was taken into five words, so its limits and its length are told, and the
--- records after it are looked through. Assumes nothing.
+-- `files::look::after_header` meets its contract: the limits and the length of the header are told, and the records after it are looked through.
+-- Assumes nothing.
 use mathlib.Core.Path.{refl}
 use mathlib.Core.Logic.{inl, inr}
 use Rattle.files.proofs.Looking.{Headed, headed, header-above, header-first, table-cut, table-over, table-file}
@@ -11,17 +11,7 @@ use Rattle.files.proofs.look.after_header.Tie as tie
 abbrev header : tie.After-header-words → Headed
 header c =
     let start : tie.Start = search in
-    let filled : tie.After-fill = search in
-    headed (start .args .e) (c .header-words .result) (start .pre) refl (filled .fill .ensures) (c .header-words .ensures)
-
-slice-aggregate-fill : tie.Need-slice-aggregate-fill
-slice-aggregate-fill c = search needs
-
-fill-requires : tie.Need-fill-requires
-fill-requires c κs = search needs
-
-slice-aggregate-header-words : tie.Need-slice-aggregate-header-words
-slice-aggregate-header-words c = search needs
+    headed (start .args .e) (c .header-words .result) (start .pre .0) (start .pre .1) (c .header-words .ensures)
 
 header-words-requires : tie.Need-header-words-requires
 header-words-requires c κs = search needs
@@ -72,9 +62,6 @@ pub after-header-spec : {M : Type 1} → statement M
 after-header-spec =
     tie.close
     (tie.spec
-    slice-aggregate-fill
-    fill-requires
-    slice-aggregate-header-words
     header-words-requires
     enum-told
     enum-known-told
