@@ -1,24 +1,36 @@
-//! The proved check beside the plain one, both in this process, on the same plans.
+//! The proved check beside two quick ones, all in this process and on the same plans; and ways to find its divisors.
 //! Usage: bench ROUNDS PLAN...
 
 // Of the checker, the benchmark uses the slice alone.
 #![allow(dead_code)]
 
+mod chance;
 mod check;
 mod clock;
+mod divisors;
 mod format;
 mod paper;
+mod quick;
 mod reasons;
 mod rules;
 mod shape;
 
-use check::{host_slice, Checker, Plain};
-use clock::{median, print_both, time};
-use format::{cursor_bytes, Cursor};
-use paper::{CURSOR_BYTES, NOTHING_VIOLATED, PAUSED};
+use check::{begin, host_slice, packed, Checker, Plain};
+use clock::{median, print_times, time};
+use divisors::{Pair, IN_USE, METHODS};
+use format::{cursor_bytes, Cursor, Plan};
+use paper::{CURSOR_BYTES, NOTHING_VIOLATED, REFUSED};
+use quick::{asked, Chained, Nested};
+
+/// What a call for C gives.
+#[repr(C)]
+struct Answer {
+    result: u32,
+    number: u32,
+}
 
 extern "C" {
-    fn conepalhui_slice(
+    fn conepalhui_slice_full(
         plan: *const u8,
         plan_len: usize,
         cursor: *const u8,
@@ -26,84 +38,161 @@ extern "C" {
         budget: u32,
         out: *mut u8,
         out_len: usize,
-    ) -> u32;
+    ) -> Answer;
 }
 
-fn proved(plan: &[u8], cursor: &[u8], budget: u32, out: &mut [u8]) -> u32 {
+fn proved(plan: &[u8], cursor: &[u8], budget: u32, out: &mut [u8]) -> u64 {
     // Each pointer comes from a slice together with its length.
-    unsafe {
-        conepalhui_slice(plan.as_ptr(), plan.len(), cursor.as_ptr(), cursor.len(), budget, out.as_mut_ptr(), out.len())
-    }
+    let answer = unsafe {
+        let (lent, lent_len) = (out.as_mut_ptr(), out.len());
+        conepalhui_slice_full(plan.as_ptr(), plan.len(), cursor.as_ptr(), cursor.len(), budget, lent, lent_len)
+    };
+    packed(answer.result, answer.number.into())
 }
 
-fn plain(plan: &[u8], cursor: &[u8], budget: u32, out: &mut [u8]) -> u32 {
-    host_slice(&Plain, plan, cursor, budget, out) as u32
+fn plain(plan: &[u8], cursor: &[u8], budget: u32, out: &mut [u8]) -> u64 {
+    host_slice(&Nested, plan, cursor, budget, out)
 }
 
-type Slice = fn(&[u8], &[u8], u32, &mut [u8]) -> u32;
-
-/// Gives the ns of a call, as the mean of several.
-fn time_of(slice: Slice, plan: &[u8], cursor: &[u8], budget: u32, expected: u32, calls: u32) -> f64 {
-    let mut out = [0; CURSOR_BYTES];
-    time(calls, || {
-        let result = slice(plan, cursor, budget, &mut out);
-        assert_eq!(result, expected, "the plans of the benchmark give other results");
-    })
+fn same(plan: &[u8], cursor: &[u8], budget: u32, out: &mut [u8]) -> u64 {
+    host_slice(&Chained, plan, cursor, budget, out)
 }
 
-/// One kind of call on a plan, with the times of the proved one and of the plain one.
+fn place_by_place(plan: &[u8], cursor: &[u8], budget: u32, out: &mut [u8]) -> u64 {
+    host_slice(&Plain, plan, cursor, budget, out)
+}
+
+/// A slice of a plan from a cursor on. It gives the result and, in the high bits, the steps.
+type Slice = fn(&[u8], &[u8], u32, &mut [u8]) -> u64;
+
+const SIDES: [Slice; 3] = [proved, plain, same];
+
+/// One kind of call on a plan, its answer, and the times of each side.
 struct Timed {
     what: &'static str,
     cursor: Vec<u8>,
     budget: u32,
-    expected: u32,
+    answer: u64,
     calls: u32,
-    times: [Vec<f64>; 2],
+    times: [Vec<f64>; SIDES.len()],
 }
 
 impl Timed {
-    fn new(what: &'static str, from: Cursor, budget: u32, expected: u32, calls: u32) -> Timed {
-        Timed { what, cursor: cursor_bytes(from), budget, expected, calls, times: [Vec::new(), Vec::new()] }
+    /// All sides have to give what the checker of the comparison gives: result, steps and the cursor's bytes.
+    fn new(what: &'static str, plan: &[u8], from: Cursor, budget: u32, calls: u32) -> Timed {
+        let cursor = cursor_bytes(from);
+        let given = |slice: Slice| {
+            let mut out = [0; CURSOR_BYTES];
+            (slice(plan, &cursor, budget, &mut out), out)
+        };
+        let expected = given(place_by_place);
+        for slice in SIDES {
+            assert_eq!(given(slice), expected, "the sides differ: {}", what);
+        }
+        Timed { what, cursor, budget, answer: expected.0, calls, times: Default::default() }
     }
 
-    fn medians(&self) -> [f64; 2] {
-        [median(self.times[0].clone()), median(self.times[1].clone())]
+    fn result(&self) -> u32 {
+        self.answer as u32
+    }
+
+    fn round(&mut self, plan: &[u8]) {
+        let mut out = [0; CURSOR_BYTES];
+        for (slice, times) in SIDES.iter().zip(&mut self.times) {
+            times.push(time(self.calls, || {
+                assert_eq!(slice(plan, &self.cursor, self.budget, &mut out), self.answer, "an answer changed");
+            }));
+        }
+    }
+
+    fn medians(&self) -> [f64; SIDES.len()] {
+        self.times.clone().map(median)
+    }
+
+    fn print(&self) {
+        let [proved, plain, same] = self.medians();
+        print_times(self.what, proved, &[("plain", plain), ("same", same)]);
     }
 }
 
-/// Times a plan, all kinds of calls in each round and the two sides in turn, and prints what was found.
-fn bench(name: &str, bytes: &[u8], rounds: u32) {
-    let plan = Plain.read_plan(bytes).expect("the plans of the benchmark are well-formed");
-    let legs = plan.legs.len() as u32;
-    let places = Plain.places(u64::from(legs)) as f64;
-    let at = |leg| Cursor { revision: plan.revision, leg, place: 0 };
-    let mut kinds = [
-        Timed::new("whole check", at(0), u32::MAX, NOTHING_VIOLATED, 1),
-        Timed::new("resumed, budget 0", at(legs / 2), 0, PAUSED, 10),
-        Timed::new("resumed, budget 300", at(legs / 2), 300, PAUSED, 10),
-    ];
-    for _ in 0..rounds {
-        for kind in &mut kinds {
-            for (slice, times) in [proved as Slice, plain].iter().zip(&mut kind.times) {
-                times.push(time_of(*slice, bytes, &kind.cursor, kind.budget, kind.expected, kind.calls));
-            }
+/// The pairs of periods whose divisors a whole check takes, and the times that each method takes for all of them.
+struct Divisors {
+    pairs: Vec<Pair>,
+    sum: u64,
+    times: [Vec<f64>; METHODS.len()],
+}
+
+impl Divisors {
+    fn new(pairs: Vec<Pair>) -> Divisors {
+        divisors::compare(pairs.iter().copied());
+        let sum = (METHODS[0].sum)(&pairs);
+        Divisors { pairs, sum, times: Default::default() }
+    }
+
+    fn round(&mut self) {
+        for (method, times) in METHODS.iter().zip(&mut self.times) {
+            times.push(time(1, || assert_eq!((method.sum)(&self.pairs), self.sum, "{} is wrong", method.name)));
         }
     }
-    println!("{}: {} links, {} legs, {} places, {} bytes", name, plan.links.len(), legs, places, bytes.len());
-    for kind in &kinds {
-        let [ours, theirs] = kind.medians();
-        print_both(kind.what, ours, theirs);
+
+    /// Prints the mean time of each method and, for the one in use, its share of the proved whole check.
+    fn print(&self, whole: f64) {
+        for (method, times) in METHODS.iter().zip(&self.times) {
+            let all = median(times.clone());
+            let share = format!("  in use: {:.3} of the whole check", all / whole);
+            let said = if method.name == IN_USE { &share } else { "" };
+            println!("  {:<32} {:>9.2} ns{}", format!("by {}", method.name), all / self.pairs.len() as f64, said);
+        }
     }
+}
+
+/// How many pairs of legs share a link.
+fn pairs_on_links(plan: &Plan) -> u64 {
+    let (mut legs, mut pairs) = (vec![0; plan.links.len()], 0);
+    for leg in &plan.legs {
+        pairs += legs[leg.link as usize];
+        legs[leg.link as usize] += 1;
+    }
+    pairs
+}
+
+/// Times an accepted plan, all kinds of calls in each round and the sides in turn.
+fn bench(name: &str, bytes: &[u8], rounds: u32) {
+    let plan = Plain.read_plan(bytes).expect("the numbers of the plans can be read");
+    let whole = Timed::new("whole check", bytes, begin(&plan), u32::MAX, 1);
+    if whole.result() != NOTHING_VIOLATED {
+        println!("{}: left out, since it is {}", name, if whole.result() < REFUSED { "violated" } else { "refused" });
+        return;
+    }
+    let half = Cursor { leg: plan.legs.len() as u32 / 2, ..begin(&plan) };
+    let resumed = |what, budget| Timed::new(what, bytes, half, budget, 10);
+    let mut kinds = [whole, resumed("resumed, budget 0", 0), resumed("resumed, budget 300", 300)];
+    let mut divisors = Divisors::new(asked(&plan, begin(&plan)));
+    for _ in 0..rounds {
+        kinds.iter_mut().for_each(|kind| kind.round(bytes));
+        divisors.round();
+    }
+    let (links, legs) = (plan.links.len(), plan.legs.len());
+    println!("{}: {} links, {} legs, {} places, {} bytes", name, links, legs, Plain.places(legs as u64), bytes.len());
+    print_found(&kinds, &divisors, pairs_on_links(&plan));
+}
+
+fn print_found(kinds: &[Timed; 3], divisors: &Divisors, pairs: u64) {
+    kinds.iter().for_each(Timed::print);
     let (whole, fixed) = (kinds[0].medians(), kinds[1].medians());
-    let a_place = |side: usize| (whole[side] - fixed[side]) / places;
-    println!("  {:<32} proved {:>9.2} ns  plain {:>9.2} ns", "one place", a_place(0), a_place(1));
-    let in_places = |side: usize| fixed[side] / a_place(side);
-    println!("  {:<32} proved {:>9.0}     plain {:>9.0}", "a call's fixed cost, in places", in_places(0), in_places(1));
+    let [proved, plain, same] = [0, 1, 2].map(|side| (whole[side] - fixed[side]) / pairs as f64);
+    let what = "a pair that shares a link";
+    println!("  {:<32} proved {:>9.2} ns  plain {:>9.2} ns  same {:>9.2} ns", what, proved, plain, same);
+    println!("  {:<32} {:>9} for {} pairs that share a link", "divisors", divisors.pairs.len(), pairs);
+    if !divisors.pairs.is_empty() {
+        divisors.print(whole[0]);
+    }
 }
 
 fn main() {
     let arguments: Vec<String> = std::env::args().skip(1).collect();
     let rounds = arguments.first().and_then(|text| text.parse().ok()).expect("usage: bench ROUNDS PLAN...");
+    divisors::test();
     for file in &arguments[1..] {
         let bytes = std::fs::read(file).unwrap_or_else(|fault| panic!("{}: {}", file, fault));
         bench(file, &bytes, rounds);

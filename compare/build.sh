@@ -1,4 +1,4 @@
-# Builds the drivers of the comparisons, and the benchmark, in .built/compare. The command conepalhui reads this file and gives it
+# Builds the drivers of the comparisons, and the benchmarks, in .built/compare. The command conepalhui reads this file and gives it
 # its own functions. They need the archives of the calls for C, which are for x86-64: so is what is linked with them. The judge,
 # which the comparison asks, is for this processor; compare/judge builds it. So is the comparison of networks.
 
@@ -74,7 +74,7 @@ make_benchmark() { # NAME LIBRARY SOURCE
         -C linker="$c_compiler" -L native=.built -l "static=$2" "$3" -o
 }
 
-# Both sides of the benchmark are for x86-64. On Arm that takes Debian's packages for two processors and its emulator.
+# All sides of the benchmarks are for x86-64. On Arm that takes Debian's packages for two processors and its emulator.
 build_benchmark() {
     local rust c_library=/usr/lib/x86_64-linux-gnu/libc.so
     build_library

@@ -148,18 +148,24 @@ pub fn rule_at(place: u32) -> (usize, usize) {
 #[inline]
 pub fn holds<C: Checker>(c: &C, plan: &Plan, leg: usize, place: u32) -> bool {
     let (rule, other) = rule_at(place);
+    let frame = |leg| sent(c, plan, leg);
     if rule == OVERLAP {
-        return plan.legs[leg].link != plan.legs[other].link || c.apart(&sent(c, plan, leg), &sent(c, plan, other));
+        return plan.legs[leg].link != plan.legs[other].link || c.apart(&frame(leg), &frame(other));
     }
+    own_holds(c, plan, leg, rule, frame)
+}
+
+/// Whether a rule of a leg alone holds, by the frames of its stream.
+#[inline]
+pub fn own_holds<C: Checker>(c: &C, plan: &Plan, leg: usize, rule: usize, frame: impl Fn(usize) -> Sent) -> bool {
     let stream = &plan.streams[plan.legs[leg].stream as usize];
     let first = stream.first_leg as usize;
     let precision = u64::from(plan.precision);
     match rule {
-        WINDOW => c.window_holds(&sent(c, plan, leg)),
-        HOP => leg == first || c.hop_holds(&sent(c, plan, leg), &sent(c, plan, leg - 1), precision),
+        WINDOW => c.window_holds(&frame(leg)),
+        HOP => leg == first || c.hop_holds(&frame(leg), &frame(leg - 1), precision),
         DEADLINE => {
-            leg + 1 != first + stream.leg_count as usize
-                || c.deadline_holds(&sent(c, plan, leg), &sent(c, plan, first), precision)
+            leg + 1 != first + stream.leg_count as usize || c.deadline_holds(&frame(leg), &frame(first), precision)
         }
         _ => unreachable!("there is no other rule"),
     }

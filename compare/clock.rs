@@ -37,8 +37,11 @@ pub fn median(mut times: Vec<f64>) -> f64 {
     times[times.len() / 2]
 }
 
-/// Prints the times of both sides, in ns, and their ratio.
-pub fn print_both(what: &str, proved: f64, plain: f64) {
-    let (ours, theirs) = (proved / 1e3, plain / 1e3);
-    println!("  {:<32} proved {:>9.1} us  plain {:>9.1} us  ratio {:.3}", what, ours, theirs, ours / theirs);
+/// Prints the time of the proved side and those of others, all given in ns, and its ratio to each.
+pub fn print_times(what: &str, proved: f64, others: &[(&str, f64)]) {
+    print!("  {:<32} proved {:>9.1} us", what, proved / 1e3);
+    for (name, time) in others {
+        print!("  {} {:>9.1} us  ratio {:.3}", name, time / 1e3, proved / time);
+    }
+    println!();
 }

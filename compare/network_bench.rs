@@ -10,7 +10,7 @@ mod network;
 mod network_quick;
 
 use chance::Chance;
-use clock::{median, print_both, time};
+use clock::{median, print_times, time};
 use network::{answer, is_right, Call, Kind, Network, ALL_TIMES, CHAIN, LIMITS, RIGHT, TIMES};
 use network_quick::quick;
 use std::sync::Arc;
@@ -101,7 +101,7 @@ fn bench(what: &str, words: &[i64], expected: u32, calls: u32, rounds: u32) {
         }
     }
     let [ours, theirs] = times.map(median);
-    print_both(what, ours, theirs);
+    print_times(what, ours, &[("plain", theirs)]);
 }
 
 fn main() {

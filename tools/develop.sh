@@ -199,10 +199,20 @@ do_compare() {
 
 about_bench() {
     cat <<'END'
-Times the check beside a plain checker in Rust, in one process and in turns, on the plans full-line, plant and largest of
-the folder plans: a whole check, and resumed calls with the budgets 0 and 300. Then it times the solver of networks beside
-a plain one, on three networks of the largest size. --rounds N says how many rounds are made (21); medians are given. A
-ratio above 1 says that the proved code took longer. On Arm both sides run under Debian's emulator.
+Times the check beside two checkers in Rust, in one process and in turns, on the accepted plans of the folder plans: a
+whole check, and resumed calls with the budgets 0 and 300. All three have to give the same answers.
+
+  proved   the call for C
+  plain    what one writes in an hour: each frame is worked out once, and two loops go over all pairs of legs
+  same     the algorithm of the proved check: the legs of each link are chained, and a leg remembers its last divisor
+
+A ratio above 1 says that the proved code took longer than the side before it. The time of a pair that shares a link is
+what a whole check takes beyond a call with budget 0, divided by the number of these pairs. Then come the greatest common
+divisors of a whole check: how many it takes, the time of one by each method of compare/divisors.rs, and for the method
+in use which part of the proved check they take.
+
+At last it times the solver of networks beside a plain one, on three networks of the largest size. --rounds N says how
+many rounds are made (21); medians are given. On Arm all sides run under Debian's emulator.
 END
 }
 
@@ -212,6 +222,6 @@ do_bench() {
     ((rounds > 0)) || stop "--rounds takes a number from 1 up"
     . compare/build.sh
     build_benchmark
-    "${emulator[@]}" .built/compare/bench "$rounds" plans/full-line.plan plans/plant.plan plans/largest.plan &&
+    "${emulator[@]}" .built/compare/bench "$rounds" plans/*.plan &&
         "${emulator[@]}" .built/compare/network-bench "$rounds"
 }

@@ -23,7 +23,7 @@ commands+=(
 is_installed || commands+=(
     'test||prove every crate and run every test'
     'compare|[OPTION N]|compare the calls for C with a plain checker'
-    'bench|[OPTION N]|time the check beside a plain one'
+    'bench|[OPTION N]|time the check beside plain ones'
 )
 
 is_command() { # NAME
