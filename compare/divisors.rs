@@ -20,16 +20,12 @@ macro_rules! methods {
             sum: |pairs| pairs.iter().fold(0, |sum, &(a, b)| sum.wrapping_add($name(a, b))),
         }),*];
         pub const IN_USE: &str = stringify!($in_use);
-
-        pub fn in_use(a: u64, b: u64) -> u64 {
-            $in_use(a, b)
-        }
     };
 }
 
 methods!(
     euclid, euclid_32, least_remainder, subtract_first, even_remainder, binary, one_division_then_binary;
-    the proved check takes euclid
+    the proved check takes binary
 );
 
 /// Both numbers in 32 bits, where they fit.

@@ -1,7 +1,7 @@
 //! Two quick checkers for the benchmark. Both read a plan and judge its shape as the plain one does.
 
 use crate::check::{own_holds, places_of, rule_at, Checker, Plain, Sliced};
-use crate::divisors::{euclid, in_use, Pair};
+use crate::divisors::{euclid, Pair};
 use crate::format::{Cursor, Plan};
 use crate::paper::{NOTHING_VIOLATED, OVERLAPS, PAUSED, RULES};
 use crate::rules::{sent, Sent};
@@ -10,7 +10,8 @@ use std::ops::Range;
 /// What a good engineer writes in an hour: each frame is worked out once, and two loops go over all pairs of legs.
 pub struct Nested;
 
-/// The algorithm of the proved check: the legs of each link are chained, and each leg remembers its last divisor.
+/// The algorithm of the proved check, with Euclid's divisor: the legs of each link are chained, and each leg remembers
+/// its last divisor.
 pub struct Chained;
 
 impl Checker for Nested {
@@ -27,7 +28,7 @@ impl Checker for Nested {
 
 impl Checker for Chained {
     fn slice(&self, plan: &Plan, from: Cursor, budget: u32) -> Sliced {
-        chained(plan, from, budget, in_use)
+        chained(plan, from, budget, euclid)
     }
 }
 
@@ -47,7 +48,7 @@ pub fn asked(plan: &Plan, start: Cursor) -> Vec<Pair> {
     let mut pairs = Vec::new();
     chained(plan, start, u32::MAX, |a, b| {
         pairs.push((a, b));
-        in_use(a, b)
+        euclid(a, b)
     });
     pairs
 }

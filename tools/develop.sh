@@ -206,10 +206,10 @@ whole check, and resumed calls with the budgets 0 and 300. All three have to giv
   plain    what one writes in an hour: each frame is worked out once, and two loops go over all pairs of legs
   same     the algorithm of the proved check: the legs of each link are chained, and a leg remembers its last divisor
 
-A ratio above 1 says that the proved code took longer than the side before it. The time of a pair that shares a link is
-what a whole check takes beyond a call with budget 0, divided by the number of these pairs. Then come the greatest common
-divisors of a whole check: how many it takes, the time of one by each method of compare/divisors.rs, and for the method
-in use which part of the proved check they take.
+Both take Euclid's divisor. A ratio above 1 says that the proved code took longer than the side before it. The time of a
+pair that shares a link is what a whole check takes beyond a call with budget 0, divided by the number of these pairs.
+Then come the greatest common divisors of a whole check: how many it takes, the time of one by each method of
+compare/divisors.rs, and for the method in use which part of the proved check they take.
 
 At last it times the solver of networks beside a plain one, on three networks of the largest size. --rounds N says how
 many rounds are made (21); medians are given. On Arm all sides run under Debian's emulator.
