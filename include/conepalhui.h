@@ -75,7 +75,7 @@
 #include <stdint.h>
 
 /* The version of this header and of the archive that it belongs to. A NUMBER is 10000 MAJOR + 100 MINOR + PATCH. */
-#define CONEPALHUI_VERSION "2.1.0"
+#define CONEPALHUI_VERSION "2.1.1"
 #define CONEPALHUI_VERSION_MAJOR 2
 #define CONEPALHUI_VERSION_MINOR 1
 #define CONEPALHUI_VERSION_PATCH 0

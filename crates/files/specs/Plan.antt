@@ -71,8 +71,8 @@ pub record InFront (s : List ℕ) (n : ℕ) (w : List ℕ) : Type 0 where
   pub is : take n w ≡ table
   pub inside : n ≤ length w
 
--- Reading the plan file s into words of the reader's own, with room for any table, which makes them w: the table lies in the first words, and the answer is how
--- many; or what is wrong with the file. No other word is promised, after a refusal none.
+-- Reading the plan file s in one pass into words that have room for any table, which makes them w: the table lies in the first words, and the answer is how
+-- many; or what is wrong with the file. Nothing is said of the words after the table, and after a refusal of none.
 abbrev pub TakesPlan : List ℕ → PlanRead → List ℕ → Type 0
 TakesPlan s (plan.Words n) w = InFront s n w
 TakesPlan s (plan.Refused k p) w = PlanFault s k p

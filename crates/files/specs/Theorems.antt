@@ -30,12 +30,12 @@ abbrev pub ReadPlanOneAnswer : Type 0
 ReadPlanOneAnswer =
     (s b b′ b″ : List ℕ) (r r′ : PlanRead) → ReadsPlan s b r b′ → ReadsPlan s b r′ b″ → (r ≡ r′) × (b′ ≡ b″)
 
--- So does a plan file that is read into words of the reader's own: one answer, and one table in front.
+-- So does a plan file that is read in one pass: one answer, and one table in front.
 abbrev pub TakePlanOneAnswer : Type 0
 TakePlanOneAnswer =
     (s w w′ : List ℕ) (r r′ : PlanRead) → TakesPlan s r w → TakesPlan s r′ w′ → (r ≡ r′) × ((n : ℕ) → r ≡ plan.Words n → take n w ≡ take n w′)
 
--- Both readers tell the same: where lent words have room for any table, reading into them is reading into words of one's own.
+-- Where lent words have room for any table, what is read into them is also what one pass promises. So with `TakePlanOneAnswer` both readers tell the same.
 abbrev pub ReadingTakes : Type 0
 ReadingTakes = (s b b′ : List ℕ) (r : PlanRead) → maxTableWords ≤ length b → ReadsPlan s b r b′ → TakesPlan s r b′
 

@@ -5,7 +5,7 @@ use basics::Checked;
 use numbers::Written;
 
 mod look;
-pub mod own;
+pub mod one_pass;
 
 pub const LEFT_OVER: u32 = 14;
 

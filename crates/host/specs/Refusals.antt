@@ -35,7 +35,7 @@ After M Fault m Next a m′ = RefusedFor M Fault m a m′ ⊎ Next a m′
 abbrev pub With : (M Value : Type 0) → (Value → Type 0) → (Value → Answer → M → Type 0) → Answer → M → Type 0
 With M Value Clear Then a m′ = (v : Value) × Clear v × Then v a m′
 
--- The plan reader refuses the file, or it is the file of a table. The reader's own 15 cannot come: the host has room for every table.
+-- The plan reader refuses the file, or it is the file of a table. It never refuses 15: the host has room for every table.
 abbrev pub AfterPlan : (M : Type 0) → List ℕ → M → (List ℕ → Answer → M → Type 0) → Answer → M → Type 0
 AfterPlan M plan m Then = After M (PlanFault plan) m (With M (List ℕ) (IsFile Sized plan) Then)
 

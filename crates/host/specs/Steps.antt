@@ -18,7 +18,7 @@ pub record Small (k p : ℕ) : Type 0 where
   pub number : k ≤ maxRefusal
   pub position : p ≤ maxFileBytes
 
--- A plan file and a saved cursor: both read, or the first refusal.
+-- A plan file, read into the call's own words, which are words after it, and a saved cursor: both read, or the first refusal.
 abbrev pub Opens : List ℕ → List ℕ → Opened → List ℕ → Type 0
 Opens plan cursor (opened.Both n c) words = InFront plan n words × ReadsCursor cursor (read.Saved c)
 Opens plan cursor (opened.Refused k p) words = PlanFault plan k p ⊎ ((t : List ℕ) × IsFile Sized plan t × CursorUnread cursor k p)

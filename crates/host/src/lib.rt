@@ -14,9 +14,9 @@ use table::Move;
 mod answers;
 mod tables;
 
-// What a call's own words hold until the plan is read into them. No four equal bytes, so that the compiler sets them in a loop of its own: the C library's memset is
-// dear under an emulator, more than reading a small plan.
-const UNREAD: u32 = 1;
+// What a call's own words hold at first: any word, since none is read before it is taken from the plan. Not 0, for which the compiler calls memset
+// (docs/DECISIONS.md, 51).
+const ANY_WORD: u32 = 1;
 
 // What C gets, laid out as the struct in include/conepalhui.h: a result (0 is nothing violated after a slice, and granted after a start or a move), and a number
 // beside it. Refused, that is the position; after a slice the steps, after a start the number of places, after a move the size of the new plan file.
@@ -32,12 +32,12 @@ pub enum Opened {
     Refused(u32, usize),
 }
 
-// Reads a plan file into lent words that have room for any table, and a saved cursor.
+// Reads a plan file into the call's own words, which have room for any table, and a saved cursor.
 fn open_both(plan: &[u8], cursor: &[u8], words: &mut [u32]) -> Opened
     requires { ⌜ maxTableWords ≤ length (now words) ⌝ }
     ensures { λ r. ⌜ Opens (now (plan .entry)) (now (cursor .entry)) r (now (words .exit)) ⌝ }
 {
-    let read = files::own::take_plan(plan, words);
+    let read = files::one_pass::take_plan(plan, words);
     match read {
         PlanRead::Refused(number, at) => Opened::Refused(number, at),
         PlanRead::Words(n) => {
@@ -54,7 +54,7 @@ fn start_plan(plan: &[u8], out: &mut [u8], words: &mut [u32]) -> Answer
     requires { ⌜ maxTableWords ≤ length (now words) ⌝ }
     ensures { λ r. ⌜ HostStarts (now (plan .entry)) (now (out .entry)) r (now (out .exit)) ⌝ }
 {
-    let read = files::own::take_plan(plan, words);
+    let read = files::one_pass::take_plan(plan, words);
     match read {
         PlanRead::Refused(number, at) => answers::refused(number, at),
         PlanRead::Words(n) => tables::start_table(&words[..n], out),
@@ -96,7 +96,7 @@ fn move_plan(
 pub extern "C" fn conepalhui_start_2(plan: &[u8], out: &mut [u8]) -> Answer
     ensures { λ r. ⌜ HostStarts (now (plan .entry)) (now (out .entry)) r (now (out .exit)) ⌝ }
 {
-    let mut words = [UNREAD; table::MAX_TABLE_WORDS];
+    let mut words = [ANY_WORD; table::MAX_TABLE_WORDS];
     start_plan(plan, out, &mut words)
 }
 
@@ -105,7 +105,7 @@ pub extern "C" fn conepalhui_start_2(plan: &[u8], out: &mut [u8]) -> Answer
 pub extern "C" fn conepalhui_slice(plan: &[u8], cursor: &[u8], budget: u32, out: &mut [u8]) -> u32
     ensures { λ r. ⌜ HostSliceResult (now (plan .entry)) (now (cursor .entry)) budget (now (out .entry)) r (now (out .exit)) ⌝ }
 {
-    let mut words = [UNREAD; table::MAX_TABLE_WORDS];
+    let mut words = [ANY_WORD; table::MAX_TABLE_WORDS];
     let told = slice_plan(plan, cursor, budget, out, &mut words);
     told.result
 }
@@ -120,7 +120,7 @@ pub extern "C" fn conepalhui_slice_full(
 ) -> Answer
     ensures { λ r. ⌜ HostSlices (now (plan .entry)) (now (cursor .entry)) budget (now (out .entry)) r (now (out .exit)) ⌝ }
 {
-    let mut words = [UNREAD; table::MAX_TABLE_WORDS];
+    let mut words = [ANY_WORD; table::MAX_TABLE_WORDS];
     slice_plan(plan, cursor, budget, out, &mut words)
 }
 
@@ -136,7 +136,7 @@ pub extern "C" fn conepalhui_move(
 ) -> Answer
     ensures { λ r. ⌜ HostMoves (now (plan .entry)) (now (cursor .entry)) (moveTo leg offset) (lent (now (file .entry)) (now (out .entry))) r (lent (now (file .exit)) (now (out .exit))) ⌝ }
 {
-    let mut words = [UNREAD; table::MAX_TABLE_WORDS];
+    let mut words = [ANY_WORD; table::MAX_TABLE_WORDS];
     let mv = Move { leg, offset };
     move_plan(plan, cursor, mv, file, out, &mut words)
 }

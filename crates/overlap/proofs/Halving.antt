@@ -148,15 +148,15 @@ module _ {a b x y : ℕ} (n : Narrowed a b x y) where
   narrowed-end q = n .same x (subst (λ (z : ℕ). IsGcd x z x) q (gcd-same x))
 
   module _ {p : Parted} (parts : PartedFrom x y p) where
-    pub rest-positive : (x ≡ y → ⊥) → 0 < p .rest
-    rest-positive far =
+    pub difference-positive : (x ≡ y → ⊥) → 0 < p .difference
+    difference-positive far =
         ⊎-elim
-        (λ (z : p .rest < 1). absurd (far (⊎-elim (λ (f : LeadsTo p x y). omega (arith, f .1)) (λ (f : LeadsTo p y x). omega (arith, f .1)) parts)))
-        (λ (z : 1 ≤ p .rest). z)
-        (lt-or-ge (p .rest) 1)
+        (λ (z : p .difference < 1). absurd (far (⊎-elim (λ (f : LeadsTo x y p). omega (arith, f .1)) (λ (f : LeadsTo y x p). omega (arith, f .1)) parts)))
+        (λ (z : 1 ≤ p .difference). z)
+        (lt-or-ge (p .difference) 1)
 
-    module _ {h : Halved} (halved : HalvedFrom (p .rest) h) where
-      no-greater : h .odd ≤ p .rest
+    module _ {h : Halved} (halved : HalvedFrom (p .difference) h) where
+      no-greater : h .odd ≤ p .difference
       no-greater =
           let one : h .odd * 1 ≤ h .odd * 2 ^ h .times = mul-le-mul-left (h .odd) (pow-pos (h .times)) in
           omega (arith, one, mul-one (h .odd), halved .whole)
@@ -167,23 +167,23 @@ module _ {a b x y : ℕ} (n : Narrowed a b x y) where
           let ox = n .odd in
           let oy = n .other in
           ⊎-elim
-          (λ (f : LeadsTo p x y). omega (arith, f .0, f .1))
-          (λ (f : LeadsTo p y x). omega (arith, f .0, f .1))
+          (λ (f : LeadsTo x y p). omega (arith, f .0, f .1))
+          (λ (f : LeadsTo y x p). omega (arith, f .0, f .1))
           parts
 
-      -- From the lesser, which is odd, and the halved rest to the two numbers.
-      widened : (m w g : ℕ) → Odd m → LeadsTo p m w → IsGcd (p .lesser) (h .odd) g → IsGcd m w g
-      widened m w g o (q, s) e = added m (p .rest) w g s (with-twos (h .times) m (h .odd) (p .rest) g o (halved .whole) (subst (λ (z : ℕ). IsGcd z (h .odd) g) q e))
+      -- From the lesser, which is odd, and the halved difference to the two numbers.
+      widened : (m w g : ℕ) → Odd m → LeadsTo m w p → IsGcd (p .lesser) (h .odd) g → IsGcd m w g
+      widened m w g o (q, s) e = added m (p .difference) w g s (with-twos (h .times) m (h .odd) (p .difference) g o (halved .whole) (subst (λ (z : ℕ). IsGcd z (h .odd) g) q e))
 
       pub narrowed-next : Narrowed a b (p .lesser) (h .odd)
       narrowed-next = record {
-        odd = ⊎-elim (λ (f : LeadsTo p x y). rw (f .0) (n .odd)) (λ (f : LeadsTo p y x). rw (f .0) (n .other)) parts;
+        odd = ⊎-elim (λ (f : LeadsTo x y p). rw (f .0) (n .odd)) (λ (f : LeadsTo y x p). rw (f .0) (n .other)) parts;
         other = halved .odd;
         same = λ g e.
             n .same g
             (⊎-elim
-            (λ (f : LeadsTo p x y). widened x y g (n .odd) f e)
-            (λ (f : LeadsTo p y x). swap-gcd y x g (widened y x g (n .other) f e))
+            (λ (f : LeadsTo x y p). widened x y g (n .odd) f e)
+            (λ (f : LeadsTo y x p). swap-gcd y x g (widened y x g (n .other) f e))
             parts);
       }
 

@@ -8,16 +8,16 @@ use Rattle.overlap.specs.declared.divisor.Parted.{Parted}
 abbrev pub Odd : ℕ → Type 0
 Odd x = x % 2 ≡ 1
 
--- x is the odd number doubled so many times. A word of 64 bits is doubled less than 64 times.
+-- x is the odd number doubled so many times: less than 64, since x has 64 bits.
 pub record HalvedFrom (x : ℕ) (h : Halved) : Type 0 where
   pub odd : Odd (h .odd)
   pub whole : h .odd * 2 ^ h .times ≡ x
   pub few : h .times < 64
 
--- m is the lesser, and the rest leads from it to w.
-abbrev pub LeadsTo : Parted → ℕ → ℕ → Type 0
-LeadsTo p m w = (p .lesser ≡ m) × (m + p .rest ≡ w)
+-- m is the lesser, and the difference leads from it to w.
+abbrev pub LeadsTo : ℕ → ℕ → Parted → Type 0
+LeadsTo m w p = (p .lesser ≡ m) × (m + p .difference ≡ w)
 
--- The lesser of x and y, and what it takes to make the other one.
+-- The lesser of x and y, and their difference.
 abbrev pub PartedFrom : ℕ → ℕ → Parted → Type 0
-PartedFrom x y p = LeadsTo p x y ⊎ LeadsTo p y x
+PartedFrom x y p = LeadsTo x y p ⊎ LeadsTo y x p

@@ -1,4 +1,4 @@
-// The greatest common divisor of odd numbers, by subtraction and halving: no division.
+// The greatest common divisor of odd numbers, by subtraction and halving.
 ghost use Prim.Native.Nat.{_<_};
 ghost use Rattle.overlap.specs.Divisor.{IsGcd};
 ghost use Rattle.overlap.specs.Halving.{Odd, HalvedFrom, PartedFrom};
@@ -9,10 +9,10 @@ pub struct Halved {
     pub times: u32,
 }
 
-// The lesser of two numbers, and how much greater the other one is.
+// The lesser of two numbers, and their difference.
 pub struct Parted {
     pub lesser: u64,
-    pub rest: u64,
+    pub difference: u64,
 }
 
 pub(crate) fn halve(x: u64) -> Halved
@@ -26,23 +26,24 @@ pub(crate) fn halve(x: u64) -> Halved
     }
 }
 
+// Both answers in one value: the compiler then needs no jump, which a processor would guess wrong half of the time.
 fn part(x: u64, y: u64) -> Parted
     ensures { λ r. ⌜ PartedFrom x y r ⌝ }
 {
     if x < y {
         return Parted {
             lesser: x,
-            rest: y - x,
+            difference: y - x,
         };
     }
     Parted {
         lesser: y,
-        rest: x - y,
+        difference: x - y,
     }
 }
 
-// The difference of two odd numbers is even, so it is halved at least once before it takes the place of the greater.
-pub(crate) fn of_odd(a: u64, b: u64) -> u64
+// The greatest common divisor of two odd numbers: in each step their difference, halved for as long as it is even, takes the place of the greater.
+pub(crate) fn gcd_of_odd(a: u64, b: u64) -> u64
     requires { ⌜ Odd a ⌝ }
     requires { ⌜ Odd b ⌝ }
     ensures { λ r. ⌜ IsGcd a b r ⌝ }
@@ -51,7 +52,7 @@ pub(crate) fn of_odd(a: u64, b: u64) -> u64
     let mut y = b;
     while x != y {
         let parts = part(x, y);
-        let next = halve(parts.rest);
+        let next = halve(parts.difference);
         x = parts.lesser;
         y = next.odd;
     }

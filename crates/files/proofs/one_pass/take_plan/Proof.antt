@@ -1,11 +1,11 @@
--- `files::own::take_plan` meets its contract: a header that is cut short is the first refusal, and after a whole header `take_records` tells the rest.
+-- `files::one_pass::take_plan` meets its contract: a header that is cut short is the first refusal, and after a whole header `take_records` tells the rest.
 -- Assumes nothing.
 use mathlib.Core.Path.{sym}
 use mathlib.Core.Logic.{inl}
 use Rattle.files.proofs.OnePass.{five-words, header-taken, header-cut}
 use borrow.Author.Needs.{needs}
-use Rattle.files.proofs.own.take_plan.Statement.{statement}
-use Rattle.files.proofs.own.take_plan.Tie as tie
+use Rattle.files.proofs.one_pass.take_plan.Statement.{statement}
+use Rattle.files.proofs.one_pass.take_plan.Tie as tie
 
 slice-relend-prefix-take-words : tie.Need-slice-relend-prefix-take-words
 slice-relend-prefix-take-words c = search needs

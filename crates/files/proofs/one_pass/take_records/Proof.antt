@@ -1,4 +1,4 @@
--- `files::own::take_records` meets its contract: the limits and the length of the header are told, and the records after it are taken.
+-- `files::one_pass::take_records` meets its contract: the limits and the length of the header are told, and the records after it are taken.
 -- Assumes nothing.
 use mathlib.Core.Path.{refl, sym}
 use mathlib.Core.Logic.{inl, inr}
@@ -7,8 +7,8 @@ use Rattle.table.specs.Layout.{current}
 use Rattle.files.proofs.Looking.{Headed, headed, header-above, header-first}
 use Rattle.files.proofs.OnePass.{five-words, size-fits, records-cut, records-over, records-whole}
 use borrow.Author.Needs.{needs}
-use Rattle.files.proofs.own.take_records.Statement.{statement}
-use Rattle.files.proofs.own.take_records.Tie as tie
+use Rattle.files.proofs.one_pass.take_records.Statement.{statement}
+use Rattle.files.proofs.one_pass.take_records.Tie as tie
 
 -- The header, once it is told.
 abbrev header : tie.After-header-words → Headed
