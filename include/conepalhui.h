@@ -78,8 +78,8 @@
 #define CONEPALHUI_VERSION "2.1.1"
 #define CONEPALHUI_VERSION_MAJOR 2
 #define CONEPALHUI_VERSION_MINOR 1
-#define CONEPALHUI_VERSION_PATCH 0
-#define CONEPALHUI_VERSION_NUMBER 20100
+#define CONEPALHUI_VERSION_PATCH 1
+#define CONEPALHUI_VERSION_NUMBER 20101
 
 /*
  * The edition of the rules: what a plan file, a place and a cursor mean, and when a place holds. It is raised whenever
