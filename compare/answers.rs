@@ -1,7 +1,9 @@
 //! What the program of cases prints for a list that is spelled out, a call in each line.
 
-use crate::check::{begin, host_move, host_slice, host_start, Checker, Plain};
-use crate::format::{encoded, table, table_words, write_cursor, write_plan, Cursor, Move, Outcome, Refusal};
+use crate::check::{begin, host_convert, host_move, host_slice, host_start, Checker, Plain};
+use crate::format::{
+    encoded, table, table_words, write_cursor, write_plan, Cursor, Layout, Move, Outcome, Plan, Refusal,
+};
 use crate::list::{bytes, hex, joined, numbers};
 use crate::network_list;
 use crate::paper::{LIMITS, NOTHING_VIOLATED, NUMBER_BYTES, PAUSED};
@@ -106,8 +108,8 @@ impl Calls {
         format!("{}table: {}", told, row(&self.table))
     }
 
-    fn read_plan(&self, room: usize) -> String {
-        let read = Plain.read_plan(&self.plan).and_then(|plan| {
+    fn read_plan(&self, plan: Outcome<Plan>, room: usize) -> String {
+        let read = plan.and_then(|plan| {
             Plain.room(plan.words().len(), room)?;
             Ok(plan)
         });
@@ -164,6 +166,12 @@ impl Calls {
         format!("start {}{}\n", both(given), hex(&out))
     }
 
+    fn host_convert(&self, room: usize) -> String {
+        let mut file = vec![MARK; room];
+        let given = host_convert(&Plain, &self.plan, &mut file);
+        format!("convert {}{}\n", both(given), hex(&file))
+    }
+
     fn host_slice(&self, budget: u32, room: usize) -> String {
         let mut out = vec![MARK; room];
         let given = host_slice(&Plain, &self.plan, &self.saved, budget, &mut out);
@@ -203,9 +211,10 @@ impl Calls {
                 .map_or_else(refusal, |_| "well-formed\n".to_string()),
             ("start", []) => self.start(),
             ("slice", [budget]) => self.slice(*budget),
-            ("move", [leg, offset]) => self.move_leg(Move { leg: *leg, offset: *offset }),
+            ("move", &[leg, offset, periods]) => self.move_leg(Move { leg, offset, periods }),
             ("places", [legs]) => format!("places {}\n", Plain.places(u64::from(*legs))),
-            ("read-plan", [_]) => self.read_plan(room(0)),
+            ("read-plan", [_]) => self.read_plan(Plain.read_plan(&self.plan), room(0)),
+            ("read-first", [_]) => self.read_plan(Plain.read_first(&self.plan), room(0)),
             ("write-plan", [_]) => written(write_plan(&Plain, &self.table, room(0)), 0, room(0)),
             ("largest", front) => return self.largest(front),
             ("read-number", [_]) => self.read_number(room(0)),
@@ -215,7 +224,10 @@ impl Calls {
             ("write-cursor", [_]) => self.write_cursor(room(0)),
             ("host-start", [_]) => self.host_start(room(0)),
             ("host-slice", [budget, _]) => self.host_slice(*budget, room(1)),
-            ("host-move", [leg, offset, _, _]) => self.host_move(Move { leg: *leg, offset: *offset }, room(2), room(3)),
+            ("host-move", &[leg, offset, periods, _, _]) => {
+                self.host_move(Move { leg, offset, periods }, room(3), room(4))
+            }
+            ("host-convert", [_]) => self.host_convert(room(0)),
             ("digits", []) => digits(&self.saved),
             ("same", []) => yes(self.plan == self.saved),
             ("known", [edition]) => {
@@ -223,7 +235,8 @@ impl Calls {
                 yes(seen(&self.saved).map_or(false, |seen| seen.edition == *edition && is_known(seen)))
             }
             ("copy", [edition]) => {
-                yes(seen(&self.saved).map_or(false, |seen| seen.edition == *edition && are_plans(seen)))
+                let is_copy = |seen: Seen| seen.edition == *edition && are_plans(seen, Layout::Second);
+                yes(seen(&self.saved).map_or(false, is_copy))
             }
             ("edition", []) => match edition_of(&self.saved) {
                 Some(edition) => format!("edition {}\n", edition),
@@ -266,7 +279,7 @@ struct Seen<'a> {
     other: &'a [u8],
 }
 
-/// The edition of all that was kept before an edition was told in it.
+/// The edition of all that was kept before an edition was told in it. Its plans are of the first layout.
 const UNTOLD: u32 = 1;
 
 /// Two plans: how many bytes the first has, as a number, that plan, and the other one or nothing.
@@ -283,14 +296,17 @@ fn seen(bytes: &[u8]) -> Option<Seen<'_>> {
     plans(&bytes[next..], edition).filter(|_| front == SEEN_MARK)
 }
 
-fn are_plans(seen: Seen) -> bool {
-    let is_plan = |file: &[u8]| Plain.read_plan(file).is_ok();
+fn are_plans(seen: Seen, layout: Layout) -> bool {
+    let is_plan = |file: &[u8]| match layout {
+        Layout::First => Plain.read_first(file).is_ok(),
+        Layout::Second => Plain.read_plan(file).is_ok(),
+    };
     is_plan(seen.first) && (seen.other.is_empty() || is_plan(seen.other))
 }
 
 /// The edition that bytes were kept with. No plan has as many bytes as the mark says, so none that tells no edition begins with it.
 fn edition_of(bytes: &[u8]) -> Option<u32> {
-    let untold = || plans(bytes, UNTOLD).filter(|plans| are_plans(*plans));
+    let untold = || plans(bytes, UNTOLD).filter(|plans| are_plans(*plans, Layout::First));
     seen(bytes).or_else(untold).map(|seen| seen.edition)
 }
 

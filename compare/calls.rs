@@ -1,6 +1,6 @@
 //! A call for C with all that it is lent, and what it gives.
 
-use crate::check::{host_move, host_slice, host_start, Checker};
+use crate::check::{host_convert, host_move, host_slice, host_start, Checker};
 use crate::format::Move;
 use std::io::{self, Read, Write};
 use std::sync::Arc;
@@ -12,21 +12,24 @@ pub enum Kind {
     SliceFull,
     Start,
     Move,
+    Convert,
 }
 
 /// The driver writes out all its answers where it meets this in place of a call.
-const FLUSH: u32 = 4;
+const FLUSH: u32 = 5;
 /// What the driver lays before each buffer, and sends back with it.
 const MARGIN: [u8; 32] = [0xA5; 32];
 
 #[derive(Clone)]
 pub struct Call {
     pub kind: Kind,
+    /// For a conversion, the old file.
     pub plan: Arc<[u8]>,
     pub cursor: Vec<u8>,
     /// The budget of a slice, or the leg of a move.
     pub number: u32,
     pub offset: u32,
+    pub periods: u32,
     /// What lies in the lent buffers before the call.
     pub new_plan: Vec<u8>,
     pub out: Vec<u8>,
@@ -34,7 +37,7 @@ pub struct Call {
 
 impl Call {
     fn wanted(&self) -> Move {
-        Move { leg: self.number, offset: self.offset }
+        Move { leg: self.number, offset: self.offset, periods: self.periods }
     }
 }
 
@@ -53,6 +56,7 @@ pub fn answer<C: Checker>(c: &C, call: &Call) -> Answer {
         Kind::SliceFull => host_slice(c, &call.plan, &call.cursor, call.number, &mut out),
         Kind::Start => host_start(c, &call.plan, &mut out),
         Kind::Move => host_move(c, &call.plan, &call.cursor, call.wanted(), &mut new_plan, &mut out),
+        Kind::Convert => host_convert(c, &call.plan, &mut new_plan),
     };
     Answer { result, new_plan, out }
 }
@@ -63,7 +67,7 @@ fn put(to: &mut impl Write, number: u32) -> io::Result<()> {
 
 pub fn send(to: &mut impl Write, call: &Call) -> io::Result<()> {
     let buffers: [&[u8]; 4] = [&call.plan, &call.cursor, &call.new_plan, &call.out];
-    for number in [call.kind as u32, call.number, call.offset] {
+    for number in [call.kind as u32, call.number, call.offset, call.periods] {
         put(to, number)?;
     }
     for buffer in buffers {
@@ -76,7 +80,7 @@ pub fn send(to: &mut impl Write, call: &Call) -> io::Result<()> {
 }
 
 pub fn send_flush(to: &mut impl Write) -> io::Result<()> {
-    for number in [FLUSH, 0, 0, 0, 0, 0, 0] {
+    for number in [FLUSH, 0, 0, 0, 0, 0, 0, 0] {
         put(to, number)?;
     }
     to.flush()

@@ -3,10 +3,12 @@
 use crate::calls::{answer, Answer, Call, Kind};
 use crate::chance::Chance;
 use crate::check::{begin, next, places_before, places_of, Checker, Plain};
-use crate::damage::{any_bytes, bend_route, damage_bytes, damage_table, double_links, routes, shift_legs};
-use crate::drafts::{beyond, large, medium, one_link, plan_a, row, small, to_an_edge};
-use crate::format::{cursor_bytes, encoded, is_whole, plan_bytes, Cursor, Move, Plan};
-use crate::paper::{CURSOR_BYTES, GRANTED, MORE, NOTHING_VIOLATED, REFUSED, VIOLATED};
+use crate::damage::{
+    above_a_limit, any_bytes, any_table, bend_route, damage_bytes, damage_table, double_links, routes, shift_legs,
+};
+use crate::drafts::{beyond, large, medium, one_link, plan_a, reword, row, small, to_an_edge};
+use crate::format::{cursor_bytes, encoded, first_bytes, is_whole, plan_bytes, Cursor, Layout, Leg, Move, Plan};
+use crate::paper::{CURSOR_BYTES, GRANTED, LIMITS, MORE, NOTHING_VIOLATED, REFUSED, VIOLATED};
 use std::sync::Arc;
 
 pub const BATCH: usize = 512;
@@ -29,13 +31,14 @@ pub fn batch(seed: u64, number: u64) -> Vec<Case> {
     }
     batch.of_a_large_plan(number);
     while batch.cases.len() < BATCH {
-        match batch.chance.below(14) {
+        match batch.chance.below(15) {
             0..=2 => batch.run(),
             3..=5 => batch.at_an_edge(),
             6 | 7 => batch.on_one_link(),
             8 | 9 => batch.beyond_the_period(),
             10 | 11 => batch.damaged_table(),
             12 => batch.damaged_bytes(),
+            13 => batch.old_files(),
             _ => batch.cursors(),
         }
     }
@@ -91,6 +94,7 @@ impl Batch {
             cursor: Vec::new(),
             number: 0,
             offset: 0,
+            periods: 0,
             new_plan: Vec::new(),
             out,
         })
@@ -99,32 +103,68 @@ impl Batch {
     fn slice(&mut self, plan: &Arc<[u8]>, cursor: Vec<u8>, budget: u32) -> &Answer {
         let kind = if self.chance.one_in(3) { Kind::Slice } else { Kind::SliceFull };
         let out = self.lent_out();
-        self.make(Call { kind, plan: plan.clone(), cursor, number: budget, offset: 0, new_plan: Vec::new(), out })
+        let (plan, new_plan) = (plan.clone(), Vec::new());
+        self.make(Call { kind, plan, cursor, number: budget, offset: 0, periods: 0, new_plan, out })
     }
 
-    /// Moves a leg. The room for the new plan is a little more or less than what it needs, or just that.
-    fn move_leg(&mut self, plan: &Arc<[u8]>, cursor: Vec<u8>, wanted: Move, needed: usize) -> &Answer {
+    /// Room for a new plan: a little more or less than what it needs, or just that, or as much as the old one has.
+    fn lent_file(&mut self, needed: usize, old: usize) -> Vec<u8> {
         let length = match self.chance.below(10) {
             0 => self.chance.below(needed + 1),
-            1 => needed - 1,
+            1 => needed.saturating_sub(1),
             2 => needed + 1,
             3 => needed + self.chance.below(40),
-            4 => plan.len(),
+            4 => old,
             _ => needed,
         };
-        let (new_plan, out) = (self.lent(length), self.lent_out());
-        let Move { leg, offset } = wanted;
-        self.make(Call { kind: Kind::Move, plan: plan.clone(), cursor, number: leg, offset, new_plan, out })
+        self.lent(length)
+    }
+
+    fn move_leg(&mut self, plan: &Arc<[u8]>, cursor: Vec<u8>, wanted: Move, needed: usize) -> &Answer {
+        let (new_plan, out) = (self.lent_file(needed, plan.len()), self.lent_out());
+        let Move { leg, offset, periods } = wanted;
+        self.make(Call { kind: Kind::Move, plan: plan.clone(), cursor, number: leg, offset, periods, new_plan, out })
+    }
+
+    /// Converts a file of the first layout, or one that is none. Each leg takes a byte more in today's.
+    fn convert(&mut self, old: &Arc<[u8]>) -> &Answer {
+        let needed = Plain.read_first(old).map_or(old.len() + 3, |plan| plan_bytes(&plan).len());
+        let new_plan = self.lent_file(needed, old.len());
+        self.make(Call {
+            kind: Kind::Convert,
+            plan: old.clone(),
+            cursor: Vec::new(),
+            number: 0,
+            offset: 0,
+            periods: 0,
+            new_plan,
+            out: Vec::new(),
+        })
     }
 
     /// Makes one of the calls, whatever is right or wrong with the bytes.
     fn any_call(&mut self, plan: &Arc<[u8]>, cursor: Vec<u8>) {
         let number = self.chance.any_size();
-        match self.chance.below(4) {
-            0 => self.start(plan),
-            1 => self.move_leg(plan, cursor, Move { leg: number % 8, offset: number }, plan.len() + 3),
+        match self.chance.below(8) {
+            0 | 1 => self.start(plan),
+            2 | 3 => {
+                let wanted = Move { leg: number % 8, offset: number, periods: self.periods(0) };
+                self.move_leg(plan, cursor, wanted, plan.len() + 3)
+            }
+            4 if self.chance.one_in(2) => self.convert(plan),
             _ => self.slice(plan, cursor, number),
         };
+    }
+
+    /// A period word for a move: the leg's own, any other, or one that is too high.
+    fn periods(&mut self, own: u32) -> u32 {
+        let most = LIMITS.periods;
+        match self.chance.below(6) {
+            0 | 1 => own,
+            2 => 0,
+            3 | 4 => self.chance.below(most as usize + 3) as u32,
+            _ => self.chance.of(&[most, most + 1, 15, 16, 255, 256, 1 << 16, 1 << 31, u32::MAX - 1, u32::MAX]),
+        }
     }
 
     // ---- Cursors and budgets
@@ -177,6 +217,15 @@ impl Batch {
 
     // ---- Families
 
+    /// A small plan, now and then with other period words.
+    fn small_or_reworded(&mut self) -> Plan {
+        let mut plan = small(&mut self.chance);
+        if self.chance.one_in(4) {
+            reword(&mut self.chance, &mut plan);
+        }
+        plan
+    }
+
     /// The runs of document 01, cases 11 to 14.
     fn of_the_paper(&mut self) {
         let mut plan = plan_a();
@@ -186,7 +235,7 @@ impl Batch {
         for (leg, place) in [(0, 0), (1, 2), (2, 3)] {
             self.slice(&bytes, cursor(0, leg, place), 5);
         }
-        for wanted in [Move { leg: 2, offset: 672 }, Move { leg: 0, offset: 600 }] {
+        for wanted in [Move { leg: 2, offset: 672, periods: 0 }, Move { leg: 0, offset: 600, periods: 0 }] {
             self.move_leg(&bytes, cursor(0, 2, 3), wanted, bytes.len() + 1);
             let mut after = plan.clone();
             let moved = Plain.moved(&mut after, Cursor { revision: 0, leg: 2, place: 3 }, wanted);
@@ -201,12 +250,14 @@ impl Batch {
         }
         for bytes in [&[0; 5][..], &[], &[0x80, 0]] {
             self.slice(&bytes.to_vec().into(), cursor(0, 0, 0), 0);
+            self.convert(&bytes.to_vec().into());
         }
+        self.convert(&first_bytes(&plan).into());
     }
 
     /// Starts, slices and moves as they come, with cursors and plans of the past among them.
     fn run(&mut self) {
-        let mut plan = if self.chance.one_in(8) { medium(&mut self.chance) } else { small(&mut self.chance) };
+        let mut plan = if self.chance.one_in(8) { medium(&mut self.chance) } else { self.small_or_reworded() };
         for _ in 0..self.chance.below(3) {
             to_an_edge(&mut self.chance, &mut plan);
         }
@@ -250,19 +301,22 @@ impl Batch {
             legs if self.chance.one_in(10) => legs as u32 + self.chance.below(2) as u32,
             legs => self.chance.below(legs) as u32,
         };
-        let own = plan.legs.get(leg as usize).map_or(0, |leg| leg.offset);
-        let offset = match self.chance.below(5) {
-            0 => own,
-            1 => self.chance.any_size(),
-            2 => own.wrapping_add(self.chance.any_size() % 2_000),
+        let numbers =
+            |plan: &Plan, leg: u32| plan.legs.get(leg as usize).map_or((1, 0), |leg| (leg.offset, leg.periods));
+        let (own, own_periods) = numbers(plan, leg);
+        let (offset, periods) = match self.chance.below(5) {
+            0 => (own, self.periods(own_periods)),
+            1 => (self.chance.any_size(), self.periods(own_periods)),
+            2 => (own.wrapping_add(self.chance.any_size() % 2_000), self.periods(own_periods)),
             _ => {
                 let mut edge = plan.clone();
                 let (at, _) = to_an_edge(&mut self.chance, &mut edge);
-                edge.legs.get(at as usize).map_or(1, |leg| leg.offset)
+                let (offset, periods) = numbers(&edge, at);
+                (offset, if self.chance.one_in(4) { self.periods(periods) } else { periods })
             }
         };
         let mut after = plan.clone();
-        let wanted = Move { leg, offset };
+        let wanted = Move { leg, offset, periods };
         let needed = match Plain.moved(&mut after, cursor, wanted) {
             Ok(_) => plan_bytes(&after).len(),
             Err(_) => bytes.len(),
@@ -274,7 +328,7 @@ impl Batch {
 
     /// Slices that look at a place whose rule just holds, or just does not, and at those after it.
     fn at_an_edge(&mut self) {
-        let mut plan = small(&mut self.chance);
+        let mut plan = self.small_or_reworded();
         for _ in 0..6 {
             let (leg, place) = to_an_edge(&mut self.chance, &mut plan);
             let revision = plan.revision;
@@ -296,6 +350,9 @@ impl Batch {
             let mut plan = one_link(&mut self.chance);
             if self.chance.one_in(2) {
                 beyond(&mut self.chance, &mut plan);
+            }
+            if self.chance.one_in(2) {
+                reword(&mut self.chance, &mut plan);
             }
             let (leg, place) = to_an_edge(&mut self.chance, &mut plan);
             let budget = 1 + self.chance.below(2) as u32;
@@ -359,7 +416,11 @@ impl Batch {
         let plan = small(&mut self.chance);
         let whole = plan_bytes(&plan);
         for _ in 0..8 {
-            let mut bytes = if self.chance.one_in(8) { any_bytes(&mut self.chance) } else { whole.clone() };
+            let mut bytes = match self.chance.below(16) {
+                0 | 1 => any_bytes(&mut self.chance),
+                2 => above_a_limit(&mut self.chance, Layout::Second),
+                _ => whole.clone(),
+            };
             let mut cursor = cursor_bytes(self.some_place(&plan));
             match self.chance.below(4) {
                 0 => damage_bytes(&mut self.chance, &mut cursor),
@@ -371,6 +432,31 @@ impl Batch {
                 _ => damage_bytes(&mut self.chance, &mut bytes),
             }
             self.any_call(&bytes.into(), cursor);
+        }
+    }
+
+    /// Files of the first layout, whole and damaged, and others that are taken for such.
+    fn old_files(&mut self) {
+        let plan = if self.chance.one_in(4) { medium(&mut self.chance) } else { small(&mut self.chance) };
+        for _ in 0..8 {
+            let mut bytes = match self.chance.below(10) {
+                0..=2 => first_bytes(&plan),
+                3 => encoded(&any_table(&mut self.chance, Layout::First, [5, 5, 9])),
+                4 => encoded(&any_table(&mut self.chance, Layout::First, [0, 0, 40])),
+                5 => above_a_limit(&mut self.chance, Layout::First),
+                6 => plan_bytes(&plan),
+                7 => any_bytes(&mut self.chance),
+                8 => {
+                    // A byte or some are left over, up to as many as today's file would have.
+                    let more = 1 + self.chance.below(plan.legs.len() + 2);
+                    [first_bytes(&plan), vec![0; more]].concat()
+                }
+                _ => first_bytes(&Plan { revision: self.chance.word(), ..plan.clone() }),
+            };
+            for _ in 0..self.chance.of(&[0, 0, 1, 1, 2]) {
+                damage_bytes(&mut self.chance, &mut bytes);
+            }
+            self.convert(&bytes.into());
         }
     }
 
@@ -420,5 +506,14 @@ impl Batch {
         let mut cut = bytes.to_vec();
         damage_bytes(&mut self.chance, &mut cut);
         self.any_call(&cut.into(), cursor_bytes(start));
+        // Now and then with as many legs as a plan can have, or one more, all at offsets of five bytes.
+        let legs = match number % 8 {
+            0 => LIMITS.legs,
+            4 => LIMITS.legs + 1,
+            _ => plan.legs.len() as u32,
+        };
+        let leg = Leg { stream: u32::MAX, link: u32::MAX, offset: u32::MAX, periods: 0 };
+        plan.legs.resize(legs as usize, leg);
+        self.convert(&first_bytes(&plan).into());
     }
 }

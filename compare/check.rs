@@ -1,9 +1,11 @@
-//! Start, slice and move, and the four calls for C. Plain code: one loop over the places in order.
+//! Start, slice and move, and the calls for C. Plain code: one loop over the places in order.
 
-use crate::format::{self, cursor_bytes, plan_bytes, refused, Cursor, Leg, Link, Move, Outcome, Plan, Refusal, Stream};
+use crate::format::{
+    self, cursor_bytes, plan_bytes, refused, Cursor, Layout, Leg, Link, Move, Outcome, Plan, Refusal, Stream,
+};
 use crate::paper::{
     Limits, Rule, CURSOR_BYTES, DEADLINE, GRANTED, HEADER_WORDS, HOP, LAST_REVISION, LIMITS, NOTHING_VIOLATED, NO_LEG,
-    NO_PLACE, OVERLAP, OVERLAPS, PAUSED, REFUSED, RULES, STALE, WINDOW,
+    NO_PLACE, OVERLAP, OVERLAPS, PAUSED, REFUSED, RULES, STALE, TOO_LATE, WINDOW,
 };
 use crate::reasons;
 use crate::rules::{self, sent, Sent};
@@ -15,6 +17,13 @@ pub struct Sliced {
     pub result: u32,
     pub cursor: Cursor,
     pub steps: u32,
+}
+
+/// How many bytes a move for C is lent.
+#[derive(Clone, Copy)]
+pub struct Lent {
+    pub new_plan: usize,
+    pub out: usize,
 }
 
 /// The decisions of a checker, each with the function that decides right. `Plain` takes these; `Bent` has a table of them,
@@ -62,8 +71,10 @@ decisions! {
     // The reader.
     number(bytes: &[u8], start: usize) -> Outcome<(u32, usize)> = format::number;
     read_plan(bytes: &[u8]) -> Outcome<Plan> = format::read_plan;
+    read_first(bytes: &[u8]) -> Outcome<Plan> = format::read_first;
     read_cursor(bytes: &[u8]) -> Outcome<Cursor> = format::read_cursor;
     plan_ends(at: usize, length: usize) -> Outcome<()> = format::ends;
+    first_ends(at: usize, length: usize) -> Outcome<()> = format::ends;
     cursor_ends(at: usize, length: usize) -> Outcome<()> = format::ends;
     // The shape.
     judge(plan: &Plan) -> Outcome<()> = shape::judge;
@@ -73,9 +84,10 @@ decisions! {
     streams(plan: &Plan) -> Outcome<()> = shape::streams;
     stream_in_range(stream: &Stream) -> bool = shape::stream_in_range;
     legs(plan: &Plan) -> Outcome<()> = shape::legs;
-    names_right(plan: &Plan, leg: &Leg, stream: u32) -> bool = shape::names_right;
+    leg_in_range(plan: &Plan, leg: &Leg, stream: u32) -> bool = shape::leg_in_range;
     goes_on(met: &[u32], link: &Link) -> bool = shape::goes_on;
     // The rules.
+    start(plan: &Plan, leg: usize) -> u64 = rules::start;
     wire_time(octets: u32, ns_per_octet: u32) -> u64 = rules::wire_time;
     hold_time(octets: u32, ns_per_octet: u32) -> u64 = rules::hold_time;
     window_holds(leg: &Sent) -> bool = rules::window_holds;
@@ -91,9 +103,10 @@ decisions! {
     // What is said of a refusal.
     cause_told(refusal: u32, causes: &[Option<String>]) -> Option<String> = reasons::cause_told;
     numbered(records: &str, count: usize) -> Option<String> = reasons::numbered;
-    unread(bytes: &[u8], refusal: Refusal) -> String = reasons::unread;
-    name(header: &[u32; HEADER_WORDS], before: usize) -> String = reasons::name;
+    unread(bytes: &[u8], layout: Layout, refusal: Refusal) -> String = reasons::unread;
+    name(layout: Layout, header: &[u32; HEADER_WORDS], before: usize) -> String = reasons::name;
     is_too_long(bytes: &[u8], at: usize) -> bool = reasons::is_too_long;
+    ends_in_first(bytes: &[u8]) -> bool = reasons::ends_in_first;
     twin(links: &[Link], at: usize) -> Option<usize> = reasons::twin;
     legs_before(plan: &Plan, stream: usize) -> u64 = reasons::legs_before;
     last_leg(stream: &Stream) -> u64 = reasons::last_leg;
@@ -102,6 +115,8 @@ decisions! {
     // The calls for C.
     room(least: usize, lent: usize) -> Outcome<()> = format::room;
     opened(plan: &[u8], cursor: &[u8], lent: usize) -> Outcome<(Plan, Cursor)> = opened;
+    granted(plan: &[u8], cursor: &[u8], wanted: Move, lent: Lent) -> Outcome<(Vec<u8>, Cursor)> = granted;
+    converted(old: &[u8], lent: usize) -> Outcome<Vec<u8>> = converted;
     refuse(refusal: Refusal, lent: &mut [u8]) -> u64 = refuse;
     give(lent: &mut [u8], bytes: &[u8]) -> () = give;
 }
@@ -211,16 +226,20 @@ pub fn fits<C: Checker>(_: &C, plan: &Plan, cursor: Cursor) -> Outcome<()> {
     Ok(())
 }
 
-/// Sets one leg's offset. The cursor goes back to that leg where it had passed it.
-pub fn moved<C: Checker>(_: &C, plan: &mut Plan, cursor: Cursor, wanted: Move) -> Outcome<Cursor> {
+/// Sets one leg's offset and its period word. The cursor goes back to that leg where it had passed it.
+pub fn moved<C: Checker>(c: &C, plan: &mut Plan, cursor: Cursor, wanted: Move) -> Outcome<Cursor> {
     if wanted.leg as usize >= plan.legs.len() {
         return refused(NO_LEG, 0);
     }
     if plan.revision == u32::MAX {
         return refused(LAST_REVISION, 0);
     }
+    if wanted.periods > c.limits().periods {
+        return refused(TOO_LATE, 0);
+    }
     plan.revision += 1;
-    plan.legs[wanted.leg as usize].offset = wanted.offset;
+    let leg = &mut plan.legs[wanted.leg as usize];
+    *leg = Leg { offset: wanted.offset, periods: wanted.periods, ..*leg };
     let (leg, place) = (cursor.leg, cursor.place).min((wanted.leg, 0));
     Ok(Cursor { revision: plan.revision, leg, place })
 }
@@ -277,6 +296,15 @@ pub fn host_slice<C: Checker>(c: &C, plan: &[u8], cursor: &[u8], budget: u32, ou
     }
 }
 
+/// The new plan file and the cursor that a move gives.
+pub fn granted<C: Checker>(c: &C, plan: &[u8], cursor: &[u8], wanted: Move, lent: Lent) -> Outcome<(Vec<u8>, Cursor)> {
+    let (mut plan, cursor) = c.opened(plan, cursor, lent.out)?;
+    let cursor = c.moved(&mut plan, cursor, wanted)?;
+    let bytes = plan_bytes(&plan);
+    c.room(bytes.len(), lent.new_plan)?;
+    Ok((bytes, cursor))
+}
+
 pub fn host_move<C: Checker>(
     c: &C,
     plan: &[u8],
@@ -285,18 +313,29 @@ pub fn host_move<C: Checker>(
     new_plan: &mut [u8],
     out: &mut [u8],
 ) -> u64 {
-    let moved = || {
-        let (mut plan, cursor) = c.opened(plan, cursor, out.len())?;
-        let cursor = c.moved(&mut plan, cursor, wanted)?;
-        let bytes = plan_bytes(&plan);
-        c.room(bytes.len(), new_plan.len())?;
-        Ok((bytes, cursor))
-    };
-    match moved() {
+    let lent = Lent { new_plan: new_plan.len(), out: out.len() };
+    match c.granted(plan, cursor, wanted, lent) {
         Err(refusal) => c.refuse(refusal, out),
         Ok((bytes, cursor)) => {
             c.give(new_plan, &bytes);
             c.give(out, &cursor_bytes(cursor));
+            packed(GRANTED, bytes.len() as u64)
+        }
+    }
+}
+
+/// The file of today that a plan file of the first layout becomes: the refusals of its reader, and 15 by its own length.
+pub fn converted<C: Checker>(c: &C, old: &[u8], lent: usize) -> Outcome<Vec<u8>> {
+    let bytes = plan_bytes(&c.read_first(old)?);
+    c.room(bytes.len(), lent)?;
+    Ok(bytes)
+}
+
+pub fn host_convert<C: Checker>(c: &C, old: &[u8], file: &mut [u8]) -> u64 {
+    match c.converted(old, file.len()) {
+        Err(refusal) => c.refuse(refusal, file),
+        Ok(bytes) => {
+            c.give(file, &bytes);
             packed(GRANTED, bytes.len() as u64)
         }
     }

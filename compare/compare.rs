@@ -6,7 +6,7 @@ use crate::driver::{in_batches, Driver};
 use crate::fail::given;
 use crate::paper::{
     ABOVE_LIMIT, BAD_FORM, ENDS_EARLY, GRANTED, LAST_REVISION, LEFT_OVER, LEG_WRONG, LINK_RANGE, LINK_TWICE, NO_LEG,
-    NO_PLACE, NO_ROOM, PAUSED, REFUSED, RULES, STALE, STREAM_WRONG,
+    NO_PLACE, NO_ROOM, PAUSED, REFUSED, RULES, STALE, STREAM_WRONG, TOO_LATE,
 };
 use crate::wrong::{all, Wrong};
 use std::collections::BTreeMap;
@@ -51,13 +51,15 @@ fn told(answer: &Answer) -> String {
 
 fn described(number: u64, call: &Call) -> String {
     format!(
-        "DIFFERENCE in call {}: {:?}, number {}, offset {}, cursor [{}], out [{}], plan [{}]",
+        "DIFFERENCE in call {}: {:?}, number {}, offset {}, periods {}, cursor [{}], out [{}], new plan of {}, plan [{}]",
         number,
         call.kind,
         call.number,
         call.offset,
+        call.periods,
         hex(&call.cursor),
         hex(&call.out),
+        call.new_plan.len(),
         hex(&call.plan)
     )
 }
@@ -181,9 +183,12 @@ fn unseen(seen: &BTreeMap<(Kind, u32), u64>) -> Vec<(Kind, u32)> {
     let start = [vec![GRANTED], refusals(&of_shape), refusals(&of_files)].concat();
     let violated = RULES.iter().map(|rule| rule.result).collect();
     let slice = [start.clone(), vec![PAUSED], violated, refusals(&[STALE, NO_PLACE])].concat();
-    let moves = [start.clone(), refusals(&[STALE, NO_PLACE, NO_LEG, LAST_REVISION])].concat();
-    let all = [(Kind::Slice, &slice), (Kind::SliceFull, &slice), (Kind::Start, &start), (Kind::Move, &moves)];
-    let each = all.iter().flat_map(|(kind, results)| results.iter().map(move |&result| (*kind, result)));
+    let moves = [start.clone(), refusals(&[STALE, NO_PLACE, NO_LEG, LAST_REVISION, TOO_LATE])].concat();
+    let convert = [vec![GRANTED], refusals(&of_files)].concat();
+    let slices = [(Kind::Slice, &slice), (Kind::SliceFull, &slice)];
+    let others = [(Kind::Start, &start), (Kind::Move, &moves), (Kind::Convert, &convert)];
+    let each =
+        slices.iter().chain(&others).flat_map(|(kind, results)| results.iter().map(move |&result| (*kind, result)));
     each.filter(|one| !seen.contains_key(one)).collect()
 }
 

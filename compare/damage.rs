@@ -1,11 +1,15 @@
 //! Tables and byte strings that are damaged in some way.
 
 use crate::chance::Chance;
-use crate::format::{encoded, Leg, Link, Plan, Stream};
+use crate::drafts::longest_deadline;
+use crate::format::{encoded, Layout, Leg, Link, Plan, Stream};
 use crate::paper::{HEADER_WORDS, LEG_WORDS, LIMITS, LINK_WORDS, MORE, STREAM_WORDS};
 
 /// The words of a record of each part.
 const WIDTHS: [usize; 3] = [LINK_WORDS, STREAM_WORDS, LEG_WORDS];
+
+/// The most that the words of a header after the first may be.
+const LIMITS_OF_HEADER: [u32; 4] = [LIMITS.links, LIMITS.streams, LIMITS.legs, LIMITS.precision];
 
 /// Where a part's records begin, and how many it has.
 fn part(words: &[u32], part: usize) -> (usize, usize) {
@@ -46,14 +50,31 @@ fn edges(words: &[u32], part: usize, field: usize, record: &[u32]) -> Vec<u32> {
         (0, 0) | (0, 1) => vec![0, LIMITS.node, LIMITS.node + 1, record[1 - field]],
         (0, 2) => LIMITS.rates.iter().flat_map(|&rate| [rate - 1, rate, rate + 1]).chain([0, 100]).collect(),
         (0, _) => vec![0, LIMITS.propagation, LIMITS.propagation + 1],
-        (1, 0) => vec![0, 1, LIMITS.period.1, LIMITS.period.1 + 1, record[1], record[1].wrapping_sub(1)],
-        (1, 1) => vec![0, 1, record[0], record[0].wrapping_add(1)],
+        // The least period that allows the deadline, and one ns less.
+        (1, 0) => {
+            let least = record[1] / LIMITS.deadline_periods + u32::from(record[1] % LIMITS.deadline_periods > 0);
+            vec![0, 1, LIMITS.period.1, LIMITS.period.1 + 1, least, least.wrapping_sub(1)]
+        }
+        (1, 1) => {
+            let (longest, one_less) = (longest_deadline(record[0]), record[0].saturating_mul(LIMITS.periods));
+            vec![
+                0,
+                1,
+                record[0],
+                record[0].wrapping_add(1),
+                one_less,
+                one_less.wrapping_add(1),
+                longest,
+                longest.wrapping_add(1),
+            ]
+        }
         (1, 2) => vec![0, LIMITS.octets.0 - 1, LIMITS.octets.0, LIMITS.octets.1, LIMITS.octets.1 + 1],
         (1, 3) => vec![0, words[3]],
         (1, _) => vec![0, 1, LIMITS.route.1, LIMITS.route.1 + 1, words[3], words[3] + 1],
         (_, 0) => vec![0, words[2], words[2].wrapping_sub(1)],
         (_, 1) => vec![0, words[1], words[1].wrapping_sub(1)],
-        _ => vec![0],
+        (_, 2) => vec![0],
+        _ => vec![0, 1, LIMITS.periods, LIMITS.periods + 1, LIMITS.periods + 2, 0x100, 1 << 31],
     };
     values.extend([own.wrapping_add(1), own.wrapping_sub(1), u32::MAX, own ^ 0x1_0000]);
     values
@@ -100,7 +121,7 @@ pub fn damage_table(chance: &mut Chance, words: &mut Vec<u32>) {
 
 fn damage_header(chance: &mut Chance, words: &mut [u32]) {
     let field = 1 + chance.below(4);
-    let limit = [LIMITS.links, LIMITS.streams, LIMITS.legs, LIMITS.precision][field - 1];
+    let limit = LIMITS_OF_HEADER[field - 1];
     let own = words[field];
     words[field] = chance.of(&[limit, limit + 1, own.wrapping_add(1), own.wrapping_sub(1), 0, u32::MAX]);
 }
@@ -170,7 +191,7 @@ pub fn routes(chance: &mut Chance) -> Plan {
         for hop in route {
             // Where a route comes back to the node that it would leave, it takes any link.
             let link = ends.iter().position(|&other| other == hop).unwrap_or(0) as u32;
-            plan.legs.push(Leg { stream, link, offset: 0 });
+            plan.legs.push(Leg { stream, link, offset: 0, periods: 0 });
         }
     }
     plan
@@ -220,6 +241,28 @@ pub fn damage_bytes(chance: &mut Chance, bytes: &mut Vec<u8>) {
             }
         }
     }
+}
+
+/// A table of any words in a layout, of so many links, streams and legs at the most.
+pub fn any_table(chance: &mut Chance, layout: Layout, most: [u32; 3]) -> Vec<u32> {
+    let [links, streams, legs] = most.map(|most| chance.from_to(0, most));
+    let header = [chance.any_size(), links, streams, legs, chance.from_to(0, LIMITS.precision)];
+    with_rest(chance, layout, header)
+}
+
+/// A header, and as many words after it as it asks for.
+fn with_rest(chance: &mut Chance, layout: Layout, header: [u32; HEADER_WORDS]) -> Vec<u32> {
+    let rest: Vec<u32> = (HEADER_WORDS as u64..layout.table_words(&header)).map(|_| chance.any_size()).collect();
+    header.into_iter().chain(rest).collect()
+}
+
+/// The file of a table whose header is above a limit, now and then with nothing after it.
+pub fn above_a_limit(chance: &mut Chance, layout: Layout) -> Vec<u8> {
+    let mut header = [chance.any_size(), 1, 1, 1, 0];
+    let field = 1 + chance.below(4);
+    header[field] = LIMITS_OF_HEADER[field - 1] + 1;
+    let words = with_rest(chance, layout, header);
+    encoded(if chance.one_in(4) { &words[..HEADER_WORDS] } else { &words })
 }
 
 /// Bytes that were never a plan or a cursor.

@@ -89,13 +89,14 @@ pub fn alike(chance: &mut Chance) -> Plan {
     for number in 0..LIMITS.streams {
         let stream = Stream { period: 100_000, deadline: 50_000, octets: 64, first_leg: number, leg_count: 1 };
         plan.streams.push(stream);
-        plan.legs.push(Leg { stream: number, link: number % count, offset: 0 });
+        plan.legs.push(Leg { stream: number, link: number % count, offset: 0, periods: 0 });
     }
     plan
 }
 
-/// A plan in which nothing is violated, of so many streams or fewer, and of one at least.
-pub fn accepted(chance: &mut Chance, streams: usize) -> Plan {
+/// A plan in which nothing is violated, of so many streams or fewer, and of one at least. Some of its streams may pass the
+/// end of their period.
+pub fn accepted(chance: &mut Chance, streams: usize, late: bool) -> Plan {
     let nodes = 2 + chance.below(8);
     let size = Size { nodes, links: 1 + chance.below(3 * nodes), streams };
     let mut plan = Plan { revision: 0, ..empty(chance) };
@@ -107,7 +108,8 @@ pub fn accepted(chance: &mut Chance, streams: usize) -> Plan {
         let route = some_route(chance, &plan.links, hops);
         let period = rhythm.period(chance);
         let first_leg = plan.legs.len();
-        add_stream(chance, &mut plan, period, &route);
+        let late = late && chance.one_in(2);
+        add_stream_in(chance, &mut plan, period, &route, late);
         let holds = |leg: usize| (0..places_of(leg as u32)).all(|place| Plain.holds(&plan, leg, place));
         if !(first_leg..plan.legs.len()).all(holds) {
             plan.streams.pop();
@@ -115,7 +117,7 @@ pub fn accepted(chance: &mut Chance, streams: usize) -> Plan {
         }
     }
     if plan.legs.is_empty() {
-        accepted(chance, streams)
+        accepted(chance, streams, late)
     } else {
         plan
     }
@@ -129,7 +131,8 @@ pub fn full_line(chance: &mut Chance) -> Plan {
     for number in 0..LIMITS.streams {
         let period = chance.of(&[1, 2, 3, 5, 8, 13]) * 1_000_000;
         plan.streams.push(Stream { period, deadline: 10_000, octets: 64, first_leg: 4 * number, leg_count: 4 });
-        plan.legs.extend((0..4).map(|hop| Leg { stream: number, link: hop, offset: 672 * number + 1_176 * hop }));
+        let leg = |hop| Leg { stream: number, link: hop, offset: 672 * number + 1_176 * hop, periods: 0 };
+        plan.legs.extend((0..4).map(leg));
     }
     plan
 }
@@ -218,16 +221,23 @@ enum Rhythm {
     Coprime,
     Any,
     Edges,
+    /// One period, and that a long one: starts pass 32 bits.
+    Long(u32),
 }
 
 impl Rhythm {
     fn some(chance: &mut Chance) -> Rhythm {
-        match chance.below(8) {
+        match chance.below(9) {
             0 | 1 => Rhythm::Harmonic(chance.of(&[100_000, 1_000_000, 2_000_000])),
             2 | 3 => Rhythm::Harmonic(chance.from_to(673, 6_000)),
             4 => Rhythm::Fibonacci(chance.of(&[1_344, 1_345, 10_000])),
             5 => Rhythm::Coprime,
             6 => Rhythm::Any,
+            // A word holds the longest deadline just, or just not; and likewise for the most periods that a leg lies late.
+            7 => {
+                let edge = chance.of(&[u32::MAX / LIMITS.deadline_periods, u32::MAX / LIMITS.periods]);
+                Rhythm::Long(chance.of(&[edge - 1, edge, edge + 1, LIMITS.period.1]))
+            }
             _ => Rhythm::Edges,
         }
     }
@@ -243,12 +253,56 @@ impl Rhythm {
                 let times = [575, 576, 577, 671, 672, 673, 1_343, 1_344];
                 chance.of(&[&[1, 2, LIMITS.period.1 - 1, LIMITS.period.1], &times[..]].concat())
             }
+            Rhythm::Long(period) => *period,
         }
+    }
+}
+
+/// The longest deadline of a stream, as far as a word holds it.
+pub fn longest_deadline(period: u32) -> u32 {
+    period.saturating_mul(LIMITS.deadline_periods)
+}
+
+/// Any number of periods that a leg may lie late.
+fn some_periods(chance: &mut Chance) -> u32 {
+    chance.of(&[0, 1, 1, 2, 3, LIMITS.periods - 1, LIMITS.periods, LIMITS.periods])
+}
+
+/// Gives some legs other period words, first legs too.
+pub fn reword(chance: &mut Chance, plan: &mut Plan) {
+    for leg in 0..plan.legs.len() {
+        if chance.one_in(2) {
+            plan.legs[leg].periods = some_periods(chance);
+        }
+    }
+}
+
+/// Lets a leg start at a time, in the first period that lies no later, as far as legs may lie late.
+fn start_at(plan: &mut Plan, leg: usize, start: u64) {
+    let period = u64::from(plan.streams[plan.legs[leg].stream as usize].period);
+    let periods = (start / period).min(u64::from(LIMITS.periods));
+    let offset = (start - periods * period).min(u64::from(u32::MAX));
+    plan.legs[leg] = Leg { offset: offset as u32, periods: periods as u32, ..plan.legs[leg] };
+}
+
+/// The same, but that a frame which does not fit in its period any more starts with the next.
+fn start_from(plan: &mut Plan, leg: usize, start: u64) {
+    start_at(plan, leg, start);
+    let Sent { offset, hold, period, .. } = known(plan, leg);
+    let period = u64::from(period);
+    if offset < period && offset + hold > period && hold <= period {
+        start_at(plan, leg, start - offset + period);
     }
 }
 
 /// Adds a stream on a route. Where a few tries find room its legs violate nothing.
 fn add_stream(chance: &mut Chance, plan: &mut Plan, period: u32, route: &[u32]) {
+    let late = chance.one_in(2);
+    add_stream_in(chance, plan, period, route, late);
+}
+
+/// The same for a stream that may pass the end of its period, or may not.
+fn add_stream_in(chance: &mut Chance, plan: &mut Plan, period: u32, route: &[u32], late: bool) {
     let number = plan.streams.len() as u32;
     let first_leg = plan.legs.len();
     let octets = match chance.below(4) {
@@ -257,14 +311,22 @@ fn add_stream(chance: &mut Chance, plan: &mut Plan, period: u32, route: &[u32]) 
         _ => LIMITS.octets.0,
     };
     let leg_count = route.len() as u32;
-    plan.streams.push(Stream { period, deadline: period, octets, first_leg: first_leg as u32, leg_count });
-    plan.legs.extend(route.iter().map(|&link| Leg { stream: number, link, offset: 0 }));
+    let longest = if late { longest_deadline(period) } else { period };
+    plan.streams.push(Stream { period, deadline: longest, octets, first_leg: first_leg as u32, leg_count });
+    plan.legs.extend(route.iter().map(|&link| Leg { stream: number, link, offset: 0, periods: 0 }));
     // In a large plan few tries are made, which would take long there.
     let tries = if first_leg < 200 { 12 } else { 1 };
     for _ in 0..tries {
         let mut due = u64::from(chance.from_to(0, period - 1)) / chance.of(&[1, 4, 64]);
+        if late {
+            due += u64::from(period) * chance.of(&[0, 0, 0, 1, 2, 6]);
+        }
         for leg in first_leg..plan.legs.len() {
-            plan.legs[leg].offset = due.min(u64::from(u32::MAX)) as u32;
+            if late {
+                start_from(plan, leg, due);
+            } else {
+                plan.legs[leg].offset = due.min(u64::from(u32::MAX)) as u32;
+            }
             due = arrival(&known(plan, leg), u64::from(plan.precision));
             due += chance.below(3) as u64 * chance.below(1_000) as u64;
         }
@@ -274,9 +336,11 @@ fn add_stream(chance: &mut Chance, plan: &mut Plan, period: u32, route: &[u32]) 
         }
     }
     let needed = arrival(&known(plan, plan.legs.len() - 1), u64::from(plan.precision));
-    let exact = needed - known(plan, first_leg).start;
-    if chance.one_in(2) {
-        plan.streams[number as usize].deadline = exact.clamp(1, u64::from(period)) as u32;
+    let exact = needed.saturating_sub(known(plan, first_leg).start);
+    match chance.below(6) {
+        0..=2 => plan.streams[number as usize].deadline = exact.clamp(1, u64::from(longest)) as u32,
+        3 => plan.streams[number as usize].deadline = chance.from_to(1, longest),
+        _ => {}
     }
 }
 
@@ -304,8 +368,6 @@ pub fn to_an_edge(chance: &mut Chance, plan: &mut Plan) -> (u32, u32) {
     let stream = plan.legs[leg].stream as usize;
     let (first, count) = (plan.streams[stream].first_leg as usize, plan.streams[stream].leg_count as usize);
     let now = known(plan, leg);
-    // What a start has beyond the offset.
-    let late = now.start as i64 - now.offset as i64;
     let beside = chance.of(&[0, 0, 1]);
     // Now and then the edge is where it would be without the gap.
     let no_gap = chance.one_in(6);
@@ -313,14 +375,21 @@ pub fn to_an_edge(chance: &mut Chance, plan: &mut Plan) -> (u32, u32) {
     let (place, offset) = match rule {
         WINDOW => (WINDOW as u32, i64::from(now.period) - held(&now) + beside),
         HOP if leg > first => {
-            let due = arrival(&known(plan, leg - 1), u64::from(plan.precision));
-            (HOP as u32, due as i64 - late - beside)
+            // Now and then a whole period too early. The leg keeps its period word, or gets that of the period which it
+            // starts in.
+            let early = if chance.one_in(8) { i64::from(now.period) } else { beside };
+            let start = arrival(&known(plan, leg - 1), u64::from(plan.precision)) as i64 - early;
+            if chance.one_in(2) {
+                start_at(plan, leg, start.max(0) as u64);
+                return (leg as u32, HOP as u32);
+            }
+            (HOP as u32, start - (now.start - now.offset) as i64)
         }
         DEADLINE => {
             let last = first + count - 1;
             let needed = arrival(&known(plan, last), u64::from(plan.precision));
             let exact = needed as i64 - known(plan, first).start as i64 - beside;
-            plan.streams[stream].deadline = exact.clamp(1, i64::from(now.period)) as u32;
+            plan.streams[stream].deadline = exact.clamp(1, i64::from(longest_deadline(now.period))) as u32;
             return (last as u32, DEADLINE as u32);
         }
         _ => {
@@ -352,6 +421,9 @@ pub fn to_an_edge(chance: &mut Chance, plan: &mut Plan) -> (u32, u32) {
 
 /// Sets some offsets far beyond the period, so that windows are violated and sums pass 32 bits.
 pub fn beyond(chance: &mut Chance, plan: &mut Plan) {
+    if chance.one_in(2) {
+        reword(chance, plan);
+    }
     for leg in 0..plan.legs.len() {
         if chance.one_in(3) {
             plan.legs[leg].offset = match chance.below(3) {

@@ -2,8 +2,8 @@
 
 use crate::check::Checker;
 use crate::paper::{
-    ABOVE_LIMIT, BAD_FORM, CURSOR_WORDS, ENDS_EARLY, GROUP_BITS, HEADER_WORDS, LEFT_OVER, LEG_WORDS, LINK_WORDS, MORE,
-    NO_ROOM, NUMBER_BYTES, STREAM_WORDS, TOO_FEW_WORDS, WRONG_LENGTH,
+    ABOVE_LIMIT, BAD_FORM, CURSOR_WORDS, ENDS_EARLY, FIRST_LEG_WORDS, GROUP_BITS, HEADER_WORDS, LEFT_OVER, LEG_WORDS,
+    LINK_WORDS, MORE, NO_ROOM, NUMBER_BYTES, STREAM_WORDS, TOO_FEW_WORDS, WRONG_LENGTH,
 };
 
 /// A refusal's number, and where it is due.
@@ -41,6 +41,8 @@ pub struct Leg {
     pub stream: u32,
     pub link: u32,
     pub offset: u32,
+    /// How many whole periods it lies late.
+    pub periods: u32,
 }
 
 #[derive(Clone, Debug, PartialEq, Eq)]
@@ -64,6 +66,16 @@ pub struct Cursor {
 pub struct Move {
     pub leg: u32,
     pub offset: u32,
+    pub periods: u32,
+}
+
+/// A layout of plan files. Files carry no mark, so whoever reads one has to name its layout.
+#[derive(Clone, Copy, Debug, PartialEq, Eq)]
+pub enum Layout {
+    /// Legs have no period word.
+    First,
+    /// The layout of today.
+    Second,
 }
 
 // ---- The order of the words
@@ -89,12 +101,33 @@ impl Stream {
 }
 
 impl Leg {
-    fn of([stream, link, offset]: [u32; LEG_WORDS]) -> Leg {
-        Leg { stream, link, offset }
+    fn of([stream, link, offset, periods]: [u32; LEG_WORDS]) -> Leg {
+        Leg { stream, link, offset, periods }
+    }
+
+    /// A leg of the first layout, in which none lies a period late.
+    fn of_first([stream, link, offset]: [u32; FIRST_LEG_WORDS]) -> Leg {
+        Leg { stream, link, offset, periods: 0 }
     }
 
     pub fn words(&self) -> [u32; LEG_WORDS] {
-        [self.stream, self.link, self.offset]
+        [self.stream, self.link, self.offset, self.periods]
+    }
+}
+
+impl Layout {
+    pub fn leg_words(self) -> usize {
+        match self {
+            Layout::First => FIRST_LEG_WORDS,
+            Layout::Second => LEG_WORDS,
+        }
+    }
+
+    /// How many words the table with this header has.
+    pub fn table_words(self, header: &[u32; HEADER_WORDS]) -> u64 {
+        let [_, links, streams, legs, _] = header.map(u64::from);
+        let leg_words = self.leg_words() as u64;
+        HEADER_WORDS as u64 + LINK_WORDS as u64 * links + STREAM_WORDS as u64 * streams + leg_words * legs
     }
 }
 
@@ -115,15 +148,15 @@ impl Plan {
     }
 
     /// The plan's table, a record in each: the header, the links, the streams, the legs.
-    pub fn records(&self) -> Vec<Vec<u32>> {
+    pub fn records(&self, layout: Layout) -> Vec<Vec<u32>> {
         let links = self.links.iter().map(|link| link.words().to_vec());
         let streams = self.streams.iter().map(|stream| stream.words().to_vec());
-        let legs = self.legs.iter().map(|leg| leg.words().to_vec());
+        let legs = self.legs.iter().map(|leg| leg.words()[..layout.leg_words()].to_vec());
         std::iter::once(self.header().to_vec()).chain(links).chain(streams).chain(legs).collect()
     }
 
     pub fn words(&self) -> Vec<u32> {
-        self.records().concat()
+        self.records(Layout::Second).concat()
     }
 }
 
@@ -132,7 +165,7 @@ pub const HEADER: [&str; HEADER_WORDS] = ["revision", "links", "streams", "legs"
 pub const RECORDS: [(&str, &[&str]); 3] = [
     ("link", &["from", "to", "ns_per_octet", "propagation"]),
     ("stream", &["period", "deadline", "octets", "first_leg", "leg_count"]),
-    ("leg", &["stream", "link", "offset"]),
+    ("leg", &["stream", "link", "offset", "periods"]),
 ];
 
 /// Where a word of a record stands in the table, by its names.
@@ -160,8 +193,7 @@ pub fn is_whole(words: &[u32]) -> bool {
 
 /// How many words the table with this header has.
 pub fn table_words(header: &[u32; HEADER_WORDS]) -> u64 {
-    let [_, links, streams, legs, _] = header.map(u64::from);
-    HEADER_WORDS as u64 + LINK_WORDS as u64 * links + STREAM_WORDS as u64 * streams + LEG_WORDS as u64 * legs
+    Layout::Second.table_words(header)
 }
 
 // ---- Reading
@@ -219,6 +251,24 @@ impl<C: Checker> Numbers<'_, C> {
 
 /// Reads a plan file: 12 and 13 from left to right, 2 after the fifth number, then 14. The records are not judged.
 pub fn read_plan<C: Checker>(c: &C, bytes: &[u8]) -> Outcome<Plan> {
+    let (plan, at) = numbers_of_plan(c, bytes, Leg::of)?;
+    c.plan_ends(at, bytes.len())?;
+    Ok(plan)
+}
+
+/// Reads a plan file of the first layout, in the same order and by the same limits.
+pub fn read_first<C: Checker>(c: &C, bytes: &[u8]) -> Outcome<Plan> {
+    let (plan, at) = numbers_of_plan(c, bytes, Leg::of_first)?;
+    c.first_ends(at, bytes.len())?;
+    Ok(plan)
+}
+
+/// The plan that bytes begin with, whose legs have so many words, and the position after it.
+fn numbers_of_plan<C: Checker, const LEG: usize>(
+    c: &C,
+    bytes: &[u8],
+    leg: fn([u32; LEG]) -> Leg,
+) -> Outcome<(Plan, usize)> {
     let mut numbers = Numbers { checker: c, bytes, at: 0 };
     let header = numbers.record()?;
     in_limits(c, &header)?;
@@ -228,10 +278,9 @@ pub fn read_plan<C: Checker>(c: &C, bytes: &[u8]) -> Outcome<Plan> {
         precision,
         links: numbers.records(links, Link::of)?,
         streams: numbers.records(streams, Stream::of)?,
-        legs: numbers.records(legs, Leg::of)?,
+        legs: numbers.records(legs, leg)?,
     };
-    c.plan_ends(numbers.at, bytes.len())?;
-    Ok(plan)
+    Ok((plan, numbers.at))
 }
 
 /// Refusal 2: a count or the clock precision above its limit.
@@ -303,6 +352,11 @@ pub fn cursor_bytes(cursor: Cursor) -> Vec<u8> {
 
 pub fn plan_bytes(plan: &Plan) -> Vec<u8> {
     encoded(&plan.words())
+}
+
+/// The file of a plan in the first layout. The period words are lost.
+pub fn first_bytes(plan: &Plan) -> Vec<u8> {
+    encoded(&plan.records(Layout::First).concat())
 }
 
 pub fn encoded(words: &[u32]) -> Vec<u8> {

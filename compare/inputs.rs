@@ -3,10 +3,14 @@
 
 use crate::chance::Chance;
 use crate::check::{Bent, Checker, Plain};
-use crate::damage::{any_bytes, bend_route, damage_bytes, damage_table, double_links, each_edge, routes, shift_legs};
-use crate::drafts::{accepted, alike, full_line, large, medium, one_link, plan_a, row, small, to_an_edge};
+use crate::damage::{
+    any_bytes, any_table, bend_route, damage_bytes, damage_table, double_links, each_edge, routes, shift_legs,
+};
+use crate::drafts::{
+    accepted, alike, full_line, large, longest_deadline, medium, one_link, plan_a, reword, row, small, to_an_edge,
+};
 use crate::fail::given;
-use crate::format::{encoded, is_whole, plan_bytes, table_words, Plan};
+use crate::format::{encoded, first_bytes, is_whole, plan_bytes, table_words, Layout, Plan};
 use crate::paper::{GROUP_BITS, HEADER_WORDS, LIMITS, MORE, NUMBER_BYTES};
 use crate::reasons::kind;
 use crate::told::{printed, said, Verb};
@@ -69,14 +73,16 @@ fn families(verb: Verb, chance: &mut Chance) -> Vec<Family> {
             forms(),
             each_number(),
             around_the_largest(),
-            (0..600).map(|_| encoded(&any_table(chance, [5, 5, 9]))).collect(),
-            (0..8).map(|_| encoded(&any_table(chance, [LIMITS.links, LIMITS.streams, LIMITS.legs]))).collect(),
+            (0..600).map(|_| encoded(&any_table(chance, Layout::Second, [5, 5, 9]))).collect(),
+            (0..8).map(|_| encoded(&largest_of_any(chance))).collect(),
+            (0..100).map(|_| encoded(&any_table(chance, Layout::First, [5, 5, 9]))).collect(),
             (0..2_400).map(|_| damaged_bytes(chance)).collect(),
             (0..800).map(|_| any_bytes(chance)).collect(),
         ],
         Verb::Shape => vec![
             of_the_paper(),
             each_cause(),
+            late_legs(),
             edges_of_tables(chance),
             (0..600).map(|_| plan_bytes(&routes(chance))).collect(),
             (0..600).map(|_| damaged(chance, |chance| row(chance), 2)).collect(),
@@ -86,31 +92,35 @@ fn families(verb: Verb, chance: &mut Chance) -> Vec<Family> {
             (0..48).map(|_| damaged(chance, |chance| large(chance), 1)).collect(),
             of_one_word(),
             (0..200).map(|_| damaged_bytes(chance)).collect(),
+            (0..40).map(|_| first_bytes(&small(chance))).collect(),
         ],
         Verb::Check => vec![
             of_the_paper(),
             each_number(),
             each_cause(),
+            late_legs(),
             each_edge(&plan_a().words()).iter().map(|words| encoded(words)).collect(),
             (0..800).map(|_| at_edges(chance, |chance| small(chance))).collect(),
             (0..300).map(|_| at_edges(chance, |chance| medium(chance))).collect(),
             (0..300).map(|_| at_edges(chance, |chance| row(chance))).collect(),
             (0..800).map(|_| at_edges(chance, |chance| one_link(chance))).collect(),
-            (0..800).map(|_| at_edges(chance, |chance| accepted(chance, 12))).collect(),
-            (0..60).map(|_| plan_bytes(&accepted(chance, 60))).collect(),
+            (0..800).map(|_| at_edges(chance, |chance| accepted(chance, 12, false))).collect(),
+            (0..800).map(|_| at_edges(chance, |chance| accepted(chance, 12, true))).collect(),
+            (0..60).map(|_| plan_bytes(&accepted(chance, 60, true))).collect(),
             (0..24).map(|_| at_edges(chance, |chance| full_line(chance))).collect(),
             (0..12).map(|_| at_edges(chance, |chance| large(chance))).collect(),
             (0..200).map(|_| damaged(chance, |chance| small(chance), 2)).collect(),
             (0..100).map(|_| damaged_bytes(chance)).collect(),
+            (0..40).map(|_| first_bytes(&small(chance))).collect(),
         ],
     }
 }
 
 // ---- Bytes
 
-/// Plan A, and the files of case 14.
+/// Plan A in both layouts, and the files of case 14.
 fn of_the_paper() -> Family {
-    vec![plan_bytes(&plan_a()), vec![0; HEADER_WORDS], Vec::new(), vec![MORE, 0]]
+    vec![plan_bytes(&plan_a()), vec![0; HEADER_WORDS], Vec::new(), vec![MORE, 0], first_bytes(&plan_a())]
 }
 
 /// Plan A cut at each place, and with each byte replaced, taken out, or another put before it.
@@ -227,16 +237,16 @@ fn around_the_largest() -> Family {
     family
 }
 
-/// A table of any words, of so many links, streams and legs at the most.
-fn any_table(chance: &mut Chance, most: [u32; 3]) -> Vec<u32> {
-    let [links, streams, legs] = most.map(|most| chance.from_to(0, most));
-    let header = [chance.any_size(), links, streams, legs, chance.from_to(0, LIMITS.precision)];
-    let rest = (HEADER_WORDS as u64..table_words(&header)).map(|_| chance.any_size());
-    header.into_iter().chain(rest.collect::<Vec<_>>()).collect()
+fn largest_of_any(chance: &mut Chance) -> Vec<u32> {
+    any_table(chance, Layout::Second, [LIMITS.links, LIMITS.streams, LIMITS.legs])
 }
 
 fn damaged_bytes(chance: &mut Chance) -> Vec<u8> {
-    let mut bytes = if chance.one_in(2) { plan_bytes(&small(chance)) } else { encoded(&any_table(chance, [4, 4, 6])) };
+    let mut bytes = match chance.below(8) {
+        0..=3 => plan_bytes(&small(chance)),
+        4 => first_bytes(&small(chance)),
+        _ => encoded(&any_table(chance, Layout::Second, [4, 4, 6])),
+    };
     for _ in 0..chance.of(&[1, 1, 1, 2, 3]) {
         damage_bytes(chance, &mut bytes);
     }
@@ -295,9 +305,10 @@ fn each_cause() -> Family {
         |plan| plan.links[1].propagation = LIMITS.propagation + 1,
         |plan| plan.links[1] = plan.links[0],
     ];
-    let of_streams: [fn(&mut Plan); 7] = [
+    let of_streams: [fn(&mut Plan); 8] = [
         |plan| plan.streams[1].period = LIMITS.period.1 + 1,
-        |plan| plan.streams[1].deadline = u32::MAX,
+        |plan| plan.streams[1].deadline = 0,
+        |plan| plan.streams[1].deadline = longest_deadline(plan.streams[1].period).saturating_add(1),
         |plan| plan.streams[1].octets = LIMITS.octets.0 - 1,
         |plan| plan.streams[1].first_leg -= 1,
         |plan| plan.streams[1].leg_count = 0,
@@ -305,9 +316,10 @@ fn each_cause() -> Family {
         |plan| plan.streams[1].leg_count += 1,
     ];
     // Leg 1 is the second one of its route.
-    let of_legs: [fn(&mut Plan); 4] = [
+    let of_legs: [fn(&mut Plan); 5] = [
         |plan| plan.legs[1].stream += 1,
         |plan| plan.legs[1].link += 1,
+        |plan| plan.legs[1].periods = LIMITS.periods + 1,
         |plan| plan.links[1].from = plan.links[1].to + 1,
         |plan| plan.links[1].to = plan.links[0].from,
     ];
@@ -320,6 +332,29 @@ fn each_cause() -> Family {
             faults[other](&mut plan);
             faults[one](&mut plan);
             family.push(plan_bytes(&plan));
+        }
+    }
+    family
+}
+
+/// Plan A with short and long periods, deadlines within a period and beyond, its legs in time and late, and its second leg
+/// or its third one ns too early.
+fn late_legs() -> Family {
+    let (periods, words) = ([100_000, LIMITS.period.1], [0, 1, LIMITS.periods]);
+    let mut family = Vec::new();
+    for (period, mix) in periods.into_iter().flat_map(|period| (0..27).map(move |mix| (period, mix))) {
+        let mut plan = plan_a();
+        plan.streams.iter_mut().for_each(|stream| stream.period = period);
+        for (leg, power) in plan.legs.iter_mut().zip([1, 3, 9]) {
+            leg.periods = words[mix / power % 3];
+        }
+        let due = plan.streams[0].deadline;
+        for deadline in [due, due + period - 1, due + period, longest_deadline(period)] {
+            for (second, third) in [(1_176, 672), (1_175, 672), (1_176, 671)] {
+                plan.streams[0].deadline = deadline;
+                (plan.legs[1].offset, plan.legs[2].offset) = (second, third);
+                family.push(plan_bytes(&plan));
+            }
         }
     }
     family
@@ -341,6 +376,9 @@ fn of_one_word() -> Family {
 /// A plan of some kind with a few legs at the edge of a rule.
 fn at_edges(chance: &mut Chance, kind: impl Fn(&mut Chance) -> Plan) -> Vec<u8> {
     let mut plan = kind(chance);
+    if chance.one_in(4) {
+        reword(chance, &mut plan);
+    }
     for _ in 0..chance.of(&[0, 1, 1, 1, 2, 5]) {
         to_an_edge(chance, &mut plan);
     }

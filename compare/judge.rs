@@ -8,13 +8,18 @@
 //!   cursor CURSOR                   cursor REVISION LEG PLACE
 //!   start PLAN                      granted REVISION LEG PLACE
 //!   slice PLAN CURSOR BUDGET        nothing violated|paused|violated REVISION LEG PLACE steps STEPS [RULE]
-//!   move PLAN CURSOR LEG OFFSET     granted REVISION LEG PLACE, and in a second line the new table
+//!   move PLAN CURSOR LEG OFFSET [PERIODS]
+//!                                   granted REVISION LEG PLACE, and in a second line the new table
+//!   convert FILE LENT               the file of today that this one of the first layout becomes, in so many lent bytes
 //!   places LEGS                     how many places there are
 //!   word PLAN stream 0 octets       which word of the table this is; also word PLAN revision
-//!   plan SEED STREAMS               a table in which nothing is violated, of so many streams or fewer
+//!   plan SEED STREAMS [late]        a table in which nothing is violated, of so many streams or fewer; some of them may pass
+//!                                   the end of their period
 //!   why words|shape|check PLAN      the sentence that the program says on standard error, or none where it does not refuse
 //!   why slice PLAN CURSOR           likewise for a slice: the sentence of the plan, or that of the cursor
-//!   why move PLAN CURSOR LEG OFFSET likewise for a move: the sentence of the plan, of the cursor, or that of the move
+//!   why move PLAN CURSOR LEG OFFSET [PERIODS]
+//!                                   likewise for a move: the sentence of the plan, of the cursor, or that of the move
+//!   why convert FILE                likewise for a file of the first layout
 //!
 //! PLAN and CURSOR are bytes, x0AFF or @FILE, or words, w0,2,2. Each may be refused: refused NUMBER AT. Where the question
 //! is why, words are the file that has them, and bytes of a cursor have to be readable: reasons.rs has no sentence for others.
@@ -177,15 +182,22 @@ fn said_of_call(plan: Given, cursor: &Given, wanted: Option<Move>) -> Asked<Said
     Ok(said())
 }
 
+/// What a move sets: a leg, its offset and its period word, which is 0 where it is not given.
+fn wanted(numbers: &[&str]) -> Asked<Move> {
+    let word = |at: usize| numbers.get(at).map_or(Ok(0), |text| number(text));
+    match numbers.len() {
+        2 | 3 => Ok(Move { leg: word(0)?, offset: word(1)?, periods: word(2)? }),
+        _ => Err("this is no move".to_string()),
+    }
+}
+
 /// The sentence of a refusal, or none.
 fn why(question: &[&str]) -> Asked<String> {
     let given = |at: usize| Given::of(question[at]);
     let said = match question {
         ["slice", _, _] => said_of_call(given(1)?, &given(2)?, None)?,
-        ["move", _, _, leg, offset] => {
-            let wanted = Move { leg: number(leg)?, offset: number(offset)? };
-            said_of_call(given(1)?, &given(2)?, Some(wanted))?
-        }
+        ["move", _, _, numbers @ ..] => said_of_call(given(1)?, &given(2)?, Some(wanted(numbers)?))?,
+        ["convert", _] => reasons::read_first(&Plain, &given(1)?.file()).map(|_| ()),
         [verb, _] => said(&Plain, Verb::named(verb).ok_or("no program of this name")?, &given(1)?.file()),
         _ => return Err("this is no refusal".to_string()),
     };
@@ -223,17 +235,18 @@ fn answer(question: &[&str]) -> Asked<String> {
             let budget = number(budget)?;
             opened(&given(1)?, &given(2)?)?.map(|(plan, cursor)| slice(&plan, cursor, budget))
         }
-        ["move", _, _, leg, offset] => {
-            let wanted = Move { leg: number(leg)?, offset: number(offset)? };
+        ["move", _, _, numbers @ ..] => {
+            let wanted = wanted(numbers)?;
             opened(&given(1)?, &given(2)?)?.and_then(|(plan, cursor)| moved(plan, cursor, wanted))
         }
+        ["convert", _, lent] => Plain.converted(&given(1)?.file(), number(lent)? as usize).map(shown),
         ["word", _, name @ ..] => match given(1)?.plan() {
             Ok(plan) => Ok(index(&plan, name)?),
             Err(refusal) => Err(refusal),
         },
-        ["plan", seed, streams] => {
-            let plan =
-                drafts::accepted(&mut Chance::new(seed.parse().map_err(|_| "no seed")?, 0), number(streams)? as usize);
+        ["plan", seed, streams, late @ ..] if matches!(late, [] | ["late"]) => {
+            let mut chance = Chance::new(seed.parse().map_err(|_| "no seed")?, 0);
+            let plan = drafts::accepted(&mut chance, number(streams)? as usize, !late.is_empty());
             Ok(format!("w{}\n", joined(&plan.words(), ",")))
         }
         ["why", refused @ ..] => Ok(why(refused)?),

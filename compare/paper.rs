@@ -1,4 +1,4 @@
-//! The numbers and names of document 01. Each stands here, and nowhere else in this folder.
+//! The numbers and names of document 01, and of the requests that changed it. Each stands here, and nowhere else in this folder.
 
 // ---- Numbers as bytes
 
@@ -13,7 +13,9 @@ pub const NUMBER_BYTES: usize = 5;
 pub const HEADER_WORDS: usize = 5;
 pub const LINK_WORDS: usize = 4;
 pub const STREAM_WORDS: usize = 5;
-pub const LEG_WORDS: usize = 3;
+pub const LEG_WORDS: usize = 4;
+/// In the first layout, in which a leg has no period word.
+pub const FIRST_LEG_WORDS: usize = 3;
 pub const CURSOR_WORDS: usize = 3;
 /// A lent buffer of so many bytes has room for every cursor.
 pub const CURSOR_BYTES: usize = CURSOR_WORDS * NUMBER_BYTES;
@@ -33,11 +35,14 @@ pub struct Limits {
     pub rates: &'static [u32],
     pub propagation: u32,
     pub period: (u32, u32),
-    /// The period is its most.
     pub deadline_least: u32,
+    /// The most of a deadline, in periods.
+    pub deadline_periods: u32,
     pub octets: (u32, u32),
     /// Of the legs of one stream.
     pub route: (u32, u32),
+    /// Of the whole periods that a leg lies late.
+    pub periods: u32,
 }
 
 pub const LIMITS: Limits = Limits {
@@ -51,8 +56,10 @@ pub const LIMITS: Limits = Limits {
     propagation: 100_000,
     period: (1, 1_000_000_000),
     deadline_least: 1,
+    deadline_periods: 8,
     octets: (64, 1_522),
     route: (1, 8),
+    periods: 7,
 };
 
 // ---- Times
@@ -109,3 +116,4 @@ pub const ENDS_EARLY: u32 = 12;
 pub const BAD_FORM: u32 = 13;
 pub const LEFT_OVER: u32 = 14;
 pub const NO_ROOM: u32 = 15;
+pub const TOO_LATE: u32 = 17;

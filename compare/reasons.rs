@@ -2,10 +2,10 @@
 //! one in the order of this file is told.
 
 use crate::check::{places_of, Checker};
-use crate::format::{Cursor, Leg, Link, Move, Numbers, Plan, Refusal, Stream};
+use crate::format::{Cursor, Layout, Leg, Link, Move, Numbers, Plan, Refusal, Stream};
 use crate::paper::{
     ABOVE_LIMIT, BAD_FORM, ENDS_EARLY, HEADER_WORDS, LAST_REVISION, LEFT_OVER, LEG_WRONG, LINK_RANGE, LINK_TWICE, MORE,
-    NO_LEG, NO_PLACE, NUMBER_BYTES, STALE, STREAM_WRONG,
+    NO_LEG, NO_PLACE, NUMBER_BYTES, STALE, STREAM_WRONG, TOO_LATE,
 };
 
 /// What is given where nothing is refused, or the sentence of the refusal.
@@ -16,7 +16,12 @@ type Causes = Vec<Option<String>>;
 
 /// The plan of a file: refusals 12, 13, 2 and 14.
 pub fn read<C: Checker>(c: &C, bytes: &[u8]) -> Said<Plan> {
-    c.read_plan(bytes).map_err(|refusal| c.unread(bytes, refusal))
+    c.read_plan(bytes).map_err(|refusal| c.unread(bytes, Layout::Second, refusal))
+}
+
+/// Likewise of a file of the first layout.
+pub fn read_first<C: Checker>(c: &C, bytes: &[u8]) -> Said<Plan> {
+    c.read_first(bytes).map_err(|refusal| c.unread(bytes, Layout::First, refusal))
 }
 
 /// Whether a plan is well-formed: refusals 4 to 7.
@@ -29,7 +34,7 @@ pub fn fits<C: Checker>(c: &C, plan: &Plan, cursor: Cursor) -> Said<()> {
     c.fits(plan, cursor).map_err(|refusal| misplaced(plan, cursor, refusal))
 }
 
-/// Whether a leg can be moved, by a cursor that fits: refusals 10 and 11.
+/// Whether a leg can be moved, by a cursor that fits: refusals 10, 11 and 17.
 pub fn moved<C: Checker>(c: &C, plan: &Plan, cursor: Cursor, wanted: Move) -> Said<()> {
     let refusal = c.moved(&mut plan.clone(), cursor, wanted).err();
     refusal.map_or(Ok(()), |refusal| Err(unmoved(c, plan, wanted, refusal)))
@@ -88,19 +93,23 @@ const HEADER: [&str; HEADER_WORDS] =
 const RECORDS: [(&str, &[&str]); 3] = [
     ("link", &["from node", "to node", "ns per octet", "propagation"]),
     ("stream", &["period", "deadline", "octet count", "first leg", "leg count"]),
-    ("leg", &["stream", "link", "offset"]),
+    ("leg", &["stream", "link", "offset", "period word"]),
 ];
+
+/// What is said besides of a file that may be of the first layout. Nothing is decided by this.
+const FIRST_HINT: &str = ", but not in the first layout: see 'conepalhui help convert'";
 
 /// How many numbers there are, in words.
 const IN_WORDS: [&str; 8] = ["no", "one", "two", "three", "four", "five", "six", "seven"];
 
-/// The name of the number with so many before it, in a file with this header.
-pub fn name<C: Checker>(_: &C, header: &[u32; HEADER_WORDS], before: usize) -> String {
+/// The name of the number with so many before it, in a file of this layout and with this header.
+pub fn name<C: Checker>(_: &C, layout: Layout, header: &[u32; HEADER_WORDS], before: usize) -> String {
     if let Some(name) = HEADER.get(before) {
         return name.to_string();
     }
     let mut at = before - HEADER_WORDS;
-    for ((record, words), &count) in RECORDS.iter().zip(&header[1..]) {
+    for (&(record, words), &count) in RECORDS.iter().zip(&header[1..]) {
+        let words = if record == "leg" { &words[..layout.leg_words()] } else { words };
         let numbers = words.len() * count as usize;
         if at < numbers {
             return format!("the {} of {} {}", words[at % words.len()], record, at / words.len());
@@ -116,9 +125,17 @@ fn header<C: Checker>(c: &C, bytes: &[u8]) -> [u32; HEADER_WORDS] {
 }
 
 /// The name of the number that begins at a byte. Each number before it has just one byte that says that no other follows.
-fn name_at<C: Checker>(c: &C, bytes: &[u8], at: usize) -> String {
-    let before = bytes.iter().take(at).filter(|byte| **byte & MORE == 0).count();
-    c.name(&header(c, bytes), before)
+fn name_at<C: Checker>(c: &C, bytes: &[u8], layout: Layout, at: usize) -> String {
+    c.name(layout, &header(c, bytes), numbers_in(&bytes[..at.min(bytes.len())]))
+}
+
+fn numbers_in(bytes: &[u8]) -> usize {
+    bytes.iter().filter(|byte| **byte & MORE == 0).count()
+}
+
+/// Whether a file that is too short for today's layout has as many numbers as one of the first layout.
+pub fn ends_in_first<C: Checker>(c: &C, bytes: &[u8]) -> bool {
+    numbers_in(bytes) as u64 == Layout::First.table_words(&header(c, bytes))
 }
 
 /// Whether a number of a bad form has a last byte that it does not need. Otherwise its fifth byte is too high.
@@ -126,27 +143,32 @@ pub fn is_too_long<C: Checker>(_: &C, bytes: &[u8], at: usize) -> bool {
     bytes.iter().skip(at).take(NUMBER_BYTES).find(|byte| **byte & MORE == 0) == Some(&0)
 }
 
-pub fn unread<C: Checker>(c: &C, bytes: &[u8], refusal: Refusal) -> String {
+pub fn unread<C: Checker>(c: &C, bytes: &[u8], layout: Layout, refusal: Refusal) -> String {
     let (at, end) = (refusal.at, bytes.len());
+    let name = || name_at(c, bytes, layout, at);
     match refusal.number {
         ENDS_EARLY if end == 0 => {
             format!("the file is empty, but a plan begins with {} numbers", IN_WORDS[HEADER_WORDS])
         }
         ENDS_EARLY if at >= end => {
-            format!("the file ends too early: {} is due at byte {}", name_at(c, bytes, at), at)
+            let hint = if c.ends_in_first(bytes) { FIRST_HINT } else { "" };
+            format!("the file ends too early: {} is due at byte {}{}", name(), at, hint)
         }
         ENDS_EARLY => {
-            format!("the file ends too early, inside {}, which begins at byte {}", name_at(c, bytes, at), at)
+            format!("the file ends too early, inside {}, which begins at byte {}", name(), at)
         }
         BAD_FORM if c.is_too_long(bytes, at) => {
-            format!("{}, at byte {}, is written in more bytes than it needs", name_at(c, bytes, at), at)
+            format!("{}, at byte {}, is written in more bytes than it needs", name(), at)
         }
         BAD_FORM if bytes.get(at + NUMBER_BYTES - 1).map_or(false, |byte| byte & MORE != 0) => {
-            format!("{}, at byte {}, takes more than {} bytes", name_at(c, bytes, at), at, IN_WORDS[NUMBER_BYTES])
+            format!("{}, at byte {}, takes more than {} bytes", name(), at, IN_WORDS[NUMBER_BYTES])
         }
-        BAD_FORM => format!("{}, at byte {}, is above {}", name_at(c, bytes, at), at, u32::MAX),
+        BAD_FORM => format!("{}, at byte {}, is above {}", name(), at, u32::MAX),
         ABOVE_LIMIT => the_one_told(c, ABOVE_LIMIT, above_limits(c, &header(c, bytes))),
-        LEFT_OVER => format!("by its header the plan has {} bytes, but the file has more", at),
+        LEFT_OVER => {
+            let by = if layout == Layout::First { " in the first layout" } else { "" };
+            format!("by its header the plan has {} bytes{}, but the file has more", at, by)
+        }
         other => unreachable!("the reader does not give refusal {}", other),
     }
 }
@@ -222,10 +244,12 @@ fn stream_wrong<C: Checker>(c: &C, at: usize, plan: &Plan) -> Causes {
     let stream = &plan.streams[at];
     let Stream { period, deadline, octets, first_leg, leg_count } = *stream;
     let (limits, before, legs) = (c.limits(), c.legs_before(plan, at), plan.legs.len());
+    // As far as a word holds it.
+    let longest = limits.deadline_periods.saturating_mul(period);
     vec![
         missed(limits.period, period)
             .map(|periods| format!("stream {} has a period of {} ns, but periods are {} ns", at, period, periods)),
-        missed((limits.deadline_least, period), deadline).map(|deadlines| {
+        missed((limits.deadline_least, longest), deadline).map(|deadlines| {
             format!("stream {} has a deadline of {} ns, but its period allows {} ns", at, deadline, deadlines)
         }),
         missed(limits.octets, octets)
@@ -261,7 +285,7 @@ pub fn met<C: Checker>(_: &C, plan: &Plan, first: usize, leg: usize) -> Vec<u32>
 }
 
 fn leg_wrong<C: Checker>(c: &C, at: usize, plan: &Plan) -> Causes {
-    let (Leg { stream, link, .. }, owner) = (plan.legs[at], c.owner(plan, at));
+    let (Leg { stream, link, periods, .. }, owner) = (plan.legs[at], c.owner(plan, at));
     let met = c.met(plan, plan.streams[owner].first_leg as usize, at);
     let taken = plan.links.get(link as usize);
     let links = || numbered_or_none(c, "links", plan.links.len());
@@ -277,6 +301,8 @@ fn leg_wrong<C: Checker>(c: &C, at: usize, plan: &Plan) -> Causes {
             format!("leg {} names stream {}, but by the leg counts it is a leg of stream {}", at, stream, owner)
         }),
         taken.is_none().then(|| format!("leg {} names link {}, but {}", at, link, links())),
+        missed((0, c.limits().periods), periods)
+            .map(|words| format!("leg {} has the period word {}, but period words are {}", at, periods, words)),
         taken.and_then(from_elsewhere),
         taken
             .filter(|taken| met.contains(&taken.to))
@@ -308,6 +334,9 @@ fn unmoved<C: Checker>(c: &C, plan: &Plan, wanted: Move, refusal: Refusal) -> St
             format!("there is no leg {}: {}", wanted.leg, numbered_or_none(c, "legs", plan.legs.len()))
         }
         LAST_REVISION => format!("the plan has revision {}, the last one: no move is possible", plan.revision),
+        TOO_LATE => {
+            format!("the period word is {}, but period words are 0 to {}", wanted.periods, c.limits().periods)
+        }
         other => unreachable!("a move does not meet refusal {}", other),
     }
 }

@@ -1,7 +1,7 @@
 //! The rules. Every time is in ns; sums are made in 64 bits.
 
 use crate::check::Checker;
-use crate::format::{Leg, Plan, Stream};
+use crate::format::Plan;
 use crate::paper::{GAP, PREAMBLE};
 
 /// What the rules have to know of one leg.
@@ -30,18 +30,21 @@ pub fn hold_time<C: Checker>(_: &C, octets: u32, ns_per_octet: u32) -> u64 {
     (u64::from(octets) + u64::from(PREAMBLE) + u64::from(GAP)) * u64::from(ns_per_octet)
 }
 
-/// When a leg starts, as hop and deadline count. That is its offset.
-pub fn start(leg: &Leg, _: &Stream) -> u64 {
-    u64::from(leg.offset)
+/// When a leg starts, as hop and deadline count: at its offset, as many periods of its stream later as it lies late.
+#[inline]
+pub fn start<C: Checker>(_: &C, plan: &Plan, leg: usize) -> u64 {
+    let leg = &plan.legs[leg];
+    let period = plan.streams[leg.stream as usize].period;
+    u64::from(leg.offset) + u64::from(leg.periods) * u64::from(period)
 }
 
 #[inline]
-pub fn sent<C: Checker>(c: &C, plan: &Plan, leg: usize) -> Sent {
-    let leg = &plan.legs[leg];
+pub fn sent<C: Checker>(c: &C, plan: &Plan, number: usize) -> Sent {
+    let leg = &plan.legs[number];
     let (stream, link) = (&plan.streams[leg.stream as usize], &plan.links[leg.link as usize]);
     Sent {
         offset: u64::from(leg.offset),
-        start: start(leg, stream),
+        start: c.start(plan, number),
         wire: c.wire_time(stream.octets, link.ns_per_octet),
         hold: c.hold_time(stream.octets, link.ns_per_octet),
         propagation: u64::from(link.propagation),

@@ -58,7 +58,8 @@ pub fn stream_in_range<C: Checker>(c: &C, stream: &Stream) -> bool {
     let within = |(least, most): (u32, u32), word: u32| least <= word && word <= most;
     let limits = c.limits();
     within(limits.period, stream.period)
-        && within((limits.deadline_least, stream.period), stream.deadline)
+        && limits.deadline_least <= stream.deadline
+        && u64::from(stream.deadline) <= u64::from(limits.deadline_periods) * u64::from(stream.period)
         && within(limits.octets, stream.octets)
         && within(limits.route, stream.leg_count)
 }
@@ -71,7 +72,7 @@ pub fn legs<C: Checker>(c: &C, plan: &Plan) -> Outcome<()> {
         let first = stream.first_leg as usize;
         for at in first..first + stream.leg_count as usize {
             let leg = &plan.legs[at];
-            if !c.names_right(plan, leg, number as u32) {
+            if !c.leg_in_range(plan, leg, number as u32) {
                 return refused(LEG_WRONG, at);
             }
             let link = &plan.links[leg.link as usize];
@@ -86,9 +87,9 @@ pub fn legs<C: Checker>(c: &C, plan: &Plan) -> Outcome<()> {
     Ok(())
 }
 
-/// Whether a leg of this stream names it, and a link that is there.
-pub fn names_right<C: Checker>(_: &C, plan: &Plan, leg: &Leg, stream: u32) -> bool {
-    leg.stream == stream && (leg.link as usize) < plan.links.len()
+/// Whether a leg of this stream names it, and a link that is there, and lies no more periods late than any may.
+pub fn leg_in_range<C: Checker>(c: &C, plan: &Plan, leg: &Leg, stream: u32) -> bool {
+    leg.stream == stream && (leg.link as usize) < plan.links.len() && leg.periods <= c.limits().periods
 }
 
 /// Whether a route that has met these nodes goes on over a link: from the last of them, to none of them.

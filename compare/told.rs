@@ -1,7 +1,7 @@
 //! What the programs print of a plan, or of the refusal that its file met, and what they say of that refusal.
 
 use crate::check::{whole, Checker};
-use crate::format::{Outcome, Plan, Refusal};
+use crate::format::{Layout, Outcome, Plan, Refusal};
 use crate::paper::VIOLATED;
 use crate::reasons::{self, Said};
 
@@ -53,7 +53,7 @@ pub fn joined(numbers: &[u32], between: &str) -> String {
 
 /// The words of a table, a record in each line.
 pub fn words(plan: &Plan) -> String {
-    plan.records().iter().map(|record| joined(record, " ") + "\n").collect()
+    plan.records(Layout::Second).iter().map(|record| joined(record, " ") + "\n").collect()
 }
 
 /// The name of the rule that gave a result.

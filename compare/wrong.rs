@@ -2,14 +2,17 @@
 //! groups have to be caught by what the programs print, too. Those of the last group say something wrong of a refusal, and
 //! have to be caught by what the programs say on standard error.
 
-use crate::check::{self, begin, next, packed, places_before, places_of, rule_at, Bent, Checker, Plain, Sliced, RIGHT};
+use crate::check::{
+    self, begin, next, packed, places_before, places_of, rule_at, Bent, Checker, Lent, Plain, Sliced, RIGHT,
+};
 use crate::format::{
-    self, plan_bytes, refused, table_words, Cursor, Link, Move, Numbers, Outcome, Plan, Refusal, Stream,
+    self, plan_bytes, refused, Cursor, Layout, Leg, Link, Move, Numbers, Outcome, Plan, Refusal, Stream,
 };
 use crate::paper::{
     Limits, ABOVE_LIMIT, BAD_FORM, CURSOR_BYTES, DEADLINE, ENDS_EARLY, GAP, GROUP_BITS, HEADER_WORDS, HOP,
-    LAST_REVISION, LEFT_OVER, LEG_WRONG, LIMITS, LINK_RANGE, LINK_TWICE, MORE, NOTHING_VIOLATED, NO_PLACE, NO_ROOM,
-    NUMBER_BYTES, OVERLAP, OVERLAPS, PAUSED, PREAMBLE, REFUSED, RULES, STREAM_WRONG, VIOLATED, WINDOW,
+    LAST_REVISION, LEFT_OVER, LEG_WRONG, LIMITS, LINK_RANGE, LINK_TWICE, MORE, NOTHING_VIOLATED, NO_LEG, NO_PLACE,
+    NO_ROOM, NUMBER_BYTES, OVERLAP, OVERLAPS, PAUSED, PREAMBLE, REFUSED, RULES, STALE, STREAM_WRONG, TOO_LATE,
+    VIOLATED, WINDOW,
 };
 use crate::reasons;
 use crate::rules::{self, arrival, divisor, sent, Sent};
@@ -54,15 +57,23 @@ fn moved_limits(limits: &[Limit]) -> Vec<Wrong> {
     moved
 }
 
+/// The right reader of a layout.
+fn read_in(c: &Bent, bytes: &[u8], layout: Layout) -> Outcome<Plan> {
+    match layout {
+        Layout::First => format::read_first(c, bytes),
+        Layout::Second => format::read_plan(c, bytes),
+    }
+}
+
 /// Reads on after a header above a limit, and lets some refusals come before that.
-fn read_on(c: &Bent, bytes: &[u8], first: &[u32]) -> Outcome<Plan> {
-    let right = format::read_plan(c, bytes);
+fn read_on(c: &Bent, bytes: &[u8], layout: Layout, first: &[u32]) -> Outcome<Plan> {
+    let right = read_in(c, bytes, layout);
     if !matches!(right, Err(Refusal { number: ABOVE_LIMIT, .. })) {
         return right;
     }
     let mut numbers = Numbers { checker: c, bytes, at: 0 };
     let header: [u32; HEADER_WORDS] = numbers.record()?;
-    for _ in HEADER_WORDS as u64..table_words(&header) {
+    for _ in HEADER_WORDS as u64..layout.table_words(&header) {
         if let Err(refusal) = numbers.next() {
             return if first.contains(&refusal.number) { Err(refusal) } else { right };
         }
@@ -70,6 +81,31 @@ fn read_on(c: &Bent, bytes: &[u8], first: &[u32]) -> Outcome<Plan> {
     match c.plan_ends(numbers.at, bytes.len()) {
         Err(refusal) if first.contains(&refusal.number) => Err(refusal),
         _ => right,
+    }
+}
+
+/// The reader of a layout, but that a file which it refuses is read in the other one.
+fn in_either(c: &Bent, bytes: &[u8], layout: Layout) -> Outcome<Plan> {
+    let other = if layout == Layout::First { Layout::Second } else { Layout::First };
+    read_in(c, bytes, layout).or_else(|refusal| read_in(c, bytes, other).or(Err(refusal)))
+}
+
+/// What was read, with other words in its legs. Each is made from the plan and the leg.
+fn with_legs(read: Outcome<Plan>, other: fn(&Plan, &Leg) -> Leg) -> Outcome<Plan> {
+    read.map(|plan| Plan { legs: plan.legs.iter().map(|leg| other(&plan, leg)).collect(), ..plan.clone() })
+}
+
+fn exchanged(leg: &Leg) -> Leg {
+    Leg { offset: leg.periods, periods: leg.offset, ..*leg }
+}
+
+/// A leg whose offset lies below its period, by its period word. A leg of no stream stays.
+fn carried(plan: &Plan, leg: &Leg) -> Leg {
+    match plan.streams.get(leg.stream as usize) {
+        Some(&Stream { period, .. }) if period > 0 => {
+            Leg { offset: leg.offset % period, periods: leg.periods.wrapping_add(leg.offset / period), ..*leg }
+        }
+        _ => *leg,
     }
 }
 
@@ -115,9 +151,16 @@ pub fn readers() -> Vec<Wrong> {
         wrong("12 for a fifth byte above 0F that ends the bytes", |c| c.number = twelve_for_fifth),
         wrong("a fifth byte up to 1F taken", |c| c.limits.last_byte = 0x1F),
         wrong("a fifth byte of 0F refused", |c| c.limits.last_byte = 0x0E),
-        wrong("12 and 13 before 2", |c| c.read_plan = |c, bytes| read_on(c, bytes, &[ENDS_EARLY, BAD_FORM])),
-        wrong("14 before 2", |c| c.read_plan = |c, bytes| read_on(c, bytes, &[LEFT_OVER])),
+        wrong("12 and 13 before 2", |c| {
+            c.read_plan = |c, bytes| read_on(c, bytes, Layout::Second, &[ENDS_EARLY, BAD_FORM])
+        }),
+        wrong("14 before 2", |c| c.read_plan = |c, bytes| read_on(c, bytes, Layout::Second, &[LEFT_OVER])),
         wrong("bytes left over after a plan taken", |c| c.plan_ends = |_, _, _| Ok(())),
+        wrong("legs without their period words read", |c| c.read_plan = format::read_first),
+        wrong("a plan in either layout taken", |c| c.read_plan = |c, bytes| in_either(c, bytes, Layout::Second)),
+        wrong("the period word read before the offset", |c| {
+            c.read_plan = |c, bytes| with_legs(format::read_plan(c, bytes), |_, leg| exchanged(leg))
+        }),
     ];
     readers.extend(moved_limits(&[
         ("the most links", |limits| &mut limits.links, EACH_WAY),
@@ -181,12 +224,17 @@ fn sum_first(plan: &Plan) -> Outcome<()> {
     refused_at(STREAM_WRONG, (sum != plan.legs.len() as u64).then_some(plan.streams.len()))
 }
 
+/// The longest deadline that the period of a stream allows, where a word holds it.
+fn longest_deadline(stream: &Stream) -> u64 {
+    u64::from(LIMITS.deadline_periods) * u64::from(stream.period)
+}
+
 /// The first leg of the stream of this leg, where the leg's fault is one of its route.
 fn route_fault(plan: &Plan, at: usize) -> Option<usize> {
     let leg = &plan.legs[at];
     let holder = |stream: &Stream| (stream.first_leg..stream.first_leg + stream.leg_count).contains(&(at as u32));
     let number = plan.streams.iter().position(holder)?;
-    Plain.names_right(plan, leg, number as u32).then_some(plan.streams[number].first_leg as usize)
+    Plain.leg_in_range(plan, leg, number as u32).then_some(plan.streams[number].first_leg as usize)
 }
 
 /// Refusal 7, but that a fault of a route stands elsewhere, which is told from the leg and the first one of its route.
@@ -197,15 +245,31 @@ fn route_at(plan: &Plan, elsewhere: fn(usize, usize) -> usize) -> Outcome<()> {
     })
 }
 
-fn names_first(plan: &Plan) -> Outcome<()> {
+fn ranges_of_legs_first(plan: &Plan) -> Outcome<()> {
     for (number, stream) in plan.streams.iter().enumerate() {
         for at in stream.first_leg..stream.first_leg + stream.leg_count {
-            if !Plain.names_right(plan, &plan.legs[at as usize], number as u32) {
+            if !Plain.leg_in_range(plan, &plan.legs[at as usize], number as u32) {
                 return refused(LEG_WRONG, at as usize);
             }
         }
     }
     Plain.legs(plan)
+}
+
+/// The lowest leg that lies too many periods late.
+fn lowest_too_late(plan: &Plan) -> Option<usize> {
+    plan.legs.iter().position(|leg| leg.periods > LIMITS.periods)
+}
+
+/// The plan with the period words of all legs, or of those that are named by the leg and its number, set to 0.
+fn in_time(plan: &Plan, named: impl Fn(&Leg, usize) -> bool) -> Plan {
+    let set = |(at, leg): (usize, &Leg)| Leg { periods: if named(leg, at) { 0 } else { leg.periods }, ..*leg };
+    Plan { legs: plan.legs.iter().enumerate().map(set).collect(), ..plan.clone() }
+}
+
+/// Whether a leg is the first of a stream.
+fn is_first(plan: &Plan, at: usize) -> bool {
+    plan.streams.iter().any(|stream| stream.first_leg as usize == at)
 }
 
 /// A judge with another rule for the end of a link, whose start is right.
@@ -289,8 +353,31 @@ fn of_streams() -> Vec<Wrong> {
     let deadline_after = |c: &Bent, stream: &Stream| {
         shape::stream_in_range(c, &Stream { deadline: stream.deadline.min(stream.period), ..*stream })
     };
-    let deadline_before =
-        |c: &Bent, stream: &Stream| stream.deadline != stream.period && shape::stream_in_range(c, stream);
+    let one_ns_after = |c: &Bent, stream: &Stream| {
+        let (deadline, longest) = (u64::from(stream.deadline), longest_deadline(stream));
+        let nearest = if deadline == longest + 1 { stream.deadline - 1 } else { stream.deadline };
+        shape::stream_in_range(c, &Stream { deadline: nearest, ..*stream })
+    };
+    let longest_refused = |c: &Bent, stream: &Stream| {
+        u64::from(stream.deadline) != longest_deadline(stream) && shape::stream_in_range(c, stream)
+    };
+    let within_the_period =
+        |c: &Bent, stream: &Stream| stream.deadline <= stream.period && shape::stream_in_range(c, stream);
+    let longest_in_32_bits = |c: &Bent, stream: &Stream| {
+        u64::from(stream.deadline) <= in_32_bits(longest_deadline(stream)) && shape::stream_in_range(c, stream)
+    };
+    let longest_in_a_word = |c: &Bent, stream: &Stream| {
+        longest_deadline(stream) <= u64::from(u32::MAX) && shape::stream_in_range(c, stream)
+    };
+    let by_the_latest_leg = |c: &Bent, plan: &Plan| {
+        shape::streams(c, plan)?;
+        let is_longer = |stream: &Stream| {
+            let legs = &plan.legs[stream.first_leg as usize..][..stream.leg_count as usize];
+            let latest = legs.iter().map(|leg| leg.periods).max().unwrap_or(0);
+            u64::from(stream.deadline) > (u64::from(latest) + 1) * u64::from(stream.period)
+        };
+        refused_at(STREAM_WRONG, plan.streams.iter().position(is_longer))
+    };
     let legs_unused = |c: &Bent, plan: &Plan| match shape::streams(c, plan) {
         Err(refusal) if refusal.at == plan.streams.len() => Ok(()),
         right => right,
@@ -309,8 +396,13 @@ fn of_streams() -> Vec<Wrong> {
         wrong("7 before counts below G", |c| c.judge = seven_before_sum),
         wrong("6 for all ranges before the first legs", |c| c.streams = ranges_first),
         wrong("any first leg taken", |c| c.streams = |c, plan| shape::streams(c, &first_legs_mended(plan))),
-        wrong("a deadline after the period taken", |c| c.stream_in_range = deadline_after),
-        wrong("a deadline as long as the period refused", |c| c.stream_in_range = deadline_before),
+        wrong("a deadline of any length taken", |c| c.stream_in_range = deadline_after),
+        wrong("a deadline one ns after 8 periods taken", |c| c.stream_in_range = one_ns_after),
+        wrong("a deadline of 8 periods refused", |c| c.stream_in_range = longest_refused),
+        wrong("a deadline after the period refused", |c| c.stream_in_range = within_the_period),
+        wrong("8 periods counted in 32 bits", |c| c.stream_in_range = longest_in_32_bits),
+        wrong("a period of which a word does not hold 8 refused", |c| c.stream_in_range = longest_in_a_word),
+        wrong("a deadline after the period of the latest leg refused", |c| c.streams = by_the_latest_leg),
         wrong("counts below G taken", |c| c.streams = legs_unused),
         wrong("counts below G at 0", |c| c.streams = |c, plan| sum_at(c, plan, 0)),
         wrong("counts below G at the last stream", |c| {
@@ -326,6 +418,7 @@ fn of_streams() -> Vec<Wrong> {
         ("the least period", |limits| &mut limits.period.0, [false, true]),
         ("the longest period", |limits| &mut limits.period.1, EACH_WAY),
         ("the least deadline", |limits| &mut limits.deadline_least, EACH_WAY),
+        ("the periods of the longest deadline", |limits| &mut limits.deadline_periods, EACH_WAY),
         ("the fewest octets", |limits| &mut limits.octets.0, EACH_WAY),
         ("the most octets", |limits| &mut limits.octets.1, EACH_WAY),
         ("the fewest legs of a stream", |limits| &mut limits.route.0, EACH_WAY),
@@ -334,18 +427,63 @@ fn of_streams() -> Vec<Wrong> {
     of_streams
 }
 
+/// Judges that are wrong in the period words of legs.
+fn of_period_words() -> Vec<Wrong> {
+    let before_the_rest =
+        |_: &Bent, plan: &Plan| refused_at(LEG_WRONG, lowest_too_late(plan)).and_then(|_| Plain.legs(plan));
+    let after_the_rest = |_: &Bent, plan: &Plan| {
+        Plain.legs(&in_time(plan, |_, _| true))?;
+        refused_at(LEG_WRONG, lowest_too_late(plan))
+    };
+    let of_the_stream = |_: &Bent, plan: &Plan| match lowest_too_late(plan) {
+        Some(at) if Plain.judge(plan) == refused(LEG_WRONG, at) => refused(STREAM_WRONG, plan.legs[at].stream as usize),
+        _ => Plain.judge(plan),
+    };
+    let never_back = |_: &Bent, plan: &Plan| {
+        Plain.legs(plan)?;
+        let is_back = |at: &usize| !is_first(plan, *at) && plan.legs[*at].periods < plan.legs[at - 1].periods;
+        refused_at(LEG_WRONG, (1..plan.legs.len()).find(is_back))
+    };
+    let first_in_time = |_: &Bent, plan: &Plan| {
+        Plain.legs(plan)?;
+        refused_at(LEG_WRONG, (0..plan.legs.len()).find(|&at| is_first(plan, at) && plan.legs[at].periods > 0))
+    };
+    let mut of_period_words = vec![
+        wrong("a period word of 8 taken in a plan", |c| {
+            c.legs = |_, plan| Plain.legs(&in_time(plan, |leg, _| leg.periods == LIMITS.periods + 1))
+        }),
+        wrong("a period word of any size taken", |c| c.legs = |_, plan| Plain.legs(&in_time(plan, |_, _| true))),
+        wrong("the period words of first legs not judged", |c| {
+            c.legs = |_, plan| Plain.legs(&in_time(plan, |_, at| is_first(plan, at)))
+        }),
+        wrong("the period words of first legs alone judged", |c| {
+            c.legs = |_, plan| Plain.legs(&in_time(plan, |_, at| !is_first(plan, at)))
+        }),
+        wrong("period words judged by their low byte", |c| {
+            c.legs = |_, plan| Plain.legs(&in_time(plan, |leg, _| leg.periods & 0xFF <= LIMITS.periods))
+        }),
+        wrong("a period word of a first leg refused", |c| c.legs = first_in_time),
+        wrong("a period word below that of the leg before refused", |c| c.legs = never_back),
+        wrong("7 for a period word before all else of legs", |c| c.legs = before_the_rest),
+        wrong("7 for a period word after all else of legs", |c| c.legs = after_the_rest),
+        wrong("6 for a period word", |c| c.judge = of_the_stream),
+    ];
+    of_period_words.extend(moved_limits(&[("the highest period word", |limits| &mut limits.periods, EACH_WAY)]));
+    of_period_words
+}
+
 fn of_legs() -> Vec<Wrong> {
-    let any_stream = |c: &Bent, plan: &Plan, leg: &format::Leg, stream: u32| {
+    let any_stream = |c: &Bent, plan: &Plan, leg: &Leg, stream: u32| {
         let own = if (leg.stream as usize) < plan.streams.len() { stream } else { u32::MAX };
-        shape::names_right(c, plan, &format::Leg { stream: own, ..*leg }, stream)
+        shape::leg_in_range(c, plan, &Leg { stream: own, ..*leg }, stream)
     };
     vec![
         wrong("7 for a route at the earlier leg", |c| c.legs = |_, plan| route_at(plan, |at, _| at - 1)),
         wrong("7 for a route at its first leg", |c| c.legs = |_, plan| route_at(plan, |_, first| first)),
-        wrong("7 for all names before the routes", |c| c.legs = |_, plan| names_first(plan)),
-        wrong("a leg that names any stream taken", |c| c.names_right = any_stream),
+        wrong("7 for all legs by themselves before the routes", |c| c.legs = |_, plan| ranges_of_legs_first(plan)),
+        wrong("a leg that names any stream taken", |c| c.leg_in_range = any_stream),
         wrong("a leg with any word for its stream taken", |c| {
-            c.names_right = |_, plan, leg, _| (leg.link as usize) < plan.links.len()
+            c.leg_in_range = |c, plan, leg, stream| shape::leg_in_range(c, plan, &Leg { stream, ..*leg }, stream)
         }),
         wrong("a route back to its first node taken", |c| c.goes_on = |_, met, link| leads_on(met, link, &[&met[1..]])),
         wrong("a route back to a node in its middle taken", |c| {
@@ -365,7 +503,7 @@ fn of_legs() -> Vec<Wrong> {
 }
 
 pub fn judges() -> Vec<Wrong> {
-    of_links().into_iter().chain(of_streams()).chain(of_legs()).collect()
+    of_links().into_iter().chain(of_streams()).chain(of_legs()).chain(of_period_words()).collect()
 }
 
 // ---- Checkers of the rules
@@ -405,6 +543,20 @@ fn hop(leg: &Sent, previous: Sent, precision: u64) -> bool {
 
 fn due(last: Sent, first: &Sent, precision: u64) -> bool {
     Plain.deadline_holds(&last, first, precision)
+}
+
+/// How many whole periods a leg lies late.
+fn periods_late(leg: &Sent) -> u64 {
+    (leg.start - leg.offset) / u64::from(leg.period)
+}
+
+/// A leg that lies in the first period, and one that starts with the period that it lies in.
+fn in_first_period(leg: &Sent) -> Sent {
+    Sent { start: leg.offset, ..*leg }
+}
+
+fn at_its_period(leg: &Sent) -> Sent {
+    Sent { start: leg.start - leg.offset, ..*leg }
 }
 
 /// A leg that holds its link for its time on the wire alone.
@@ -482,6 +634,72 @@ fn of_times() -> Vec<Wrong> {
         wrong("window with a sum in 32 bits", |c| {
             c.window_holds = |_, leg| in_32_bits(leg.offset + leg.hold) <= u64::from(leg.period)
         }),
+        wrong("window with the period word", |c| {
+            c.window_holds = |_, leg| leg.start + leg.hold <= u64::from(leg.period)
+        }),
+        wrong("window with the period word in ns", |c| {
+            c.window_holds = |_, leg| leg.offset + periods_late(leg) + leg.hold <= u64::from(leg.period)
+        }),
+        wrong("window up to the end of the period that a leg lies in", |c| {
+            c.window_holds = |_, leg| leg.offset + leg.hold <= (periods_late(leg) + 1) * u64::from(leg.period)
+        }),
+    ]
+}
+
+fn stream_of(plan: &Plan, leg: usize) -> &Stream {
+    &plan.streams[plan.legs[leg].stream as usize]
+}
+
+/// When a leg starts, with another word for the periods that it lies late, or another period.
+fn started(plan: &Plan, leg: usize, periods: u32, period: u32) -> u64 {
+    u64::from(plan.legs[leg].offset) + u64::from(periods) * u64::from(period)
+}
+
+fn of_starts() -> Vec<Wrong> {
+    vec![
+        wrong("a start with its sum in 32 bits", |c| c.start = |c, plan, leg| in_32_bits(rules::start(c, plan, leg))),
+        wrong("a start with its product in 32 bits", |c| {
+            c.start = |_, plan, leg| {
+                let late = u64::from(plan.legs[leg].periods) * u64::from(stream_of(plan, leg).period);
+                u64::from(plan.legs[leg].offset) + in_32_bits(late)
+            }
+        }),
+        wrong("a start without its period word", |c| c.start = |_, plan, leg| started(plan, leg, 0, 0)),
+        wrong("a start without the period word of a first leg", |c| {
+            c.start = |c, plan, leg| {
+                if is_first(plan, leg) {
+                    started(plan, leg, 0, 0)
+                } else {
+                    rules::start(c, plan, leg)
+                }
+            }
+        }),
+        wrong("a start with the period word in ns", |c| {
+            c.start = |_, plan, leg| started(plan, leg, plan.legs[leg].periods, 1)
+        }),
+        wrong("a start with the period word of the leg before", |c| {
+            c.start =
+                |_, plan, leg| started(plan, leg, plan.legs[leg.saturating_sub(1)].periods, stream_of(plan, leg).period)
+        }),
+        wrong("a start by the period of the leg before", |c| {
+            c.start =
+                |_, plan, leg| started(plan, leg, plan.legs[leg].periods, stream_of(plan, leg.saturating_sub(1)).period)
+        }),
+        wrong("a start by the period of the leg after", |c| {
+            c.start = |_, plan, leg| {
+                let after = (leg + 1).min(plan.legs.len() - 1);
+                started(plan, leg, plan.legs[leg].periods, stream_of(plan, after).period)
+            }
+        }),
+        wrong("a start by the period of the first stream", |c| {
+            c.start = |_, plan, leg| started(plan, leg, plan.legs[leg].periods, plan.streams[0].period)
+        }),
+        wrong("a start by the deadline in place of the period", |c| {
+            c.start = |_, plan, leg| started(plan, leg, plan.legs[leg].periods, stream_of(plan, leg).deadline)
+        }),
+        wrong("a start at most one period late", |c| {
+            c.start = |_, plan, leg| started(plan, leg, plan.legs[leg].periods.min(1), stream_of(plan, leg).period)
+        }),
     ]
 }
 
@@ -517,6 +735,23 @@ fn of_hops() -> Vec<Wrong> {
                 |_, leg, previous, precision| hop(&Sent { start: leg.start + 1, ..*leg }, *previous, precision)
         }),
         wrong("hop on the first legs of later streams", |c| c.holds = on_each),
+        wrong("hop with a sum in 32 bits", |c| {
+            c.hop_holds = |_, leg, previous, precision| leg.start >= in_32_bits(arrival(previous, precision))
+        }),
+        wrong("hop without the period words", |c| {
+            c.hop_holds = |_, leg, previous, precision| hop(&in_first_period(leg), in_first_period(previous), precision)
+        }),
+        wrong("hop without the period word of the later leg", |c| {
+            c.hop_holds = |_, leg, previous, precision| hop(&in_first_period(leg), *previous, precision)
+        }),
+        wrong("hop without the period word of the earlier leg", |c| {
+            c.hop_holds = |_, leg, previous, precision| hop(leg, in_first_period(previous), precision)
+        }),
+        wrong("hop held wherever the later leg lies more periods late", |c| {
+            c.hop_holds = |_, leg, previous, precision| {
+                periods_late(leg) > periods_late(previous) || hop(leg, *previous, precision)
+            }
+        }),
     ]
 }
 
@@ -552,6 +787,29 @@ fn of_deadlines() -> Vec<Wrong> {
         wrong("deadline at the end of the period", |c| {
             c.deadline_holds =
                 |_, last, first, precision| due(Sent { deadline: u64::from(last.period), ..*last }, first, precision)
+        }),
+        wrong("deadline with sums in 32 bits", |c| {
+            c.deadline_holds = |_, last, first, precision| {
+                in_32_bits(arrival(last, precision)) <= in_32_bits(last.deadline + first.start)
+            }
+        }),
+        wrong("deadline without the period words", |c| {
+            c.deadline_holds =
+                |_, last, first, precision| due(in_first_period(last), &in_first_period(first), precision)
+        }),
+        wrong("deadline without the period word of the first leg", |c| {
+            c.deadline_holds = |_, last, first, precision| due(*last, &in_first_period(first), precision)
+        }),
+        wrong("deadline without the period word of the last leg", |c| {
+            c.deadline_holds = |_, last, first, precision| due(in_first_period(last), first, precision)
+        }),
+        wrong("deadline from the period of the first leg on", |c| {
+            c.deadline_holds = |_, last, first, precision| due(*last, &at_its_period(first), precision)
+        }),
+        wrong("deadline of one period at the most", |c| {
+            c.deadline_holds = |_, last, first, precision| {
+                due(Sent { deadline: last.deadline.min(u64::from(last.period)), ..*last }, first, precision)
+            }
         }),
     ]
 }
@@ -590,6 +848,61 @@ fn by_the_pair_before(plan: &Plan, leg: usize, place: u32) -> bool {
     })
 }
 
+/// The overlap of two legs by another offset for each.
+fn apart_at(a: &Sent, b: &Sent, offset: impl Fn(&Sent) -> u64) -> bool {
+    Plain.apart(&Sent { offset: offset(a), ..*a }, &Sent { offset: offset(b), ..*b })
+}
+
+/// The overlap of repeats from the start of each leg on, up to the first common multiple of the periods. That is right but
+/// where a leg lies late. Where there are too many repeats the right answer is given.
+fn apart_in_one_cycle(a: &Sent, b: &Sent) -> bool {
+    let (a_period, b_period) = (u64::from(a.period), u64::from(b.period));
+    let cycle = a_period / u64::from(divisor(a.period, b.period)) * b_period;
+    if cycle / a_period + cycle / b_period > 3_000 {
+        return Plain.apart(a, b);
+    }
+    let (mut a_start, mut b_start) = (a.start, b.start);
+    while a_start < cycle && b_start < cycle {
+        if a_start + a.hold <= b_start {
+            a_start += a_period;
+        } else if b_start + b.hold <= a_start {
+            b_start += b_period;
+        } else {
+            return false;
+        }
+    }
+    true
+}
+
+/// Of legs that lie late. A whole number of periods of its own, or of the other leg, changes nothing of whether a leg meets
+/// the other, so that some wrong readings cannot be told from the right one, and are none.
+fn of_late_overlaps() -> Vec<Wrong> {
+    let by_the_leg_before = |_: &Bent, plan: &Plan, leg: usize, place: u32| {
+        let frame = |leg: usize| {
+            let sent = sent(&Plain, plan, leg);
+            let period = u64::from(stream_of(plan, leg.saturating_sub(1)).period);
+            Sent { offset: sent.offset + periods_late(&sent) * period, ..sent }
+        };
+        but_for(OVERLAP, plan, leg, place, |other| {
+            plan.legs[leg].link != plan.legs[other].link || Plain.apart(&frame(leg), &frame(other))
+        })
+    };
+    vec![
+        wrong("overlap with the period words in ns", |c| {
+            c.apart = |_, a, b| apart_at(a, b, |leg| leg.offset + periods_late(leg))
+        }),
+        wrong("overlap of legs that lie as late as each other", |c| {
+            c.apart = |_, a, b| periods_late(a) != periods_late(b) || Plain.apart(a, b)
+        }),
+        wrong("overlap by starts in 32 bits", |c| c.apart = |_, a, b| apart_at(a, b, |leg| in_32_bits(leg.start))),
+        wrong("overlap of the starts alone", |c| {
+            c.apart = |_, a, b| a.start + a.hold <= b.start || b.start + b.hold <= a.start
+        }),
+        wrong("overlap from the starts on in one cycle", |c| c.apart = |_, a, b| apart_in_one_cycle(a, b)),
+        wrong("overlap by starts with the period of the leg before", |c| c.holds = by_the_leg_before),
+    ]
+}
+
 fn of_overlaps() -> Vec<Wrong> {
     let absolute = |_: &Bent, a: &Sent, b: &Sent| {
         let difference = a.offset.max(b.offset) - a.offset.min(b.offset);
@@ -622,10 +935,10 @@ fn of_overlaps() -> Vec<Wrong> {
             Plain.apart(&without_gap(a), b)
         }
     };
-    let exchanged =
+    let holds_exchanged =
         |_: &Bent, a: &Sent, b: &Sent| Plain.apart(&Sent { hold: b.hold, ..*a }, &Sent { hold: a.hold, ..*b });
     vec![
-        wrong("overlap with the hold times exchanged", |c| c.apart = exchanged),
+        wrong("overlap with the hold times exchanged", |c| c.apart = holds_exchanged),
         wrong("overlap without the gap", |c| c.apart = |_, a, b| Plain.apart(&without_gap(a), &without_gap(b))),
         wrong("overlap without the gap of the later leg", |c| c.apart = |_, a, b| Plain.apart(&without_gap(a), b)),
         wrong("overlap without the gap of the earlier leg", |c| c.apart = |_, a, b| Plain.apart(a, &without_gap(b))),
@@ -682,24 +995,11 @@ fn of_overlaps() -> Vec<Wrong> {
 }
 
 pub fn checkers() -> Vec<Wrong> {
-    of_the_order().into_iter().chain(of_times()).chain(of_hops()).chain(of_deadlines()).chain(of_overlaps()).collect()
+    let of_rules = [of_times(), of_starts(), of_hops(), of_deadlines(), of_overlaps(), of_late_overlaps()];
+    of_the_order().into_iter().chain(of_rules.into_iter().flatten()).collect()
 }
 
-// ---- What the calls alone can tell: cursors, budgets, moves and lent memory
-
-/// In a whole check a window is violated before such sums are met.
-fn of_far_offsets() -> Vec<Wrong> {
-    vec![
-        wrong("hop with a sum in 32 bits", |c| {
-            c.hop_holds = |_, leg, previous, precision| leg.start >= in_32_bits(arrival(previous, precision))
-        }),
-        wrong("deadline with sums in 32 bits", |c| {
-            c.deadline_holds = |_, last, first, precision| {
-                in_32_bits(arrival(last, precision)) <= in_32_bits(last.deadline + first.start)
-            }
-        }),
-    ]
-}
+// ---- What the calls alone can tell: cursors, budgets, moves, conversions and lent memory
 
 fn of_slices() -> Vec<Wrong> {
     let paused_at_the_end = |c: &Bent, plan: &Plan, from: Cursor, budget: u32| {
@@ -766,6 +1066,246 @@ fn of_slices() -> Vec<Wrong> {
     ]
 }
 
+/// A move that changes nothing where the leg is already as it says.
+fn no_move_where(
+    c: &Bent,
+    plan: &mut Plan,
+    cursor: Cursor,
+    wanted: Move,
+    is_so: impl Fn(&Leg) -> bool,
+) -> Outcome<Cursor> {
+    let before = plan.clone();
+    let after = check::moved(c, plan, cursor, wanted)?;
+    if !is_so(&before.legs[wanted.leg as usize]) {
+        return Ok(after);
+    }
+    *plan = before;
+    Ok(Cursor { revision: plan.revision, ..after })
+}
+
+/// A move that is right but for the period word that it sets, which is told from the leg's own and the wanted one.
+fn moved_by(c: &Bent, plan: &mut Plan, cursor: Cursor, wanted: Move, word: fn(u32, u32) -> u32) -> Outcome<Cursor> {
+    let own = plan.legs.get(wanted.leg as usize).map_or(0, |leg| leg.periods);
+    let after = check::moved(c, plan, cursor, wanted)?;
+    plan.legs[wanted.leg as usize].periods = word(own, wanted.periods);
+    Ok(after)
+}
+
+/// The right move with another highest period word.
+fn moved_below(c: &Bent, plan: &mut Plan, cursor: Cursor, wanted: Move, highest: u32) -> Outcome<Cursor> {
+    let limits = Limits { periods: highest, ..c.limits };
+    check::moved(&Bent { limits, ..*c }, plan, cursor, wanted)
+}
+
+/// Refusal 17 alone.
+fn too_late(wanted: Move) -> Outcome<()> {
+    refused_at(TOO_LATE, (wanted.periods > LIMITS.periods).then_some(0))
+}
+
+/// A move whose refusal 17 is another one.
+fn moved_or(c: &Bent, plan: &mut Plan, cursor: Cursor, wanted: Move, instead: fn(Move) -> Refusal) -> Outcome<Cursor> {
+    check::moved(c, plan, cursor, wanted)
+        .map_err(|refusal| if refusal.number == TOO_LATE { instead(wanted) } else { refusal })
+}
+
+/// Moves that are wrong in the period word.
+fn of_late_moves() -> Vec<Wrong> {
+    let before_ten = |c: &Bent, plan: &mut Plan, cursor: Cursor, wanted: Move| {
+        too_late(wanted)?;
+        check::moved(c, plan, cursor, wanted)
+    };
+    let before_eleven = |c: &Bent, plan: &mut Plan, cursor: Cursor, wanted: Move| {
+        if (wanted.leg as usize) < plan.legs.len() {
+            too_late(wanted)?;
+        }
+        check::moved(c, plan, cursor, wanted)
+    };
+    let before_all = |c: &Bent, plan: &[u8], cursor: &[u8], wanted: Move, lent: Lent| {
+        too_late(wanted)?;
+        check::granted(c, plan, cursor, wanted, lent)
+    };
+    let before_room = |c: &Bent, plan: &[u8], cursor: &[u8], wanted: Move, lent: Lent| {
+        c.read_plan(plan)?;
+        c.read_cursor(cursor)?;
+        too_late(wanted)?;
+        check::granted(c, plan, cursor, wanted, lent)
+    };
+    let before_shape = |c: &Bent, plan: &[u8], cursor: &[u8], wanted: Move, lent: Lent| {
+        c.read_plan(plan)?;
+        c.read_cursor(cursor)?;
+        c.room(CURSOR_BYTES, lent.out)?;
+        too_late(wanted)?;
+        check::granted(c, plan, cursor, wanted, lent)
+    };
+    let before_eight = |c: &Bent, plan: &[u8], cursor: &[u8], wanted: Move, lent: Lent| {
+        let gives_way = |refusal: &Refusal| [STALE, NO_PLACE].contains(&refusal.number);
+        let given = check::granted(c, plan, cursor, wanted, lent);
+        if given.as_ref().err().map_or(false, gives_way) {
+            too_late(wanted)?;
+        }
+        given
+    };
+    let after_room = |c: &Bent, plan: &[u8], cursor: &[u8], wanted: Move, lent: Lent| {
+        let in_time = Move { periods: wanted.periods.min(LIMITS.periods), ..wanted };
+        let given = check::granted(c, plan, cursor, in_time, lent)?;
+        too_late(wanted)?;
+        Ok(given)
+    };
+    let carried_over = |c: &Bent, plan: &mut Plan, cursor: Cursor, wanted: Move| {
+        let after = check::moved(c, plan, cursor, wanted)?;
+        plan.legs[wanted.leg as usize] = carried(plan, &plan.legs[wanted.leg as usize]);
+        Ok(after)
+    };
+    let next_leg = |c: &Bent, plan: &mut Plan, cursor: Cursor, wanted: Move| {
+        let (at, own) = (wanted.leg as usize, plan.legs.get(wanted.leg as usize).map_or(0, |leg| leg.periods));
+        let after = check::moved(c, plan, cursor, wanted)?;
+        plan.legs[at].periods = own;
+        let last = plan.legs.len() - 1;
+        plan.legs[(at + 1).min(last)].periods = wanted.periods;
+        Ok(after)
+    };
+    let exchanged_numbers = |c: &Bent, plan: &mut Plan, cursor: Cursor, wanted: Move| {
+        let after = check::moved(c, plan, cursor, wanted)?;
+        plan.legs[wanted.leg as usize] = exchanged(&plan.legs[wanted.leg as usize]);
+        Ok(after)
+    };
+    vec![
+        wrong("17 before 10", |c| c.moved = before_ten),
+        wrong("17 before 11", |c| c.moved = before_eleven),
+        wrong("17 before all else of a move", |c| c.granted = before_all),
+        wrong("17 before 15 for the cursor", |c| c.granted = before_room),
+        wrong("17 before 4 to 7", |c| c.granted = before_shape),
+        wrong("17 before 8 and 9", |c| c.granted = before_eight),
+        wrong("17 after 15 for the new plan", |c| c.granted = after_room),
+        wrong("17 at the leg", |c| {
+            c.moved = |c, plan, cursor, wanted| {
+                moved_or(c, plan, cursor, wanted, |wanted| Refusal { number: TOO_LATE, at: wanted.leg as usize })
+            }
+        }),
+        wrong("7 for 17", |c| {
+            c.moved = |c, plan, cursor, wanted| {
+                moved_or(c, plan, cursor, wanted, |wanted| Refusal { number: LEG_WRONG, at: wanted.leg as usize })
+            }
+        }),
+        wrong("10 for 17", |c| {
+            c.moved = |c, plan, cursor, wanted| moved_or(c, plan, cursor, wanted, |_| Refusal { number: NO_LEG, at: 0 })
+        }),
+        wrong("17 left out", |c| c.moved = |c, plan, cursor, wanted| moved_below(c, plan, cursor, wanted, u32::MAX)),
+        wrong("a move by 8 periods taken", |c| {
+            c.moved = |c, plan, cursor, wanted| moved_below(c, plan, cursor, wanted, LIMITS.periods + 1)
+        }),
+        wrong("a move by 7 periods refused", |c| {
+            c.moved = |c, plan, cursor, wanted| moved_below(c, plan, cursor, wanted, LIMITS.periods - 1)
+        }),
+        wrong("a move by its period word modulo 8", |c| {
+            c.moved = |c, plan, cursor, wanted| {
+                check::moved(c, plan, cursor, Move { periods: wanted.periods % (LIMITS.periods + 1), ..wanted })
+            }
+        }),
+        wrong("a move that leaves the period word", |c| {
+            c.moved = |c, plan, cursor, wanted| moved_by(c, plan, cursor, wanted, |own, _| own)
+        }),
+        wrong("a move that sets the period word to 0", |c| {
+            c.moved = |c, plan, cursor, wanted| moved_by(c, plan, cursor, wanted, |_, _| 0)
+        }),
+        wrong("a move that adds to the period word", |c| {
+            c.moved = |c, plan, cursor, wanted| moved_by(c, plan, cursor, wanted, u32::wrapping_add)
+        }),
+        wrong("a move that leaves the period word where 0 is given", |c| {
+            c.moved = |c, plan, cursor, wanted| {
+                moved_by(c, plan, cursor, wanted, |own, wanted| if wanted == 0 { own } else { wanted })
+            }
+        }),
+        wrong("a move that leaves the offset", |c| {
+            c.moved = |c, plan, cursor, wanted| {
+                let own = plan.legs.get(wanted.leg as usize).map_or(0, |leg| leg.offset);
+                check::moved(c, plan, cursor, Move { offset: own, ..wanted })
+            }
+        }),
+        wrong("a move that sets the period word of the next leg", |c| c.moved = next_leg),
+        wrong("a move with its two numbers exchanged", |c| c.moved = exchanged_numbers),
+        wrong("a move that carries its offset into the period word", |c| c.moved = carried_over),
+    ]
+}
+
+// ---- Conversions
+
+/// The right conversion, but that the plan which was read is changed.
+fn converted_to(old: &[u8], lent: usize, other: fn(Plan) -> Outcome<Plan>) -> Outcome<Vec<u8>> {
+    let bytes = plan_bytes(&other(Plain.read_first(old)?)?);
+    Plain.room(bytes.len(), lent)?;
+    Ok(bytes)
+}
+
+fn of_conversions() -> Vec<Wrong> {
+    let by_the_new_length = |c: &Bent, bytes: &[u8]| match format::read_first(c, bytes) {
+        Err(Refusal { number: LEFT_OVER, at }) => {
+            let plan = format::read_first(c, &bytes[..at])?;
+            refused_at(LEFT_OVER, (bytes.len() > at + plan.legs.len()).then_some(at)).map(|_| plan)
+        }
+        right => right,
+    };
+    let by_the_old_length = |c: &Bent, old: &[u8], lent: usize| {
+        let mut bytes = plan_bytes(&c.read_first(old)?);
+        c.room(old.len(), lent)?;
+        bytes.truncate(lent);
+        Ok(bytes)
+    };
+    let by_the_most = |c: &Bent, old: &[u8], lent: usize| {
+        let plan = c.read_first(old)?;
+        c.room(old.len() + NUMBER_BYTES * plan.legs.len(), lent)?;
+        Ok(plan_bytes(&plan))
+    };
+    let room_first = |c: &Bent, old: &[u8], lent: usize| {
+        c.room(old.len(), lent)?;
+        check::converted(c, old, lent)
+    };
+    let room_before_rest = |c: &Bent, old: &[u8], lent: usize| match check::converted(c, old, lent) {
+        Err(refusal) if refusal.number == LEFT_OVER => check::converted(c, &old[..refusal.at], lent).and(Err(refusal)),
+        right => right,
+    };
+    vec![
+        wrong("a conversion that puts 1", |c| {
+            c.read_first = |c, bytes| with_legs(format::read_first(c, bytes), |_, leg| Leg { periods: 1, ..*leg })
+        }),
+        wrong("a conversion that puts 0 before the offset", |c| {
+            c.read_first = |c, bytes| with_legs(format::read_first(c, bytes), |_, leg| exchanged(leg))
+        }),
+        wrong("a conversion that carries offsets into the period words", |c| {
+            c.read_first = |c, bytes| with_legs(format::read_first(c, bytes), carried)
+        }),
+        wrong("a conversion that raises the revision", |c| {
+            c.converted = |_, old, lent| {
+                converted_to(old, lent, |plan| Ok(Plan { revision: plan.revision.wrapping_add(1), ..plan }))
+            }
+        }),
+        wrong("a conversion that begins anew with revision 0", |c| {
+            c.converted = |_, old, lent| converted_to(old, lent, |plan| Ok(Plan { revision: 0, ..plan }))
+        }),
+        wrong("a conversion that judges the shape", |c| {
+            c.converted = |_, old, lent| converted_to(old, lent, |plan| Plain.judge(&plan).map(|_| plan))
+        }),
+        wrong("a conversion of files of today", |c| c.read_first = format::read_plan),
+        wrong("a conversion of files in either layout", |c| {
+            c.read_first = |c, bytes| in_either(c, bytes, Layout::First)
+        }),
+        wrong("a conversion that takes bytes left over", |c| c.first_ends = |_, _, _| Ok(())),
+        wrong("a conversion that takes as many bytes left over as there are legs", |c| {
+            c.read_first = by_the_new_length
+        }),
+        wrong("a conversion with 12 and 13 before 2", |c| {
+            c.read_first = |c, bytes| read_on(c, bytes, Layout::First, &[ENDS_EARLY, BAD_FORM])
+        }),
+        wrong("a conversion with 14 before 2", |c| {
+            c.read_first = |c, bytes| read_on(c, bytes, Layout::First, &[LEFT_OVER])
+        }),
+        wrong("a conversion with 15 before 14", |c| c.converted = room_before_rest),
+        wrong("a conversion with 15 before the bytes are read", |c| c.converted = room_first),
+        wrong("a conversion with 15 by the old length", |c| c.converted = by_the_old_length),
+        wrong("a conversion with 15 by the most that a new file may have", |c| c.converted = by_the_most),
+    ]
+}
+
 fn of_moves() -> Vec<Wrong> {
     let revision_kept = |c: &Bent, plan: &mut Plan, cursor: Cursor, wanted: Move| {
         let revision = plan.revision;
@@ -773,14 +1313,11 @@ fn of_moves() -> Vec<Wrong> {
         plan.revision = revision;
         Ok(Cursor { revision, ..after })
     };
-    let same_value_no_move = |c: &Bent, plan: &mut Plan, cursor: Cursor, wanted: Move| {
-        let before = plan.clone();
-        let after = check::moved(c, plan, cursor, wanted)?;
-        if before.legs[wanted.leg as usize].offset != wanted.offset {
-            return Ok(after);
-        }
-        *plan = before;
-        Ok(Cursor { revision: plan.revision, ..after })
+    let same_offset_no_move = |c: &Bent, plan: &mut Plan, cursor: Cursor, wanted: Move| {
+        no_move_where(c, plan, cursor, wanted, |leg| leg.offset == wanted.offset)
+    };
+    let same_values_no_move = |c: &Bent, plan: &mut Plan, cursor: Cursor, wanted: Move| {
+        no_move_where(c, plan, cursor, wanted, |leg| (leg.offset, leg.periods) == (wanted.offset, wanted.periods))
     };
     let revision_wraps = |c: &Bent, plan: &mut Plan, cursor: Cursor, wanted: Move| {
         let last = plan.revision == u32::MAX;
@@ -801,7 +1338,8 @@ fn of_moves() -> Vec<Wrong> {
             }
         }),
         wrong("the revision not raised", |c| c.moved = revision_kept),
-        wrong("the revision not raised where the offset stays", |c| c.moved = same_value_no_move),
+        wrong("the revision not raised where the offset stays", |c| c.moved = same_offset_no_move),
+        wrong("the revision not raised where both numbers stay", |c| c.moved = same_values_no_move),
         wrong("11 before 10", |c| {
             c.moved = |c, plan, cursor, wanted| {
                 if plan.revision == u32::MAX {
@@ -860,7 +1398,8 @@ fn of_lent_memory() -> Vec<Wrong> {
 }
 
 pub fn callers() -> Vec<Wrong> {
-    of_far_offsets().into_iter().chain(of_slices()).chain(of_moves()).chain(of_lent_memory()).collect()
+    let groups = [of_slices(), of_moves(), of_late_moves(), of_conversions(), of_lent_memory()];
+    groups.into_iter().flatten().collect()
 }
 
 // ---- What is said of a refusal
@@ -887,19 +1426,23 @@ macro_rules! told_before {
 }
 
 /// What is said of a file that cannot be read, with another byte where it meets the refusal of this number.
-fn unread_at(c: &Bent, bytes: &[u8], refusal: Refusal, number: u32, at: usize) -> String {
+fn unread_at(c: &Bent, bytes: &[u8], layout: Layout, refusal: Refusal, number: u32, at: usize) -> String {
     let at = if refusal.number == number { at } else { refusal.at };
-    reasons::unread(c, bytes, Refusal { at, ..refusal })
+    reasons::unread(c, bytes, layout, Refusal { at, ..refusal })
 }
 
 pub fn tellers_of_files() -> Vec<Wrong> {
-    let at_bad_byte: fn(&Bent, &[u8], Refusal) -> _ = |c, bytes, refusal| {
+    let at_bad_byte: fn(&Bent, &[u8], Layout, Refusal) -> _ = |c, bytes, layout, refusal| {
         let bad_byte = refusal.at + groups_before_last(bytes, refusal.at).min(NUMBER_BYTES - 1);
-        unread_at(c, bytes, refusal, BAD_FORM, bad_byte)
+        unread_at(c, bytes, layout, refusal, BAD_FORM, bad_byte)
     };
-    let counts_exchanged: fn(&Bent, &[u32; HEADER_WORDS], usize) -> _ = |c, header, before| {
+    let counts_exchanged: fn(&Bent, Layout, &[u32; HEADER_WORDS], usize) -> _ = |c, layout, header, before| {
         let [revision, links, streams, legs, precision] = *header;
-        reasons::name(c, &[revision, links, legs, streams, precision], before)
+        reasons::name(c, layout, &[revision, links, legs, streams, precision], before)
+    };
+    let by_the_first_layout: fn(&Bent, Layout, &[u32; HEADER_WORDS], usize) -> _ = |c, _, header, before| {
+        let numbers = Layout::First.table_words(header) as usize;
+        reasons::name(c, Layout::First, header, before.min(numbers - 1))
     };
     let more_is_needless: fn(&Bent, &[u8], usize) -> _ =
         |c, bytes, at| reasons::is_too_long(c, bytes, at) || bytes.get(at + NUMBER_BYTES - 1) == Some(&MORE);
@@ -907,30 +1450,33 @@ pub fn tellers_of_files() -> Vec<Wrong> {
         |c, bytes, at| reasons::is_too_long(c, bytes, at) && groups_before_last(bytes, at) + 1 < NUMBER_BYTES;
     let mut tellers = vec![
         wrong("the name of the number before told", |c| {
-            c.name = |c, header, before| reasons::name(c, header, before.saturating_sub(1))
+            c.name = |c, layout, header, before| reasons::name(c, layout, header, before.saturating_sub(1))
         }),
         wrong("the name of the next number told", |c| {
-            c.name = |c, header, before| reasons::name(c, header, before + 1)
+            c.name = |c, layout, header, before| reasons::name(c, layout, header, before + 1)
         }),
         wrong("names told with the numbers of streams and legs exchanged", |c| c.name = counts_exchanged),
+        wrong("names told by the first layout", |c| c.name = by_the_first_layout),
+        wrong("the first layout never named for a file that ends too early", |c| c.ends_in_first = |_, _| false),
+        wrong("the first layout named for each file that ends too early", |c| c.ends_in_first = |_, _| true),
         wrong("a file that ends inside a number told to end before it", |c| {
-            c.unread = |c, bytes, refusal| unread_at(c, bytes, refusal, ENDS_EARLY, bytes.len())
+            c.unread = |c, bytes, layout, refusal| unread_at(c, bytes, layout, refusal, ENDS_EARLY, bytes.len())
         }),
         wrong("a number that is cut told to begin one byte later", |c| {
-            c.unread = |c, bytes, refusal| unread_at(c, bytes, refusal, ENDS_EARLY, refusal.at + 1)
+            c.unread = |c, bytes, layout, refusal| unread_at(c, bytes, layout, refusal, ENDS_EARLY, refusal.at + 1)
         }),
         wrong("a number of a bad form told to begin one byte later", |c| {
-            c.unread = |c, bytes, refusal| unread_at(c, bytes, refusal, BAD_FORM, refusal.at + 1)
+            c.unread = |c, bytes, layout, refusal| unread_at(c, bytes, layout, refusal, BAD_FORM, refusal.at + 1)
         }),
         wrong("a number of a bad form told at its bad byte", |c| c.unread = at_bad_byte),
         wrong("a plan told to end where the file does", |c| {
-            c.unread = |c, bytes, refusal| unread_at(c, bytes, refusal, LEFT_OVER, bytes.len())
+            c.unread = |c, bytes, layout, refusal| unread_at(c, bytes, layout, refusal, LEFT_OVER, bytes.len())
         }),
         wrong("a fifth byte of 80 told to be needless", |c| c.is_too_long = more_is_needless),
         wrong("a fifth byte of 0 told to be too high", |c| c.is_too_long = zero_is_high),
         wrong("a number of six bytes told to be above the largest", |c| {
-            c.unread = |c, bytes, refusal| {
-                reasons::unread(c, bytes, refusal).replace("takes more than five bytes", "is above 4294967295")
+            c.unread = |c, bytes, layout, refusal| {
+                reasons::unread(c, bytes, layout, refusal).replace("takes more than five bytes", "is above 4294967295")
             }
         }),
     ];
@@ -967,6 +1513,6 @@ pub fn tellers_of_tables() -> Vec<Wrong> {
     ];
     tellers.extend(told_before!(LINK_RANGE: 0 1, 0 2, 1 3, 2 3, 3 4));
     tellers.extend(told_before!(STREAM_WRONG: 0 1, 1 2, 2 3, 3 4, 4 5));
-    tellers.extend(told_before!(LEG_WRONG: 0 1, 0 2, 2 3));
+    tellers.extend(told_before!(LEG_WRONG: 0 1, 1 2, 2 3, 3 4));
     tellers
 }

@@ -5,9 +5,10 @@
  *
  * FOLDER/plan is the plan file. FOLDER/cursor is the saved cursor: where there is none, a new check begins. FOLDER/seen
  * tells what the cursor is of: a line with the edition of the rules, and then a whole copy of the plan. Each slice
- * looks at BUDGET places at most. Standard input gives the moves, a line 'LEG OFFSET' each. They are taken between two
- * slices, and also after a verdict, until standard input ends; then the exit status tells the last verdict: 0 accepted,
- * 1 violated. It is 2 where the plan is refused, and 4 for bad arguments and for files that cannot be read or written.
+ * looks at BUDGET places at most. Standard input gives the moves, a line 'LEG OFFSET' or 'LEG OFFSET PERIODS' each; the
+ * first lies no period late. They are taken between two slices, and also after a verdict, until standard input ends;
+ * then the exit status tells the last verdict: 0 accepted, 1 violated. It is 2 where the plan is refused, and 4 for bad
+ * arguments and for files that cannot be read or written.
  *
  * Every answer is a line. It is printed when all that it tells is on the disk: a move that is told as moved is in the
  * plan. A move that was not answered may be in the plan or not: look at the plan before it is made again, since another
@@ -241,13 +242,18 @@ static uint32_t slice(uint32_t budget)
     return result;
 }
 
+/* What a line of standard input asks for: a leg, its new offset, and how many whole periods late it then lies. */
+struct wanted {
+    uint32_t leg, offset, periods;
+};
+
 /* Moves a leg. Says whether the plan has changed. */
-static bool move(uint32_t leg, uint32_t offset)
+static bool move(struct wanted wanted)
 {
     static uint8_t new_plan[CONEPALHUI_PLAN_BYTES];
     uint8_t out[CONEPALHUI_CURSOR_BYTES];
-    conepalhui_answer answer = conepalhui_move(plan, plan_len, cursor, cursor_len, leg, offset,
-                                               new_plan, sizeof new_plan, out, sizeof out);
+    conepalhui_answer answer = conepalhui_move(plan, plan_len, cursor, cursor_len, wanted.leg, wanted.offset,
+                                               wanted.periods, new_plan, sizeof new_plan, out, sizeof out);
     uint32_t refusal = conepalhui_refusal(answer.result);
     if (refusal != 0) {
         tell("move refused %u %u", (unsigned)refusal, (unsigned)answer.number);
@@ -259,14 +265,14 @@ static bool move(uint32_t leg, uint32_t offset)
     save_seen();
     save_cursor(out);
     struct conepalhui_place at = conepalhui_cursor_place(out);
-    tell("moved %u %u revision %u at %u %u", (unsigned)leg, (unsigned)offset, (unsigned)at.revision,
-         (unsigned)at.leg, (unsigned)at.place);
+    tell("moved %u %u %u revision %u at %u %u", (unsigned)wanted.leg, (unsigned)wanted.offset,
+         (unsigned)wanted.periods, (unsigned)at.revision, (unsigned)at.leg, (unsigned)at.place);
     return true;
 }
 
 /* ---- The moves on standard input */
 
-/* What has been read and not been taken yet. No move is longer than 21 characters. */
+/* What has been read and not been taken yet. No move is longer than 32 characters. */
 static char input[64];
 static size_t input_len;
 static bool input_too_long; /* What was read of this line before is dropped: it is too long for a move. */
@@ -331,6 +337,19 @@ static const char *read_number(const char *text, char mark, uint32_t *number)
     return at + 1;
 }
 
+/* Reads a line of two numbers or three. Says whether it is one. */
+static bool read_move(const char *line, struct wanted *wanted)
+{
+    const char *rest = read_number(line, ' ', &wanted->leg);
+    wanted->periods = 0;
+    if (rest == NULL)
+        return false;
+    if (read_number(rest, '\n', &wanted->offset) != NULL)
+        return true;
+    rest = read_number(rest, ' ', &wanted->offset);
+    return rest != NULL && read_number(rest, '\n', &wanted->periods) != NULL;
+}
+
 /*
  * Takes the lines that are there, and waits for the first move if told so. It takes no more than a fixed number of
  * lines: a steady stream of moves must not keep the slices waiting. Says whether the plan has changed.
@@ -340,12 +359,11 @@ static bool take_moves(bool wait)
     bool changed = false;
     const char *line;
     for (int taken = 0; taken < LINES_MOST && (line = next_line(wait && !changed)) != NULL; taken++) {
-        uint32_t leg, offset;
-        const char *rest = read_number(line, ' ', &leg);
-        if (rest != NULL && read_number(rest, '\n', &offset) != NULL)
-            changed = move(leg, offset) || changed;
+        struct wanted wanted;
+        if (read_move(line, &wanted))
+            changed = move(wanted) || changed;
         else
-            tell("no move: a move is LEG OFFSET, two numbers from 0 to 4294967295");
+            tell("no move: a move is LEG OFFSET or LEG OFFSET PERIODS, numbers from 0 to 4294967295");
     }
     return changed;
 }

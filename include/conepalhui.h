@@ -52,8 +52,8 @@
  *     each given the cursor that the call before it left. If there is at least one such slice, and the budgets of
  *     these slices add up to the number of places or more, then one of them told a verdict.
  *   - Where out has 15 bytes, no start is refused, and no slice that is given the cursor which the call before it left.
- *     Nor is a move of a leg of the plan with that cursor, where new_plan has plan_len + 5 bytes and the revision is
- *     below 4,294,967,295.
+ *     Nor is a move of a leg of the plan with that cursor, where new_plan has plan_len + 5 bytes, the revision is
+ *     below 4,294,967,295 and periods is at most 7.
  *
  * THE LIBRARY CANNOT SEE WHETHER THEY ARE KEPT. A cursor knows its plan by the revision alone. It is refused where that
  * is another one (8) or where the plan has no such place (9), and is believed otherwise. Take two plans of one revision
@@ -75,11 +75,11 @@
 #include <stdint.h>
 
 /* The version of this header and of the archive that it belongs to. A NUMBER is 10000 MAJOR + 100 MINOR + PATCH. */
-#define CONEPALHUI_VERSION "2.1.1"
-#define CONEPALHUI_VERSION_MAJOR 2
-#define CONEPALHUI_VERSION_MINOR 1
-#define CONEPALHUI_VERSION_PATCH 1
-#define CONEPALHUI_VERSION_NUMBER 20101
+#define CONEPALHUI_VERSION "3.0.0"
+#define CONEPALHUI_VERSION_MAJOR 3
+#define CONEPALHUI_VERSION_MINOR 0
+#define CONEPALHUI_VERSION_PATCH 0
+#define CONEPALHUI_VERSION_NUMBER 30000
 
 /*
  * The edition of the rules: what a plan file, a place and a cursor mean, and when a place holds. It is raised whenever
@@ -87,17 +87,20 @@
  *
  *   1   the first
  *   2   a leg holds its link 12 octets longer, in window and overlap: for the gap between frames
+ *   3   a leg has a fourth number, the whole periods that it lies late: hop and deadline count them. A deadline may be
+ *       up to 8 periods. Plan files have the second layout; conepalhui_convert_first converts those of the first
  *
  * A SAVED CURSOR DOES NOT OUTLIVE ITS EDITION. It tells that all places before it hold by the rules of its own day, and
  * by those of today some may be violated, which would never be looked at again. The library cannot see this: a cursor
  * has no edition, and the plan keeps its revision. So whoever saves cursors saves the edition beside them and starts
  * anew where it is another one, be it higher or lower, as examples/host.c does.
  *
- * The number here is the archive's only where header and archive belong together. So the start has the edition in its
- * name there: a program that was compiled with the header of another edition is not linked. Compile it anew.
+ * The number here is the archive's only where header and archive belong together. So start and move have the edition in
+ * their names there: a program that was compiled with the header of another edition is not linked. Compile it anew.
  */
-#define CONEPALHUI_EDITION 2
-#define conepalhui_start conepalhui_start_2
+#define CONEPALHUI_EDITION 3
+#define conepalhui_start conepalhui_start_3
+#define conepalhui_move conepalhui_move_3
 
 /*
  * What holds of every call
@@ -105,9 +108,9 @@
  * Any bytes and any numbers may be handed in. Each call ends, with an answer or a numbered refusal.
  *
  * Memory. A pointer and the length that follows it lend that many bytes to the call, until it returns. A pointer may be
- * null where its length is 0. plan and cursor are only read, and may overlap one another. out and new_plan are
- * written to: neither may overlap any other memory that is lent to the same call. While a call runs, nobody else may
- * write to the lent memory, nor read out and new_plan.
+ * null where its length is 0. plan, old_plan and cursor are only read, and may overlap one another. out and new_plan
+ * are written to: neither may overlap any other memory that is lent to the same call. While a call runs, nobody else
+ * may write to the lent memory, nor read out and new_plan.
  *
  * A refusal writes nothing. Otherwise the cursor lies in the first bytes of out (and the new plan in the first bytes of
  * new_plan), and every byte after it is what it was.
@@ -117,7 +120,7 @@
  *
  * The stack. No call was seen to use more than CONEPALHUI_STACK_BYTES. This is measured and not proved: the test fills
  * a stack with a known byte, makes each call on it, on a small plan and on one of 2,048 legs, and looks how much was
- * written over. The most was two thirds of that number.
+ * written over. The most was three quarters of that number.
  *
  * Linking. './conepalhui library' proves the calls and builds the archive .built/libconepalhui.a. It is for x86-64 and
  * the System V calling convention (Linux), in programs and in shared libraries, and needs memset alone of other
@@ -129,7 +132,7 @@
  */
 
 #define CONEPALHUI_CURSOR_BYTES 15   /* room for every cursor; out must have this many bytes or more */
-#define CONEPALHUI_PLAN_BYTES 48665  /* no plan file is longer; room for every new plan */
+#define CONEPALHUI_PLAN_BYTES 58905  /* no plan file is longer; room for every new plan */
 #define CONEPALHUI_MOVE_BYTES 5      /* a move makes a plan file longer by this many bytes at most */
 #define CONEPALHUI_STACK_BYTES 98304 /* a thread that calls should have this much stack left */
 
@@ -140,16 +143,16 @@
  */
 enum {
     CONEPALHUI_NOTHING_VIOLATED = 0, /* a slice: nothing is violated from its cursor on, and the check is done */
-    CONEPALHUI_GRANTED = 0,          /* start and move: done */
+    CONEPALHUI_GRANTED = 0,          /* start, move and conversion: done */
     CONEPALHUI_PAUSED = 1,           /* paused: the budget is used up, and all that was looked at holds */
     CONEPALHUI_WINDOW = 2,           /* violated: the frame, with the gap after it, is not through in its period */
     CONEPALHUI_HOP = 3,              /* violated: the frame is sent on before it has arrived from its previous link */
     CONEPALHUI_DEADLINE = 4,         /* violated: the frame arrives at its last node after its deadline */
     CONEPALHUI_OVERLAP = 5,          /* violated: two frames, each with the gap after it, want one link at some time */
-    CONEPALHUI_REFUSED = 100         /* plus the number of the refusal, 101 to 115 */
+    CONEPALHUI_REFUSED = 100         /* plus the number of the refusal, 101 to 115 and 117 */
 };
 
-/* What a start, a slice_full and a move give. */
+/* What a start, a slice_full, a move and a conversion give. */
 struct conepalhui_answer {
     uint32_t result; /* one of those above */
     uint32_t number; /* after a refusal its position; otherwise places, steps or bytes, as each call says below */
@@ -189,9 +192,10 @@ uint32_t conepalhui_slice(const uint8_t *plan, size_t plan_len, const uint8_t *c
                           uint32_t budget, uint8_t *out, size_t out_len);
 
 /*
- * Sets the offset of one leg to any number of nanoseconds and raises the plan's revision by one. new_plan gets the
- * whole new plan file, out the cursor to go on with: of the new revision, at the given place or at (leg, 0),
- * whichever comes first. To set the offset that the leg has already is a move like any other.
+ * Sets the offset of one leg to any number of nanoseconds, and how many whole periods late it lies to 0 to 7, and
+ * raises the plan's revision by one. new_plan gets the whole new plan file, out the cursor to go on with: of the new
+ * revision, at the given place or at (leg, 0), whichever comes first. To set the two numbers that the leg has already
+ * is a move like any other. Both are set: whoever wants to keep one of them gives it again.
  *
  * Given with the new plan, a cursor of the old one is refused with 8. Given with the old plan's bytes it is believed
  * as before: so drop those bytes once the new plan is saved, and give them to no call of this run again.
@@ -203,8 +207,29 @@ uint32_t conepalhui_slice(const uint8_t *plan, size_t plan_len, const uint8_t *c
  * Result: 0 granted, or 100 + refusal. Number: how many bytes the new plan file has, or the refusal's position.
  */
 conepalhui_answer conepalhui_move(const uint8_t *plan, size_t plan_len, const uint8_t *cursor, size_t cursor_len,
-                                  uint32_t leg, uint32_t offset, uint8_t *new_plan, size_t new_plan_len,
-                                  uint8_t *out, size_t out_len);
+                                  uint32_t leg, uint32_t offset, uint32_t periods,
+                                  uint8_t *new_plan, size_t new_plan_len, uint8_t *out, size_t out_len);
+
+/*
+ * Converts a plan file of the first layout, as versions before 3.0.0 wrote it. new_plan gets the same plan as a file of
+ * today: the same numbers in the same order, the revision too, and 0 as the period word of each leg. Its rules hold
+ * exactly when those of edition 2 hold for the old numbers. (A deadline above its period, which was refused 6, may be
+ * one of up to 8 periods now.)
+ *
+ * A plan file does not tell its layout. Whoever calls this names it: nothing is guessed. A plan file of today that has
+ * a leg is refused with 14, and one of the first layout that has a leg is refused by the other calls with 12. A plan
+ * without legs is the same file in both.
+ *
+ * Links, streams and legs are not judged: that does the start. A conversion is no part of a run. After it destroy every
+ * cursor of the old plan, as before any first start (rule 4).
+ *
+ * The new file has one byte more for each leg; CONEPALHUI_PLAN_BYTES are always room enough.
+ *
+ * Result: 0 granted, or 100 + refusal. Number: how many bytes the new plan file has, or the refusal's position: 12 and
+ * 13 from left to right, 2 after the fifth number, 14, and last 15 where new_plan has no room for the new file.
+ */
+conepalhui_answer conepalhui_convert_first(const uint8_t *old_plan, size_t old_plan_len,
+                                           uint8_t *new_plan, size_t new_plan_len);
 
 #ifdef __cplusplus
 }
@@ -222,7 +247,7 @@ static inline uint32_t conepalhui_refusal(uint32_t result)
 static inline const char *conepalhui_text(uint32_t result)
 {
     switch (result) {
-    case CONEPALHUI_NOTHING_VIOLATED: return "after a slice: nothing violated; after a start or a move: granted";
+    case CONEPALHUI_NOTHING_VIOLATED: return "after a slice: nothing violated; after any other call: granted";
     case CONEPALHUI_PAUSED: return "paused: the budget is used up, and all that was looked at holds";
     case CONEPALHUI_WINDOW: return "violated: the frame, with the gap after it, is not through in its period";
     case CONEPALHUI_HOP: return "violated: the frame is sent on before it has arrived from its previous link";
@@ -235,7 +260,7 @@ static inline const char *conepalhui_text(uint32_t result)
     case CONEPALHUI_REFUSED + 5: return "a link from and to the same nodes as an earlier one";
     case CONEPALHUI_REFUSED + 6: return "a stream out of range, or its first leg or leg count is wrong; or "
                                         "all streams are right, and have fewer legs than the header says";
-    case CONEPALHUI_REFUSED + 7: return "a leg's stream, its link or its route is wrong";
+    case CONEPALHUI_REFUSED + 7: return "a leg's stream, its link, its period word or its route is wrong";
     case CONEPALHUI_REFUSED + 8: return "the cursor is of another revision than the plan";
     case CONEPALHUI_REFUSED + 9: return "the cursor is at no place of the plan, nor at its end";
     case CONEPALHUI_REFUSED + 10: return "there is no such leg to move";
@@ -244,6 +269,7 @@ static inline const char *conepalhui_text(uint32_t result)
     case CONEPALHUI_REFUSED + 13: return "a number in more bytes than it needs, or above 4,294,967,295";
     case CONEPALHUI_REFUSED + 14: return "bytes left over after the last number";
     case CONEPALHUI_REFUSED + 15: return "out has fewer than 15 bytes, or new_plan has no room for the new plan";
+    case CONEPALHUI_REFUSED + 17: return "a move to more than 7 periods late";
     default: return result > CONEPALHUI_PAUSED && result < CONEPALHUI_REFUSED
                         ? "violated: a rule of a later edition, which this header does not know"
                         : "this is no result of Conepalhui";
@@ -292,9 +318,14 @@ static inline struct conepalhui_place conepalhui_cursor_place(const uint8_t *cur
  *
  *   the header    revision, links (0 to 256), streams (0 to 512), legs (0 to 2,048), clock precision (0 to 1,000,000)
  *   each link     from node, to node (0 to 65,535), ns per octet (8, 80 or 800), propagation (0 to 100,000)
- *   each stream   period (1 to 1,000,000,000), deadline (1 to the period), octets of its frame (64 to 1,522), the
+ *   each stream   period (1 to 1,000,000,000), deadline (1 to 8 periods), octets of its frame (64 to 1,522), the
  *                 number of its first leg, how many legs it has (1 to 8)
- *   each leg      stream, link, offset (any)
+ *   each leg      stream, link, offset (any), period word (0 to 7): how many whole periods late it lies
+ *
+ * This is the second layout. In the first one, of versions before 3.0.0, a leg has no period word.
+ *
+ * A leg starts at its offset and as many periods of its stream as its period word says: hop and deadline count from
+ * there. Window and overlap go by the offset alone, since a slot is there in every period.
  *
  * A link joins two different nodes, and no other link joins the same two in this direction. The legs stand in the order
  * of their streams. The legs of a stream are a route: each link begins where the previous one ended, and no node is met
@@ -319,7 +350,7 @@ static inline struct conepalhui_place conepalhui_cursor_place(const uint8_t *cur
  *    5    a link from and to the same nodes as an earlier one                       the lowest later link
  *    6    a stream out of range, or its first leg or leg count is wrong             the lowest such stream
  *         all streams are right, and have fewer legs than the header says           the number of streams
- *    7    a leg's stream, its link or its route is wrong                            the lowest such leg
+ *    7    a leg's stream, its link, its period word or its route is wrong           the lowest such leg
  *    8    the cursor is of another revision than the plan                           0
  *    9    the cursor is at no place of the plan, nor at its end                     0
  *   10    there is no such leg to move                                              0
@@ -328,14 +359,15 @@ static inline struct conepalhui_place conepalhui_cursor_place(const uint8_t *cur
  *   13    a number in more bytes than it needs, or above 4,294,967,295              the start of that number
  *   14    bytes left over after the last number                                     the first such byte
  *   15    out has fewer than 15 bytes, or new_plan has no room for the new plan     0
+ *   17    a move to more than 7 periods late                                        0
  *
  * 1 and 3 concern tables in memory, and no call here gives them: a plan file that is too short or too long is refused
  * with 12 or 14.
  *
  * Where several are due the first is told: of the plan 12 and 13 from left to right, 2 after the fifth number, 14;
- * of the cursor 12, 13, 14; 15 for out; then 4 to 11 in their order; and last 15 for new_plan. A 12, 13 or 14 of a
- * slice or a move lies in the plan exactly when conepalhui_start refuses that plan with it too, and otherwise in the
- * cursor.
+ * of the cursor 12, 13, 14; 15 for out; then 4 to 11 and 17 in their order; and last 15 for new_plan. A 12, 13 or 14
+ * of a slice or a move lies in the plan exactly when conepalhui_start refuses that plan with it too, and otherwise in
+ * the cursor.
  */
 
 #endif

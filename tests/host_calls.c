@@ -144,10 +144,20 @@ static conepalhui_answer call_short_slice(uint32_t budget)
     return (conepalhui_answer){result, 0};
 }
 
-static conepalhui_answer call_move(uint32_t leg, uint32_t offset)
+struct moved {
+    uint32_t leg, offset, periods;
+};
+
+static conepalhui_answer call_move(struct moved to)
 {
-    return conepalhui_move(lent[PLAN].bytes, lent[PLAN].length, lent[CURSOR].bytes, lent[CURSOR].length, leg, offset,
-                           lent[NEW_PLAN].bytes, lent[NEW_PLAN].length, lent[OUT].bytes, lent[OUT].length);
+    return conepalhui_move(lent[PLAN].bytes, lent[PLAN].length, lent[CURSOR].bytes, lent[CURSOR].length, to.leg,
+                           to.offset, to.periods, lent[NEW_PLAN].bytes, lent[NEW_PLAN].length, lent[OUT].bytes,
+                           lent[OUT].length);
+}
+
+static conepalhui_answer call_convert(void)
+{
+    return conepalhui_convert_first(lent[PLAN].bytes, lent[PLAN].length, lent[NEW_PLAN].bytes, lent[NEW_PLAN].length);
 }
 
 static void lend_all(const char *plan, const char *cursor, size_t new_plan_len, size_t out_len)
@@ -175,15 +185,17 @@ static void slice(const char *name, const char *plan, const char *cursor, uint32
     compare(name, call_short_slice(budget), due);
 }
 
-struct moved {
-    uint32_t leg, offset;
-};
-
 static void move(const char *name, const char *plan, const char *cursor, struct moved moved,
                  size_t new_plan_len, size_t out_len, struct due due)
 {
     lend_all(plan, cursor, new_plan_len, out_len);
-    compare(name, call_move(moved.leg, moved.offset), due);
+    compare(name, call_move(moved), due);
+}
+
+static void convert(const char *name, const char *old_plan, size_t new_plan_len, struct due due)
+{
+    lend_all(old_plan, "", new_plan_len, 0);
+    compare(name, call_convert(), due);
 }
 
 /* ---- Plan A, with another revision and with other offsets of the legs 0 and 2 */
@@ -194,12 +206,12 @@ static void move(const char *name, const char *plan, const char *cursor, struct 
     "02 03 08 F4 03 " \
     "A0 8D 06 B0 12 40 00 02 " \
     "F0 93 09 D0 0F 40 02 01 " \
-    "00 00 " leg_0 " " \
-    "00 01 98 09 " \
-    "01 00 " leg_2
+    "00 00 " leg_0 " 00 " \
+    "00 01 98 09 00 " \
+    "01 00 " leg_2 " 00"
 
-static const char *const plan_a = PLAN_A("00", "00", "00");
-static const char *const plan_last = PLAN_A("FF FF FF FF 0F", "00", "00"); /* at the last revision */
+static const char plan_a[] = PLAN_A("00", "00", "00");
+static const char plan_last[] = PLAN_A("FF FF FF FF 0F", "00", "00"); /* at the last revision */
 
 static void numbered_cases(void)
 {
@@ -209,10 +221,10 @@ static void numbered_cases(void)
     slice("case 11, second", plan_a, "00 01 02", 5, 15, gives(1, 5, "00 02 03"));
     slice("case 11, third", plan_a, "00 02 03", 5, 15, gives(5, 1, "00 02 03"));
     slice("case 11, at once", plan_a, "00 00 00", TOP, 15, gives(5, 11, "00 02 03"));
-    move("case 12, move", plan_a, "00 02 03", (struct moved){2, 672}, 42, 15, grants(42, "01 02 00", moved_2));
+    move("case 12, move", plan_a, "00 02 03", (struct moved){2, 672, 0}, 45, 15, grants(45, "01 02 00", moved_2));
     slice("case 12, slice", moved_2, "01 02 00", 5, 15, gives(0, 5, "01 03 00"));
     slice("case 12, four", moved_2, "01 02 00", 4, 15, gives(1, 4, "01 02 04"));
-    move("case 13, move", plan_a, "00 02 03", (struct moved){0, 600}, 42, 15, grants(42, "01 00 00", moved_0));
+    move("case 13, move", plan_a, "00 02 03", (struct moved){0, 600, 0}, 45, 15, grants(45, "01 00 00", moved_0));
     slice("case 13, slice", moved_0, "01 00 00", 5, 15, gives(3, 5, "01 01 01"));
     start("case 14, start", "00 00 00 00 00", 15, gives(0, 0, "00 00 00"));
     slice("case 14, slice", "00 00 00 00 00", "00 00 00", 0, 15, gives(0, 0, "00 00 00"));
@@ -229,8 +241,8 @@ static void numbered_cases(void)
  */
 static void gap_cases(void)
 {
-    const char *in_time = "00 01 01 01 64 01 02 08 F4 03 A0 8D 06 98 09 40 00 01 00 00 00"; /* deadline 1,176 */
-    const char *late = "00 01 01 01 64 01 02 08 F4 03 A0 8D 06 97 09 40 00 01 00 00 00";    /* and 1,175 */
+    const char *in_time = "00 01 01 01 64 01 02 08 F4 03 A0 8D 06 98 09 40 00 01 00 00 00 00"; /* deadline 1,176 */
+    const char *late = "00 01 01 01 64 01 02 08 F4 03 A0 8D 06 97 09 40 00 01 00 00 00 00";    /* and 1,175 */
     slice("window, 99,328", PLAN_A("00", "80 88 06", "00"), "00 00 00", 1, 15, gives(1, 1, "00 00 01"));
     slice("window, 99,329", PLAN_A("00", "81 88 06", "00"), "00 00 00", 1, 15, gives(2, 1, "00 00 00"));
     slice("overlap, 672", PLAN_A("00", "00", "A0 05"), "00 02 03", 1, 15, gives(1, 1, "00 02 04"));
@@ -257,6 +269,120 @@ static void cursors_of_edition_1(void)
     slice("from its first place it is violated", plan, "01 00 00", TOP, 15, gives(5, 11, "01 02 03"));
 }
 
+/* ---- Plan D: stream 1 takes three links, and does not get over them in one period */
+
+#define PLAN_D(revision, deadline, leg_0, leg_1, leg_2, leg_3) \
+    revision " 03 02 04 64 " \
+    "01 02 08 DC 0B " \
+    "02 03 08 DC 0B " \
+    "03 04 08 DC 0B " \
+    "A0 1F A0 1F 40 00 01 " \
+    "D0 0F " deadline " 40 01 03 " \
+    "00 00 " leg_0 " " \
+    "01 00 " leg_1 " " \
+    "01 01 " leg_2 " " \
+    "01 02 " leg_3
+
+#define LEG_0 "A0 05 00" /* at 672 ns, of a stream of its own */
+#define LEG_1 "00 00"    /* at 0 ns: the first leg of stream 1 */
+#define LEG_2 "B0 01 01" /* at 176 ns and a period late */
+#define LEG_3 "E0 02 02" /* at 352 ns and two periods late */
+#define DUE "80 33"      /* a deadline of 6,528 ns, where the period is 2,000 */
+
+/* One link, one stream of this period and deadline, and one leg. */
+#define ONE_LEG(period, deadline, periods) \
+    "00 01 01 01 00 01 02 08 00 " period " " deadline " 40 00 01 00 00 00 " periods
+
+/*
+ * Hop and deadline count the whole periods that a leg lies late; window and overlap do not. Each is tried at the last
+ * number that holds, and at the first that does not.
+ */
+static void period_cases(void)
+{
+    const char *far = "00 02 01 02 64 01 02 08 F4 03 02 03 08 F4 03 80 94 EB DC 03 FF FF FF FF 0F 40 00 02 "
+                      "00 00 00 03 00 01 00 05"; /* a period of 1 s: the legs start at 3 s and at 5 s */
+    start("Plan D", PLAN_D("00", DUE, LEG_0, LEG_1, LEG_2, LEG_3), 15, gives(0, 18, "00 00 00"));
+    slice("Plan D", PLAN_D("00", DUE, LEG_0, LEG_1, LEG_2, LEG_3), "00 00 00", TOP, 15, gives(0, 18, "00 04 00"));
+    slice("leg 3 one period late", PLAN_D("00", DUE, LEG_0, LEG_1, LEG_2, "E0 02 01"), "00 00 00", TOP, 15,
+          gives(3, 14, "00 03 01"));
+    slice("leg 3 at 351 ns", PLAN_D("00", DUE, LEG_0, LEG_1, LEG_2, "DF 02 02"), "00 00 00", TOP, 15,
+          gives(3, 14, "00 03 01"));
+    slice("deadline 6,527", PLAN_D("00", "FF 32", LEG_0, LEG_1, LEG_2, LEG_3), "00 00 00", TOP, 15,
+          gives(4, 15, "00 03 02"));
+    slice("all of stream 1 a period later", PLAN_D("00", DUE, LEG_0, "00 01", "B0 01 02", "E0 02 03"), "00 00 00", TOP,
+          15, gives(0, 18, "00 04 00"));
+    slice("its first leg alone", PLAN_D("00", DUE, LEG_0, "00 01", LEG_2, LEG_3), "00 00 00", TOP, 15,
+          gives(3, 9, "00 02 01"));
+    slice("leg 0 seven periods late", PLAN_D("00", DUE, "A0 05 07", LEG_1, LEG_2, LEG_3), "00 00 00", TOP, 15,
+          gives(0, 18, "00 04 00"));
+    slice("leg 0 at 671 ns", PLAN_D("00", DUE, "9F 05 00", LEG_1, LEG_2, LEG_3), "00 00 00", TOP, 15,
+          gives(5, 7, "00 01 03"));
+    slice("leg 0 at 671 ns, seven late", PLAN_D("00", DUE, "9F 05 07", LEG_1, LEG_2, LEG_3), "00 00 00", TOP, 15,
+          gives(5, 7, "00 01 03"));
+    slice("starts past 32 bits", far, "00 00 00", TOP, 15, gives(0, 7, "00 02 00"));
+    start("a period word of 7", ONE_LEG("01", "01", "07"), 15, gives(0, 3, "00 00 00"));
+    start("a period word of 8", ONE_LEG("01", "01", "08"), 15, refused(107, 0));
+    start("the highest period word", ONE_LEG("01", "01", "FF FF FF FF 0F"), 15, refused(107, 0));
+    start("8 for leg 3", PLAN_D("00", DUE, LEG_0, LEG_1, LEG_2, "E0 02 08"), 15, refused(107, 3));
+    start("8 periods", ONE_LEG("01", "08", "00"), 15, gives(0, 3, "00 00 00"));
+    start("more than 8 periods", ONE_LEG("01", "09", "00"), 15, refused(106, 0));
+    start("8 periods of 536,870,911", ONE_LEG("FF FF FF FF 01", "F8 FF FF FF 0F", "00"), 15, gives(0, 3, "00 00 00"));
+    start("1 ns more", ONE_LEG("FF FF FF FF 01", "F9 FF FF FF 0F", "00"), 15, refused(106, 0));
+    start("all but 1 ns of 8 times 536,870,912", ONE_LEG("80 80 80 80 02", "FF FF FF FF 0F", "00"), 15,
+          gives(0, 3, "00 00 00"));
+}
+
+static void moves_by_periods(void)
+{
+    const char *early = PLAN_D("00", DUE, LEG_0, LEG_1, LEG_2, "E0 02 00");
+    const char *mended = PLAN_D("01", DUE, LEG_0, LEG_1, LEG_2, LEG_3);
+    const char *seven = PLAN_D("01", DUE, LEG_0, LEG_1, LEG_2, "E0 02 07");
+    size_t length = hex_length(mended);
+    move("two periods late", early, "00 03 01", (struct moved){3, 352, 2}, length, 15,
+         grants((uint32_t)length, "01 03 00", mended));
+    slice("then nothing is violated", mended, "01 03 00", TOP, 15, gives(0, 6, "01 04 00"));
+    move("no period late", mended, "01 04 00", (struct moved){3, 352, 0}, length, 15,
+         grants((uint32_t)length, "02 03 00", PLAN_D("02", DUE, LEG_0, LEG_1, LEG_2, "E0 02 00")));
+    move("seven periods late", early, "00 00 00", (struct moved){3, 352, 7}, length, 15,
+         grants((uint32_t)length, "01 00 00", seven));
+    move("eight periods late", early, "00 00 00", (struct moved){3, 352, 8}, ROOM, 15, refused(117, 0));
+    move("2^32 - 1 periods late", early, "00 00 00", (struct moved){3, 352, TOP}, ROOM, 15, refused(117, 0));
+    move("10 before 17", early, "00 00 00", (struct moved){4, 0, 8}, ROOM, 15, refused(110, 0));
+    move("11 before 17", plan_last, "FF FF FF FF 0F 00 00", (struct moved){2, 1, 8}, ROOM, 15, refused(111, 0));
+    move("17 before 15 for the new plan", early, "00 00 00", (struct moved){3, 352, 8}, 0, 15, refused(117, 0));
+    move("15 for out before 17", early, "00 00 00", (struct moved){3, 352, 8}, ROOM, 14, refused(115, 0));
+}
+
+/* Plan A in the first layout, as versions before 3.0.0 wrote it. */
+static const char first_a[] = "00 02 02 03 64 01 02 08 F4 03 02 03 08 F4 03 A0 8D 06 B0 12 40 00 02 "
+                              "F0 93 09 D0 0F 40 02 01 00 00 00 00 01 98 09 01 00 00";
+
+static void conversions(void)
+{
+    const char *no_legs = "07 01 00 00 00 01 02 08 00", *wrong = "00 00 00 01 00 FF FF FF FF 0F 05 06";
+    convert("Plan A", first_a, 44, grants(44, "", plan_a));
+    convert("Plan A, rest of the new plan", first_a, ROOM, grants(44, "", plan_a));
+    convert("Plan A, one byte too few", first_a, 43, refused(115, 0));
+    convert("Plan A, room for the old file", first_a, 41, refused(115, 0));
+    convert("no legs", no_legs, 9, grants(9, "", no_legs));
+    convert("nothing is judged", wrong, 13, grants(13, "", "00 00 00 01 00 FF FF FF FF 0F 05 06 00"));
+    convert("Plan A of today", plan_a, ROOM, refused(114, 41));
+    convert("12", "00 02 02 03 64 01 02", ROOM, refused(112, 7));
+    convert("12 inside a number", "00 02 02 03 64 01 82", ROOM, refused(112, 6));
+    convert("13", "00 00 00 01 00 00 80 00 00", ROOM, refused(113, 6));
+    convert("2", "00 81 02 00 00 00", ROOM, refused(102, 0));
+    convert("12 before 2", "00 81 02 00 00", ROOM, refused(112, 5));
+    convert("2 before 13", "00 81 02 00 00 00 80 00", ROOM, refused(102, 0));
+    convert("13 before 12", "00 00 00 01 00 80 00", ROOM, refused(113, 5));
+    convert("14 before 15", plan_a, 0, refused(114, 41));
+    convert("12 before 15", "00 02 02 03 64 01 02", 0, refused(112, 7));
+    convert("null", "", 0, refused(112, 0));
+    convert("null for the new plan", first_a, 0, refused(115, 0));
+    start("a file of the first layout is no plan of today", first_a, 15, refused(112, 41));
+    slice("nor is it for a slice", first_a, "00 00 00", 5, 15, refused(112, 41));
+    move("nor for a move", first_a, "00 00 00", (struct moved){0, 0, 0}, ROOM, 15, refused(112, 41));
+}
+
 /* Each plan here is refused in the same way by all three calls, with the position of its refusal. */
 static void refused_plans(void)
 {
@@ -269,8 +395,8 @@ static void refused_plans(void)
         {"00 02 00 00 00 00 01 08 00 01 02 07 00", 104, 1},
         {"00 02 00 00 00 00 01 08 00 00 01 08 00", 105, 1},
         {"00 00 01 00 00 00 00 00 00 00", 106, 0},
-        {"00 00 00 01 00 00 00 00", 106, 0},
-        {"00 00 01 01 00 01 01 40 00 01 00 00 00", 107, 0},
+        {"00 00 00 01 00 00 00 00 00", 106, 0},
+        {"00 00 01 01 00 01 01 40 00 01 00 00 00 00", 107, 0},
         {"00 02 02 03 64 01 02", 112, 7},
         {"00 02 02 03 64 01 82", 112, 6},
         {"00 02 02 03 64 81 00", 113, 5},
@@ -282,7 +408,7 @@ static void refused_plans(void)
         const char *name = tried[i].plan;
         start(name, name, 15, due);
         slice(name, name, "00 00 00", 5, 15, due);
-        move(name, name, "00 00 00", (struct moved){0, 0}, ROOM, 15, due);
+        move(name, name, "00 00 00", (struct moved){0, 0, 0}, ROOM, 15, due);
     }
 }
 
@@ -302,7 +428,7 @@ static void refused_cursors(void)
         struct due due = refused(tried[i].result, tried[i].at);
         const char *name = tried[i].cursor;
         slice(name, plan_a, name, 5, 15, due);
-        move(name, plan_a, name, (struct moved){0, 0}, ROOM, 15, due);
+        move(name, plan_a, name, (struct moved){0, 0, 0}, ROOM, 15, due);
     }
 }
 
@@ -312,18 +438,18 @@ static void moves(void)
     const char *longest = PLAN_A("80 01", "00", "FF FF FF FF 0F");
     const char *last = PLAN_A("FF FF FF FF 0F", "00", "01");
     const char *before_last = PLAN_A("FE FF FF FF 0F", "00", "00");
-    move("leg 3", plan_a, "00 00 00", (struct moved){3, 0}, ROOM, 15, refused(110, 0));
-    move("leg 2^32 - 1", plan_a, "00 00 00", (struct moved){TOP, 0}, ROOM, 15, refused(110, 0));
-    move("ahead", plan_a, "00 01 02", (struct moved){2, TOP}, 45, 15, grants(45, "01 01 02", longer));
-    move("longer by all five bytes", PLAN_A("7F", "00", "00"), "7F 00 00", (struct moved){2, TOP},
-         41 + CONEPALHUI_MOVE_BYTES, 15, grants(46, "80 01 00 00", longest));
-    move("same offset", plan_a, "00 03 00", (struct moved){2, 0}, 41, 15, grants(41, "01 02 00", same));
-    move("from the end", plan_a, "00 03 00", (struct moved){0, 0}, 41, 15, grants(41, "01 00 00", same));
-    move("to the last revision", before_last, "FE FF FF FF 0F 00 00", (struct moved){2, 1}, 45, 15,
-         grants(45, "FF FF FF FF 0F 00 00", last));
-    move("at the last revision", plan_last, "FF FF FF FF 0F 00 00", (struct moved){2, 1}, ROOM, 15,
+    move("leg 3", plan_a, "00 00 00", (struct moved){3, 0, 0}, ROOM, 15, refused(110, 0));
+    move("leg 2^32 - 1", plan_a, "00 00 00", (struct moved){TOP, 0, 0}, ROOM, 15, refused(110, 0));
+    move("ahead", plan_a, "00 01 02", (struct moved){2, TOP, 0}, 48, 15, grants(48, "01 01 02", longer));
+    move("longer by all five bytes", PLAN_A("7F", "00", "00"), "7F 00 00", (struct moved){2, TOP, 0},
+         44 + CONEPALHUI_MOVE_BYTES, 15, grants(49, "80 01 00 00", longest));
+    move("same offset", plan_a, "00 03 00", (struct moved){2, 0, 0}, 44, 15, grants(44, "01 02 00", same));
+    move("from the end", plan_a, "00 03 00", (struct moved){0, 0, 0}, 44, 15, grants(44, "01 00 00", same));
+    move("to the last revision", before_last, "FE FF FF FF 0F 00 00", (struct moved){2, 1, 0}, 48, 15,
+         grants(48, "FF FF FF FF 0F 00 00", last));
+    move("at the last revision", plan_last, "FF FF FF FF 0F 00 00", (struct moved){2, 1, 0}, ROOM, 15,
          refused(111, 0));
-    move("10 before 11", plan_last, "FF FF FF FF 0F 00 00", (struct moved){3, 1}, ROOM, 15,
+    move("10 before 11", plan_last, "FF FF FF FF 0F 00 00", (struct moved){3, 1, 0}, ROOM, 15,
          refused(110, 0));
 }
 
@@ -333,19 +459,19 @@ static void rooms_and_orders(void)
     const char *longer = PLAN_A("01", "00", "FF FF FF FF 0F");
     start("start, 14 bytes for out", plan_a, 14, no_room);
     slice("slice, 14 bytes for out", plan_a, "00 00 00", 5, 14, no_room);
-    move("move, 14 bytes for out", plan_a, "00 00 00", (struct moved){0, 0}, ROOM, 14, no_room);
-    move("move, one byte too few", plan_a, "00 00 00", (struct moved){2, TOP}, 44, 15, no_room);
+    move("move, 14 bytes for out", plan_a, "00 00 00", (struct moved){0, 0, 0}, ROOM, 14, no_room);
+    move("move, one byte too few", plan_a, "00 00 00", (struct moved){2, TOP, 0}, 47, 15, no_room);
     start("start, rest of out", plan_a, 99, gives(0, 12, "00 00 00"));
     slice("slice, rest of out", plan_a, "00 00 00", 1, 99, gives(1, 1, "00 00 01"));
-    move("move, rest of both", plan_a, "00 00 00", (struct moved){2, TOP}, ROOM, 99,
-         grants(45, "01 00 00", longer));
+    move("move, rest of both", plan_a, "00 00 00", (struct moved){2, TOP, 0}, ROOM, 99,
+         grants(48, "01 00 00", longer));
     slice("14 in the plan before 12 in the cursor", "00 00 00 00 00 00", "", 5, 0, refused(114, 5));
     slice("12 in the cursor before 15", plan_a, "", 5, 0, refused(112, 0));
     slice("15 before 4", "00 01 00 00 00 00 00 08 00", "00 00 00", 5, 14, no_room);
     slice("4 before 8", "00 01 00 00 00 00 00 08 00", "01 00 00", 5, 15, refused(104, 0));
-    move("15 for out before 8", plan_a, "01 00 00", (struct moved){9, 0}, 0, 14, no_room);
-    move("9 before 10", plan_a, "00 09 00", (struct moved){9, 0}, 0, 15, refused(109, 0));
-    move("11 before 15 for the new plan", plan_last, "FF FF FF FF 0F 00 00", (struct moved){2, 1}, 0, 15,
+    move("15 for out before 8", plan_a, "01 00 00", (struct moved){9, 0, 0}, 0, 14, no_room);
+    move("9 before 10", plan_a, "00 09 00", (struct moved){9, 0, 0}, 0, 15, refused(109, 0));
+    move("11 before 15 for the new plan", plan_last, "FF FF FF FF 0F 00 00", (struct moved){2, 1, 0}, 0, 15,
          refused(111, 0));
 }
 
@@ -358,8 +484,8 @@ static void nulls(void)
     start("all null, start", "", 0, empty);
     slice("null cursor", plan_a, "", 5, 15, empty);
     slice("all null, slice", "", "", 5, 0, empty);
-    move("null new plan", plan_a, "00 00 00", (struct moved){0, 0}, 0, 15, no_room);
-    move("all null, move", "", "", (struct moved){0, 0}, 0, 0, empty);
+    move("null new plan", plan_a, "00 00 00", (struct moved){0, 0, 0}, 0, 15, no_room);
+    move("all null, move", "", "", (struct moved){0, 0, 0}, 0, 0, empty);
 }
 
 /* Memory that is only read may overlap: here the cursor lies in the plan. */
@@ -416,33 +542,41 @@ static void stack_short_slice(void)
 
 static void stack_move(void)
 {
-    call_move(2047, TOP);
+    call_move((struct moved){2047, TOP, 7});
 }
 
-/* The largest plan: 512 streams of four legs over four links in a row, and 252 links that no stream takes. */
-static char largest[3 * CONEPALHUI_PLAN_BYTES];
-
-static void add_number(uint32_t number)
+static void stack_convert(void)
 {
-    static size_t length;
-    for (; number >= 0x80; number >>= 7)
-        length += (size_t)sprintf(largest + length, "%02X ", (unsigned)(number % 0x80 + 0x80));
-    length += (size_t)sprintf(largest + length, "%02X ", (unsigned)number);
+    call_convert();
 }
 
-static void make_largest(void)
+/*
+ * The largest plan: 512 streams of four legs over four links in a row, and 252 links that no stream takes. The other
+ * is the same in the first layout.
+ */
+static char largest[3 * CONEPALHUI_PLAN_BYTES], first_largest[3 * CONEPALHUI_PLAN_BYTES];
+
+/* Adds a number at the end of a text. Gives the new end. */
+static char *add_number(char *end, uint32_t number)
+{
+    for (; number >= 0x80; number >>= 7)
+        end += sprintf(end, "%02X ", (unsigned)(number % 0x80 + 0x80));
+    return end + sprintf(end, "%02X ", (unsigned)number);
+}
+
+static void make_largest(char *end, int leg_numbers)
 {
     for (int i = 0; i < 5; i++)
-        add_number((const uint32_t[]){7, 256, 512, 2048, 100}[i]);
+        end = add_number(end, (const uint32_t[]){7, 256, 512, 2048, 100}[i]);
     for (uint32_t link = 0; link < 256; link++)
         for (int i = 0; i < 4; i++)
-            add_number((const uint32_t[]){link, link + 1, 8, 500}[i]);
+            end = add_number(end, (const uint32_t[]){link, link + 1, 8, 500}[i]);
     for (uint32_t stream = 0; stream < 512; stream++)
         for (int i = 0; i < 5; i++)
-            add_number((const uint32_t[]){1000000000, 1000000000, 64, 4 * stream, 4}[i]);
+            end = add_number(end, (const uint32_t[]){1000000000, 1000000000, 64, 4 * stream, 4}[i]);
     for (uint32_t leg = 0; leg < 2048; leg++)
-        for (int i = 0; i < 3; i++)
-            add_number((const uint32_t[]){leg / 4, leg % 4, leg / 4 * 672 + leg % 4 * 1176}[i]);
+        for (int i = 0; i < leg_numbers; i++)
+            end = add_number(end, (const uint32_t[]){leg / 4, leg % 4, leg / 4 * 672 + leg % 4 * 1176, 0}[i]);
 }
 
 static void stacks(void)
@@ -450,17 +584,25 @@ static void stacks(void)
     static const struct {
         const char *name;
         void (*call)(void);
+        const char *plans[2];
     } calls[] = {
-        {"start", stack_start}, {"slice_full", stack_slice}, {"slice", stack_short_slice}, {"move", stack_move}};
-    const char *plans[] = {largest, plan_a};
-    make_largest();
+        {"start", stack_start, {largest, plan_a}},
+        {"slice_full", stack_slice, {largest, plan_a}},
+        {"slice", stack_short_slice, {largest, plan_a}},
+        {"move", stack_move, {largest, plan_a}},
+        {"convert_first", stack_convert, {first_largest, first_a}},
+    };
+    make_largest(largest, 4);
+    make_largest(first_largest, 3);
     start("largest plan", largest, 15, gives(0, 2102272, "07 00 00"));
     slice("largest plan", largest, "07 00 00", TOP, 15, gives(0, 2102272, "07 80 10 00"));
     slice("largest plan, paused", largest, "07 FF 0F 80 10", 1, 15, gives(1, 1, "07 FF 0F 81 10"));
+    convert("largest plan", first_largest, hex_length(largest), grants((uint32_t)hex_length(largest), "", largest));
+    convert("largest plan, too little room", first_largest, hex_length(largest) - 1, refused(115, 0));
     for (size_t i = 0; i < sizeof calls / sizeof *calls; i++) {
         size_t most = 0;
         for (int which = 0; which < 2; which++) {
-            lend_all(plans[which], which == 0 ? "07 00 00" : "00 00 00", CONEPALHUI_PLAN_BYTES, 15);
+            lend_all(calls[i].plans[which], which == 0 ? "07 00 00" : "00 00 00", CONEPALHUI_PLAN_BYTES, 15);
             size_t used = stack_of(calls[i].call);
             most = used > most ? used : most;
         }
@@ -477,9 +619,12 @@ int main(void)
     numbered_cases();
     gap_cases();
     cursors_of_edition_1();
+    period_cases();
     refused_plans();
     refused_cursors();
     moves();
+    moves_by_periods();
+    conversions();
     rooms_and_orders();
     nulls();
     shared_memory();

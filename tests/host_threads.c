@@ -3,10 +3,10 @@
  *
  *     host_threads ROUNDS PLAN...
  *
- * For each plan file there is a fixed row of calls: starts, slices, moves and refused calls, each given what the calls
- * before it wrote. One thread alone makes the row first, and keeps each answer and every byte of the lent memory. Then
- * all threads make their rows at the same time and compare, again and again until each has done so ROUNDS times. The
- * exit status is 0 only where nothing differs. tests/host.test builds and runs it.
+ * For each plan file there is a fixed row of calls: starts, slices, moves, conversions and refused calls, each given
+ * what the calls before it wrote. One thread alone makes the row first, and keeps each answer and every byte of the lent
+ * memory. Then all threads make their rows at the same time and compare, again and again until each has done so ROUNDS
+ * times. The exit status is 0 only where nothing differs. tests/host.test builds and runs it.
  */
 #define _GNU_SOURCE
 
@@ -19,7 +19,7 @@
 #include <stdlib.h>
 #include <string.h>
 
-enum { THREADS = 8, CALLS = 40, OUT = 24, MOVES = CALLS / 5, ROOM = CONEPALHUI_PLAN_BYTES };
+enum { THREADS = 8, CALLS = 42, OUT = 24, MOVES = CALLS / 6, ROOM = CONEPALHUI_PLAN_BYTES };
 
 /* All that one call gives: its answer, and what the memory is that it was lent to write to. */
 struct given {
@@ -30,8 +30,8 @@ struct given {
 struct row {
     pthread_t thread;
     const char *name;
-    uint8_t file[ROOM], plan[ROOM], cursor[OUT];
-    size_t file_len, plan_len, cursor_len;
+    uint8_t file[ROOM], first[ROOM], plan[ROOM], cursor[OUT]; /* first is the file in the first layout */
+    size_t file_len, first_len, plan_len, cursor_len;
     size_t new_plan_len; /* so much is lent for a new plan: enough after all moves */
     struct given alone[CALLS], now;
     unsigned made, faults;
@@ -54,7 +54,7 @@ static void make_call(struct row *row, unsigned which)
     struct given *now = &row->now;
     memset(now->out, 0xA5, sizeof now->out);
     memset(now->new_plan, 0xA5, row->new_plan_len);
-    switch (which % 5) {
+    switch (which % 6) {
     case 0: /* a start, at first of the file as it was read */
         now->answer = conepalhui_start(row->plan, row->plan_len, now->out, sizeof now->out);
         break;
@@ -64,13 +64,16 @@ static void make_call(struct row *row, unsigned which)
         break;
     case 2:
         now->answer = conepalhui_move(row->plan, row->plan_len, row->cursor, row->cursor_len, which % 3, 1000 * which,
-                                      now->new_plan, row->new_plan_len, now->out, sizeof now->out);
+                                      which % 8, now->new_plan, row->new_plan_len, now->out, sizeof now->out);
         break;
     case 3:
         now->answer.number = 0;
         now->answer.result = conepalhui_slice(row->plan, row->plan_len, row->cursor, row->cursor_len, which,
                                               now->out, sizeof now->out);
         break;
+    case 4:
+        now->answer = conepalhui_convert_first(row->first, row->first_len, now->new_plan, row->new_plan_len);
+        return;
     default: /* refused: a byte is missing at the end of the plan */
         now->answer = conepalhui_slice_full(row->plan, row->plan_len - 1, row->cursor, row->cursor_len, which,
                                             now->out, sizeof now->out);
@@ -79,9 +82,25 @@ static void make_call(struct row *row, unsigned which)
         return;
     row->cursor_len = conepalhui_cursor_length(now->out);
     memcpy(row->cursor, now->out, row->cursor_len);
-    if (which % 5 == 2) {
+    if (which % 6 == 2) {
         row->plan_len = now->answer.number;
         memcpy(row->plan, now->new_plan, row->plan_len);
+    }
+}
+
+/* Makes the file that the plan has in the first layout: all but the last number of each leg. */
+static void make_first(struct row *row)
+{
+    uint32_t head[5] = {0}, count = 0, shift = 0;
+    for (size_t at = 0; at < row->file_len; at++) {
+        uint8_t byte = row->file[at];
+        if (count < 5)
+            head[count] |= (uint32_t)(byte & 0x7F) << shift;
+        uint32_t before_legs = 5 + 4 * head[1] + 5 * head[2];
+        if (count < 5 || count < before_legs || (count - before_legs) % 4 != 3)
+            row->first[row->first_len++] = byte;
+        shift = byte < 0x80 ? 0 : shift + 7;
+        count += byte < 0x80;
     }
 }
 
@@ -133,21 +152,30 @@ static void read_plan(struct row *row, const char *name)
     fclose(file);
     if (row->new_plan_len > ROOM)
         stop("a plan is too long");
+    make_first(row);
+}
+
+/* Says whether the conversion gave the file as it was read, in which no leg lies a period late. */
+static bool is_converted(const struct row *row)
+{
+    return row->now.answer.result == CONEPALHUI_GRANTED && row->now.answer.number == row->file_len &&
+           memcmp(row->now.new_plan, row->file, row->file_len) == 0;
 }
 
 /* Makes the row alone. Moves have to be granted, slices to look at places, and the cut plan to be refused. */
 static void run_alone(struct row *row)
 {
-    unsigned seen[3] = {0, 0, 0};
+    unsigned seen[4] = {0, 0, 0, 0};
     begin_row(row);
     for (unsigned which = 0; which < CALLS; which++) {
         make_call(row, which);
         row->alone[which] = row->now;
-        seen[0] += which % 5 == 2 && row->now.answer.result == CONEPALHUI_GRANTED;
-        seen[1] += which % 5 == 1 && row->now.answer.number > 0;
-        seen[2] += which % 5 == 4 && conepalhui_refusal(row->now.answer.result) == 12;
+        seen[0] += which % 6 == 2 && row->now.answer.result == CONEPALHUI_GRANTED;
+        seen[1] += which % 6 == 1 && row->now.answer.number > 0;
+        seen[2] += which % 6 == 5 && conepalhui_refusal(row->now.answer.result) == 12;
+        seen[3] += which % 6 == 4 && is_converted(row);
     }
-    if (seen[0] != MOVES || seen[1] == 0 || seen[2] != CALLS / 5)
+    if (seen[0] != MOVES || seen[1] == 0 || seen[2] != CALLS / 6 || seen[3] != CALLS / 6)
         stop("a row of calls does not try what it is there for");
 }
 

@@ -87,6 +87,12 @@ def read_cursor(data):
     return refused(line) or ("cursor", tuple(int(word) for word in line.split()[1:]))
 
 
+def convert(data, room):
+    """Gives ("bytes", data) with the file of today that a file of the first layout becomes, or a refusal. room is the length of the lent buffer."""
+    line = ask("convert", told(data), room)[0]
+    return refused(line) or ("bytes", data_of(line))
+
+
 def write_plan(words, room):
     """Gives ("bytes", data) or a refusal. room is the length of the lent buffer."""
     line = ask("write", told(words), room)[0]
@@ -142,6 +148,16 @@ def with_offset(words, leg, offset):
     return changed(words, {f"leg {leg} offset": offset})
 
 
+def periods_at(words, leg):
+    return index(words, f"leg {leg} periods")
+
+
+def times_at(words):
+    """Gives the indexes of what a move sets, the offset and the period word, of each leg."""
+    step = periods_at(words, 0) - offset_at(words, 0)
+    return [(at, at + step) for at in offsets_at(words)]
+
+
 def shape(words):
     """Gives ("well-formed",) or a refusal."""
     line = ask("shape", told(words))[0]
@@ -182,9 +198,9 @@ def cursor_fault(words, cursor):
     return answer[:3] if answer[0] == "refused" else None
 
 
-def move(words, cursor, leg, offset):
+def move(words, cursor, leg, offset, periods=0):
     """Gives ("granted", cursor, new words), or a refusal with the given cursor."""
-    lines = ask("move", told(words), told(cursor), leg, offset)
+    lines = ask("move", told(words), told(cursor), leg, offset, periods)
     answer = answered(lines[0])
     return (*answer, words_of(lines[1])) if answer[0] == "granted" else (*answer, cursor)
 
@@ -201,7 +217,8 @@ def check(words):
 def why(call, *given):
     """Gives the sentence that goes to standard error with a refusal, or None where nothing is refused.
 
-    The call is words, shape or check, given a plan; slice, given a plan and a cursor; or move, given a leg and an offset too.
+    The call is words, shape or check, given a plan; convert, given a file of the first layout; slice, given a plan and a cursor; or move, given a leg, an
+    offset and a period word too.
     """
     line = ask("why", call, *(part if isinstance(part, int) else told(part) for part in given))[0]
     return None if line == "none" else line

@@ -27,7 +27,7 @@ def streams(count, hops=2):
     """Gives a table of so many streams of so many legs each, in which nothing is violated."""
     links = [(node, node + 1, 8, 500) for node in range(hops)]
     known = [(1_000_000, 1_176 * hops, 64, hops * number, hops) for number in range(count)]
-    legs = [(number, hop, 700 * number + 1_176 * hop) for number in range(count) for hop in range(hops)]
+    legs = [(number, hop, 700 * number + 1_176 * hop, 0) for number in range(count) for hop in range(hops)]
     words = [0, len(links), len(known), len(legs), 100]
     for record in (*links, *known, *legs):
         words += record

@@ -72,7 +72,7 @@ run_rt() { # COMMAND CRATE LOG
     local used status=0 shower='' began=$SECONDS what="the program $2" time=three
     case $2 in
     timetable) what="the checker" ;;
-    operator) what="the program for slices, moves, words and shape" ;;
+    operator) what="the program for slices, moves, words, shape and conversions" ;;
     temporal) what="the program for temporal networks" time=five ;;
     host) what="the calls for C" ;;
     network_host) what="the calls for C of temporal networks" ;;

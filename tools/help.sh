@@ -6,10 +6,11 @@ commands=(
     'check|[PLAN]|check a plan whole: accepted, or the first violated place'
     'start|PLAN CURSOR [--anew]|start a check in slices: CURSOR keeps how far it is'
     'slice|PLAN CURSOR BUDGET|look at the next BUDGET places'
-    'move|PLAN CURSOR LEG OFFSET|give one leg another offset, in ns'
+    'move|PLAN CURSOR LEG OFFSET [PERIODS]|give one leg another offset, in ns, and period word'
     'run|PLAN CURSOR --budget N [--rate R]|slices of N places until there is a verdict'
     'words|[PLAN]|print the numbers of a plan, one record per line'
     'shape|[PLAN]|say whether a plan is well-formed'
+    'convert|OLD NEW [first]|write a plan file of versions 1 and 2 anew, for this version'
     'network|[NETWORK [CLAIM]]|find times that keep all constraints, or test a claim'
 )
 is_installed || commands+=(
@@ -110,7 +111,8 @@ What start, slice, move and run print on standard output, and their exit status:
 LEG and PLACE are where the cursor is now. N is how many places the slice looked at; after a run, its last slice. R is
 the revision of the plan that was judged; after a move it is the new one, and after 'begun' the cursor's. DONE is how
 many places come before the cursor. 'in the ...' says which of the three was refused.
-A move has a third line, 'leg LEG from OLD to NEW ns'. A run has one too, 'looked at N places in K slices'.
+A move has a third line, 'leg LEG from OLD to NEW ns, periods from OLD to NEW'. A run has one too, 'looked at N places in
+K slices'.
 
 A refusal changes no file. Standard error says what is wrong and, where another call is needed, which one.
 docs/REFUSALS.md has the numbers. The four words:
@@ -120,7 +122,7 @@ docs/REFUSALS.md has the numbers. The four words:
             or somebody copied it
   begun     a start on a cursor that is past the first place
   edition   the cursor was saved under edition E of the rules and not under this one (--version): what it has passed was
-            not judged by these rules. This comes before 8 to 11; the other words come after all numbers
+            not judged by these rules. This comes before 8 to 11 and 17; the other words come after all numbers
 
 NEVER ALTER, RENAME OR COPY A CURSOR, OR PUT ONE BACK FROM A BACKUP. One that fits the plan is believed, and slots that
 were moved would never be looked at again.
@@ -158,10 +160,11 @@ END
 
 about_move() {
     cat <<'END'
-Sets the offset of leg LEG to OFFSET, in ns (0 to 4294967295), and raises the plan's revision by one. PLAN and CURSOR
-are replaced; a CURSOR past the start of that leg goes back to it. 'granted' says that both are on the disk, and the
-third line has the old offset and the new one. A move that ended with 4, or was cut off, may be in the plan: look at
-the revision of the next answer before you make it again.
+Sets the offset of leg LEG to OFFSET, in ns (0 to 4294967295), and its period word to PERIODS (0 to 7, and 0 where it is
+not given): so many whole periods late the frame is sent on that leg. It raises the plan's revision by one. PLAN and
+CURSOR are replaced; a CURSOR past the start of that leg goes back to it. 'granted' says that both are on the disk, and
+the third line has the old numbers and the new ones. A move that ended with 4, or was cut off, may be in the plan: look
+at the revision of the next answer before you make it again.
 END
     see_answers
 }
@@ -189,6 +192,22 @@ about_shape() {
     cat <<'END'
 Reads the plan file PLAN, or standard input, and prints 'well-formed', or one line, 'refused NUMBER AT', with the exit
 status 2; standard error says why. The rules are not judged: that is 'check'.
+END
+}
+
+about_convert() {
+    cat <<'END'
+Reads OLD, a plan file of the first layout, as versions 1 and 2 wrote it, and writes the same plan to NEW in the layout
+of today: 0 as the period word of each leg, and everything else as it was, the revision too. OLD stays as it is, and a file
+that is there already is never replaced. It prints 'converted legs G bytes N revision R'; NEW is on the disk then.
+
+A plan file does not tell its layout, and none is guessed: the word 'first' names it, and is meant where it is not given.
+A plan without legs is the same in both layouts. Any other file of this version is refused (14), and so is an old file
+by the other commands (12). What is no plan file gives one line, 'refused NUMBER AT', the exit status 2, and no NEW;
+standard error says why. Links, streams and legs are not judged: check NEW, and start anew (docs/OPERATIONS.md).
+
+Exit status: 0 converted, 2 refused, 4 bad arguments, or a file that cannot be read or written or is there already. Cut off,
+it leaves no NEW, the whole one, or an empty file of that name, which you may remove.
 END
 }
 

@@ -209,7 +209,7 @@ consult() { # VERB WORD...
     ((ended == 0)) || stop "the program operator was stopped. Each file is whole, the old one or the new one, and a move may have been made"
     take_status && return
     end_progress
-    [[ $1 == start || -e $cursor ]] || stop "a check begins with: $(shown_call start "${given[@]}")"
+    [[ $1 == start || $1 == convert || -e $cursor ]] || stop "a check begins with: $(shown_call start "${given[@]}")"
     ((said == 0)) || exit 4
     stop "the program operator gave no answer"
 }
@@ -292,8 +292,40 @@ do_slice() {
 }
 
 do_move() {
-    (($# == 4)) || stop "move takes a plan, a cursor, a leg and an offset: $(usage move)"
+    (($# == 4 || $# == 5)) || stop "move takes a plan, a cursor, a leg, an offset and perhaps a period word: $(usage move)"
     call move "$@"
+}
+
+# ---- Files of older versions
+
+# Finds the new file, $cursor: its program gets it in the place of a cursor. There must be none of that name, not even a link that leads nowhere.
+find_new() { # PATH
+    local path=$1
+    [[ -n $path ]] || stop "the new file is a path, and it is empty"
+    [[ $path == /* ]] || path=$from/$path
+    [[ ! -e $path && ! -L $path ]] || stop "$1 is there already, and is never replaced: give the new file another name"
+    cursor=$(real_path "$1") || stop "cannot find the folder of the new file $1"
+    cursor=${cursor%$'\n.'}
+    [[ $cursor != *.conepalhui-new && $cursor != *.seen ]] || stop "names that end in .conepalhui-new or .seen are kept for files of these commands: give $cursor another name"
+}
+
+# Converts a plan file. The layout of the old one is named, never guessed: there is one older layout so far.
+do_convert() {
+    local plan cursor held wrote status why given=() file
+    (($# == 2 || $# == 3)) || stop "convert takes an old plan file and a name for the new one: $(usage convert)"
+    [[ ${3-first} == first ]] || stop "there is no older layout '$3': the only one is 'first'"
+    prepare operator
+    find_input "plan file" "$1"
+    [[ -f $file ]] || stop "$1 is not a file"
+    plan=$(real_path "$1") || stop "cannot find the plan file $1"
+    plan=${plan%$'\n.'}
+    find_new "$2"
+    hold
+    find_new "$2"
+    consult convert
+    release
+    printf '%s' "$wrote" || stop "cannot write to standard output"
+    return $status
 }
 
 # ---- A run

@@ -133,6 +133,19 @@ fn read_plan_into(bytes: &[u8], room: usize) {
     }
 }
 
+// The same by the reader of the first layout.
+fn read_first(bytes: &[u8], words: &mut [u32]) {
+    let answer = editions::read_first(bytes, words);
+    plan_read(answer, words);
+}
+
+fn read_first_into(bytes: &[u8], room: usize) {
+    let mut words = [WORD_MARK; MAX_ROOM];
+    if room <= MAX_ROOM {
+        read_first(bytes, &mut words[0..room]);
+    }
+}
+
 fn write_plan(table: &[u32], bytes: &mut [u8]) {
     let answer = files::write_plan(table, bytes);
     written(answer, bytes);
@@ -218,7 +231,7 @@ fn largest(front: &[u8]) {
     }
 }
 
-fn of_numbers(verb: &[u8], numbers: [u32; 4], plan: &[u8]) -> bool {
+fn of_numbers(verb: &[u8], numbers: [u32; 5], plan: &[u8]) -> bool {
     if text::is(verb, b"read-number") {
         read_number(plan, numbers[0] as usize);
         return true;
@@ -234,7 +247,7 @@ fn of_numbers(verb: &[u8], numbers: [u32; 4], plan: &[u8]) -> bool {
     false
 }
 
-fn of_cursors(verb: &[u8], numbers: [u32; 4], saved: &[u8], cursor: Cursor) -> bool {
+fn of_cursors(verb: &[u8], numbers: [u32; 5], saved: &[u8], cursor: Cursor) -> bool {
     if text::is(verb, b"read-cursor") {
         read_cursor(saved);
         return true;
@@ -249,7 +262,7 @@ fn of_cursors(verb: &[u8], numbers: [u32; 4], saved: &[u8], cursor: Cursor) -> b
 pub(crate) fn asked(
     verb: &[u8],
     rest: &[u8],
-    numbers: [u32; 4],
+    numbers: [u32; 5],
     table: &[u32],
     plan: &[u8],
     saved: &[u8],
@@ -257,6 +270,10 @@ pub(crate) fn asked(
 ) -> bool {
     if text::is(verb, b"read-plan") {
         read_plan_into(plan, numbers[0] as usize);
+        return true;
+    }
+    if text::is(verb, b"read-first") {
+        read_first_into(plan, numbers[0] as usize);
         return true;
     }
     if text::is(verb, b"write-plan") {

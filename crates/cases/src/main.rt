@@ -1,6 +1,7 @@
 // Makes the calls that a list on standard input names, a call to a line, and prints each answer whole: every byte and word of each lent buffer, which was
 // marked before the call, and the table after each move. Lines that begin with # are printed as they stand.
 use files::Cursor;
+use table::Move;
 
 mod files_calls;
 mod host_calls;
@@ -67,7 +68,7 @@ fn with_cursor(set: Set, cursor: Cursor) -> Set {
 
 // A call that changes neither table nor cursor.
 fn asked(verb: &[u8], rest: &[u8], table: &[u32], plan: &[u8], saved: &[u8], cursor: Cursor) {
-    let numbers = text::four(rest);
+    let numbers = text::five(rest);
     if table_calls::asked(verb, numbers, table) {
         return;
     }
@@ -97,7 +98,7 @@ fn called(
     saved: &[u8],
     cursor: Cursor,
 ) -> Cursor {
-    let numbers = text::four(rest);
+    let numbers = text::five(rest);
     if text::is(verb, b"start") {
         return table_calls::start(table);
     }
@@ -105,7 +106,12 @@ fn called(
         return table_calls::slice(table, cursor, numbers[0]);
     }
     if text::is(verb, b"move") {
-        return table_calls::move_leg(table, cursor, numbers[0], numbers[1]);
+        let mv = Move {
+            leg: numbers[0],
+            offset: numbers[1],
+            periods: numbers[2],
+        };
+        return table_calls::move_leg(table, cursor, mv);
     }
     asked(verb, rest, table, plan, saved, cursor);
     cursor

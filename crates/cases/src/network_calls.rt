@@ -252,7 +252,7 @@ fn repeat(words: &mut [i64], n: usize, end: usize) {
 }
 
 fn on_words(verb: &[u8], front: &[u8], text: &[u8]) -> bool {
-    let numbers = text::four(front);
+    let numbers = text::five(front);
     let count = numbers[1] as usize;
     if MAX_WORDS < count {
         return false;

@@ -94,8 +94,8 @@ pub(crate) fn slice(t: &[u32], c: Cursor, budget: u32) -> Cursor {
     sliced(checker::slice(t, c, budget))
 }
 
-pub(crate) fn move_leg(t: &mut [u32], c: Cursor, leg: u32, offset: u32) -> Cursor {
-    let d = granted(checker::move_leg(t, c, Move { leg, offset }));
+pub(crate) fn move_leg(t: &mut [u32], c: Cursor, mv: Move) -> Cursor {
+    let d = granted(checker::move_leg(t, c, mv));
     show::text(b"table: ");
     show::rest_words(t, 0);
     d
@@ -122,7 +122,7 @@ fn places_line(legs: usize) {
     }
 }
 
-pub(crate) fn asked(verb: &[u8], numbers: [u32; 4], t: &[u32]) -> bool {
+pub(crate) fn asked(verb: &[u8], numbers: [u32; 5], t: &[u32]) -> bool {
     if text::is(verb, b"shape") {
         shape_line(t);
         return true;

@@ -64,15 +64,15 @@ pub(crate) fn words(text: &[u8], out: &mut [u32]) -> usize {
     n
 }
 
-// The first four numbers of a text, 0 for those that are not there.
-pub(crate) fn four(text: &[u8]) -> [u32; 4] {
-    let mut numbers = [0u32; 4];
+// The first five numbers of a text, 0 for those that are not there.
+pub(crate) fn five(text: &[u8]) -> [u32; 5] {
+    let mut numbers = [0u32; 5];
     words(text, &mut numbers);
     numbers
 }
 
 pub(crate) fn cursor(text: &[u8]) -> Cursor {
-    let numbers = four(text);
+    let numbers = five(text);
     Cursor {
         revision: numbers[0],
         leg: numbers[1],

@@ -67,7 +67,7 @@ fn asked_of_copy(verb: &[u8], number: u32, plan: &[u8], saved: &[u8]) -> bool {
     false
 }
 
-pub(crate) fn asked(verb: &[u8], numbers: [u32; 4], plan: &[u8], saved: &[u8]) -> bool {
+pub(crate) fn asked(verb: &[u8], numbers: [u32; 5], plan: &[u8], saved: &[u8]) -> bool {
     if text::is(verb, b"digits") {
         digits(saved);
         return true;

@@ -13,7 +13,7 @@ use Rattle.checker.specs.Moves.{CanMove}
 
 module _ {t : List ℕ} {mv : Move} (w : WellFormedTable t) (can : CanMove t mv) where
   pub same-but-moved : SameButMoved t (moved t mv)
-  same-but-moved = moved-same t (w .sized) mv (can .below)
+  same-but-moved = moved-same t w mv (can .below) (can .periods)
 
   pub shape-moved : WellFormedTable (moved t mv)
   shape-moved = moves-keep-shape t (moved t mv) same-but-moved w

@@ -19,7 +19,7 @@ use Rattle.places.specs.Order.{placesBelow, PlaceOrEnd}
 use Rattle.places.proofs.Ranks.{end-rank, place-rank, rank-is-one}
 use Rattle.checker.specs.Cursors.{cursorRank, staleCursor, noPlace, CursorRight, CursorFault, cursorRefusals}
 use Rattle.checker.specs.Slices.{Went, Violates, Ends, Pauses}
-use Rattle.checker.specs.Moves.{noLeg, cannotRise, AtTheLesser, MoveAllowed, MoveFault, moveRefusals}
+use Rattle.checker.specs.Moves.{noLeg, cannotRise, tooLate, AtTheLesser, MoveAllowed, MoveFault, moveRefusals}
 use Rattle.checker.specs.Theorems.{StartOneAnswer, SliceOneAnswer, MoveOneAnswer}
 use Rattle.checker.specs.declared.Grant.the-variants.{Granted, Refused}
 use Rattle.checker.specs.declared.SliceAnswer.the-variants as answer
@@ -34,8 +34,8 @@ cursor-one t c =
 pub move-one : (t : List ℕ) (c : Cursor) (mv : Move) → OneFault (moveRefusals t c mv)
 move-one t c mv =
     called-one
-    (then-one (cursor-one t c) (then-one (unless-one noLeg _) (unless-one cannotRise _)))
-    (λ m. (m .cursor, (m .can .below, m .can .rises)))
+    (then-one (cursor-one t c) (then-one (unless-one noLeg _) (then-one (unless-one cannotRise _) (unless-one tooLate _))))
+    (λ m. (m .cursor, (m .can .below, (m .can .rises, m .can .periods))))
 
 pub start-one-answer : StartOneAnswer
 start-one-answer t (Granted d) (Granted e) p q = ap Granted (p .1 ∙ sym (q .1))

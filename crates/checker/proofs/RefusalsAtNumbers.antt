@@ -1,4 +1,4 @@
--- The refusals 8 to 11 at numbers: Plan A is well-formed at every revision, and what a cursor or a move is due for is computed. Assumes nothing.
+-- The refusals 8 to 11 and 17 at numbers: Plan A is well-formed at every revision, and what a cursor or a move is due for is computed. Assumes nothing.
 use Prim.Native.Nat.{ℕ, _≤_, _<_}
 use mathlib.Core.Path.{_≡_, refl}
 use mathlib.Core.Logic.{inl, inr}
@@ -40,5 +40,10 @@ move-refusals-at-numbers = record {
   stale = λ offset. inl (stale 4294967295 6 0 3 (λ e. omega (arith, e)));
   no-place = λ offset. inl (lost 4294967295 0 3 (λ h. omega arith) (λ e. omega (arith, e)));
   no-leg = λ offset. inr (right 4294967295 0 2 (inl (record { leg = omega arith; place = omega arith })), inl (refl, refl, λ h. omega (arith, h)));
-  cannot-rise = λ offset. inr (right 4294967295 3 0 (inr (record { leg = refl; place = refl })), inr (omega arith, (refl, refl, λ h. omega (arith, h))));
+  cannot-rise = λ offset. inr (right 4294967295 3 0 (inr (record { leg = refl; place = refl })), inr (omega arith, inl (refl, refl, λ h. omega (arith, h))));
+  too-late = λ offset. inr (right 4294967294 3 0 (inr (record { leg = refl; place = refl })), inr (omega arith, inr (omega arith, (refl, refl, λ h. omega (arith, h)))));
+  latest = λ offset. record {
+    cursor = right 4294967294 3 0 (inr (record { leg = refl; place = refl }));
+    can = record { below = omega arith; rises = omega arith; periods = omega arith };
+  };
 }

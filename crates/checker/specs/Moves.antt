@@ -1,4 +1,4 @@
--- What a move promises, by the cases of its answer (document 01, "Places and slices"), with the refusals 10 and 11.
+-- What a move promises, by the cases of its answer (document 01, "Places and slices"), with the refusals 10, 11 and 17.
 use Prim.Native.Nat.{ℕ, _+_, _≤_, _<_}
 use mathlib.Core.Path.{_≡_}
 use mathlib.Core.List.{List}
@@ -8,35 +8,41 @@ use Rattle.numbers.specs.Number.{maxWord}
 use Rattle.table.specs.Layout.{revisionOf, legCount}
 use Rattle.table.specs.Records.{moved}
 use Rattle.table.specs.declared.Move.{Move}
+use Rattle.shape.specs.Streams.{maxPeriods}
 use Rattle.files.specs.declared.Cursor.{Cursor}
 use Rattle.places.specs.Order.{rank}
 use Rattle.checker.specs.Cursors.{cursorRank, CursorRight, cursorRefusals}
 use Rattle.checker.specs.declared.Grant.{Grant}
 use Rattle.checker.specs.declared.Grant.the-variants as grant
 
--- 10: the leg is not below G. 11: a move at revision 4,294,967,295.
+-- 10: the leg is not below G. 11: a move at revision 4,294,967,295. 17: a period word above 7 (document 02, L4).
 abbrev pub noLeg : ℕ
 noLeg = 10
 
 abbrev pub cannotRise : ℕ
 cannotRise = 11
 
--- A move can be made of a table: the leg is there, and the revision can rise.
+abbrev pub tooLate : ℕ
+tooLate = 17
+
+-- A move can be made of a table: the leg is there, the revision can rise, and the leg lies at most 7 periods late.
 pub record CanMove (t : List ℕ) (mv : Move) : Type 0 where
   pub below : mv .leg < legCount t
   pub rises : revisionOf t < maxWord
+  pub periods : mv .periods ≤ maxPeriods
 
 -- A move may be made: the cursor is right, and the move can be made of the table.
 pub record MoveAllowed (t : List ℕ) (c : Cursor) (mv : Move) : Type 0 where
   pub cursor : CursorRight t c
   pub can : CanMove t mv
 
--- The refusals in their order: 1 to 9, then 10, then 11.
+-- The refusals in their order: 1 to 9, then 10, then 11, then 17.
 abbrev pub moveRefusals : List ℕ → Cursor → Move → Refusals
 moveRefusals t c mv =
     cursorRefusals t c
     then unless noLeg (mv .leg < legCount t)
     then unless cannotRise (revisionOf t < maxWord)
+    then unless tooLate (mv .periods ≤ maxPeriods)
     called MoveAllowed t c mv
 
 -- The first refusal that is due is k at p.

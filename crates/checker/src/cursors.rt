@@ -18,6 +18,8 @@ pub const NO_LEG: u32 = 10;
 
 pub const CANNOT_RISE: u32 = 11;
 
+pub const TOO_LATE: u32 = 17;
+
 pub const MAX_REVISION: u32 = 4294967295;
 
 // Whether (a,p) is a place of the table, or the end.
@@ -66,7 +68,7 @@ pub fn judged_cursor(t: &[u32], c: Cursor) -> Checked
     }
 }
 
-// The refusals 10 and 11, or none, of a right cursor.
+// The refusals 10, 11 and 17, or none, of a right cursor.
 fn allowed_told(t: &[u32], c: Cursor, mv: Move) -> Checked
     requires { ⌜ CursorRight (now t) c ⌝ }
     ensures { λ r. ⌜ MoveTold (now (t .entry)) c mv r ⌝ }
@@ -77,10 +79,13 @@ fn allowed_told(t: &[u32], c: Cursor, mv: Move) -> Checked
     if t[table::REVISION_AT] == MAX_REVISION {
         return Checked::Refused(CANNOT_RISE, 0);
     }
+    if shape::streams::MAX_PERIODS < mv.periods {
+        return Checked::Refused(TOO_LATE, 0);
+    }
     Checked::Clear
 }
 
-// Internal: the first of the refusals 1 to 11 that is due, or none.
+// Internal: the first of the refusals 1 to 11 and 17 that is due, or none.
 pub fn judged_move(t: &[u32], c: Cursor, mv: Move) -> Checked
     ensures { λ r. ⌜ MoveTold (now (t .entry)) c mv r ⌝ }
 {

@@ -58,7 +58,7 @@ pub fn slice(t: &[u32], cursor: Cursor, budget: u32) -> SliceAnswer
     }
 }
 
-// Sets the offset of one leg and raises the revision by one. The cursor is of the new revision, and where it stood past the start of that leg it goes
+// Sets the offset and the period word of one leg and raises the revision by one. The cursor is of the new revision, and where it stood past the start of that leg it goes
 // back to it.
 pub fn move_leg(t: &mut [u32], cursor: Cursor, mv: Move) -> Grant
     ensures { λ r. ⌜ Moves (now (t .entry)) cursor mv r (now (t .exit)) ⌝ }

@@ -53,7 +53,7 @@ to-the-end : Run (slice (at 0 1 2) 7 (NothingViolated (at 0 3 0) 7) ∷ begun) g
 to-the-end = (on-good, inl refl, ends _ _ _ (at-1-2 holdA) (omega (arith, ranks)))
 
 -- A leg ahead is moved, to 700. A slice from the new cursor goes on, and the old one is refused.
-move-ahead : Run (move-leg (at 0 1 2) (moveTo 2 700) (Granted (at 1 1 2)) ∷ begun) (moved good (moveTo 2 700))
+move-ahead : Run (move-leg (at 0 1 2) (moveTo 2 700 0) (Granted (at 1 1 2)) ∷ begun) (moved good (moveTo 2 700 0))
 move-ahead = (
   good,
   on-good,
@@ -61,11 +61,11 @@ move-ahead = (
   granted 0 0 1176 holdA 1 2 (at-1-2 holdA) 2 700 (omega arith) (omega arith) 1 2 (inl (refl, refl)) (omega arith) (omega (arith, ranks)),
 )
 
-goes-on-ahead : (p b q : ℕ) → p < placesOf 1 → b < 3 → q < placesOf b → rank 1 p + 1 ≡ rank b q → rank b q ≤ rank 2 3 → Slices (moved good (moveTo 2 700)) (at 1 1 p) 1 (Paused (at 1 b q) 1)
+goes-on-ahead : (p b q : ℕ) → p < placesOf 1 → b < 3 → q < placesOf b → rank 1 p + 1 ≡ rank b q → rank b q ≤ rank 2 3 → Slices (moved good (moveTo 2 700 0)) (at 1 1 p) 1 (Paused (at 1 b q) 1)
 goes-on-ahead p b q k l h e le =
     on (at 1 1 p) 1 (Paused (at 1 b q) 1) (moved-2 (offsetsA 0 1176 holdA) 700) (pause 1 0 1176 700 (rank 2 3) (before-2-3 1 700 (omega arith)) 1 p b q 1 (here 1 0 1176 700 1 p (omega arith) k) l h e le)
 
-stale-cursor : Slices (moved good (moveTo 2 700)) (at 0 1 2) 5 (answer.Refused 8 0 (at 0 1 2))
+stale-cursor : Slices (moved good (moveTo 2 700 0)) (at 0 1 2) 5 (answer.Refused 8 0 (at 0 1 2))
 stale-cursor =
     on (at 0 1 2) 5 (answer.Refused 8 0 (at 0 1 2)) (moved-2 (offsetsA 0 1176 holdA) 700)
     (inr (shape 1 0 1176 700, inl (refl, refl, λ e. absurd (omega (arith, e)))), refl)
@@ -148,7 +148,7 @@ run-11 = (
   violate 0 0 1176 0 (rank 2 3) (before-2-3 0 0 (omega arith)) _ _ _ _ 0 _ rule.Overlap (here _ _ _ _ _ _ (omega arith) (omega arith)) (omega arith) (omega arith) (meets-at-2-3 0) (place-rule (asked.Overlap 0)) (omega arith) (omega (arith, ranks)) (omega arith),
 )
 
-run-12 : Run case12 (moved planA (moveTo 2 holdA))
+run-12 : Run case12 (moved planA (moveTo 2 holdA 0))
 run-12 = (
   (
     planA,
@@ -161,7 +161,7 @@ run-12 = (
       (end 1 0 1176 holdA (rank 3 0) (accepted 1) 2 0 _ (here 1 0 1176 holdA 2 0 (omega arith) (omega arith)) (omega (arith, ranks)) (omega (arith, ranks))),
 )
 
-run-13 : Run case13 (moved planA (moveTo 0 600))
+run-13 : Run case13 (moved planA (moveTo 0 600 0))
 run-13 = (
   (
     planA,

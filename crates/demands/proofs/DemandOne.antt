@@ -1,8 +1,9 @@
 -- Demand 1, from the statements and theorems of each call. Assumes nothing.
 use Rattle.numbers.proofs.OneNumber.{read-number-one-answer, write-number-one-answer}
 use Rattle.files.proofs.OneAnswer.{read-plan-one-answer, write-plan-one-answer, read-cursor-one-answer, write-cursor-one-answer}
+use Rattle.editions.proofs.Answers.{read-first-one-answer}
 use Rattle.checker.proofs.OneAnswer.{start-one-answer, slice-one-answer, move-one-answer}
-use Rattle.host.proofs.OneAnswer.{host-start-one-answer, host-slice-one-answer, host-slice-full-one-answer, host-move-one-answer}
+use Rattle.host.proofs.OneAnswer.{host-start-one-answer, host-slice-one-answer, host-slice-full-one-answer, host-move-one-answer, host-convert-one-answer}
 use Rattle.claims.proofs.OneAnswer.{test-times-one-answer, test-chain-one-answer}
 use Rattle.solver.proofs.OneAnswer.{solve-one-answer}
 use Rattle.network_host.proofs.OneAnswer.{host-solve-one-answer, host-test-times-one-answer, host-test-chain-one-answer, host-solve-refusals-write-nothing}
@@ -24,6 +25,8 @@ one-answer-each = record {
   host-slice = host-slice-one-answer;
   host-slice-full = host-slice-full-one-answer;
   host-move = host-move-one-answer;
+  read-first = read-first-one-answer;
+  host-convert = host-convert-one-answer;
   solve = solve-one-answer;
   test-times = test-times-one-answer;
   test-chain = test-chain-one-answer;
@@ -36,6 +39,7 @@ pub refusals-lose-nothing : RefusalsLoseNothing
 refusals-lose-nothing = record {
   write-number = λ x at k p b b′ w. w .kept;
   read-plan = λ s b b′ k p w. w .1;
+  read-first = λ s b b′ k p w. w .1;
   write-plan = λ t b b′ k p w. w .1;
   write-cursor = λ c d b b′ k p w. (w .0 .kept, w .1);
   start = λ t d k p w. w .1;

@@ -42,13 +42,13 @@ file-a : IsFile Sized planAFile planA
 file-a = record { complete = shape 0 0 1176 0 .sized; words = small-words planA (omega arith); bytes = sym plan-a-file }
 
 -- Plan A with leg 2 moved to where leg 0 ends.
-move-2 : moved planA (moveTo 2 holdA) ≡ planTable 1 0 1176 holdA
+move-2 : moved planA (moveTo 2 holdA 0) ≡ planTable 1 0 1176 holdA
 move-2 = moved-2 (offsetsA 0 1176 0) holdA
 
-moved-bytes : movedFile ≡ fileOf (moved planA (moveTo 2 holdA))
+moved-bytes : movedFile ≡ fileOf (moved planA (moveTo 2 holdA 0))
 moved-bytes = sym (ap fileOf move-2 ∙ file-is (planTable 1 0 1176 holdA))
 
-file-moved : IsFile Sized movedFile (moved planA (moveTo 2 holdA))
+file-moved : IsFile Sized movedFile (moved planA (moveTo 2 holdA 0))
 file-moved = record {
   complete = subst Sized (sym move-2) (shape 1 0 1176 holdA .sized);
   words = subst AllWords (sym move-2) (small-words (planTable 1 0 1176 holdA) (omega arith));
@@ -138,13 +138,13 @@ for-file = zeros (movedBytes + 4)
 laid : movedFile ++ zeros 4 ≡ overlaid for-file 0 movedFile
 laid = sym (overlaid-front for-file movedFile)
 
-moves : MoveMade planAFile (saved 0 2 3) (moveTo 2 holdA) (answered 0 movedBytes) (lent (movedFile ++ zeros 4) (left 1 2 0)) movedFile
+moves : MoveMade planAFile (saved 0 2 3) (moveTo 2 holdA 0) (answered 0 movedBytes) (lent (movedFile ++ zeros 4) (left 1 2 0)) movedFile
 moves =
-    let long : _≡_ {A = ℕ} movedBytes (length (fileOf (moved planA (moveTo 2 holdA)))) = ap length moved-bytes in
+    let long : _≡_ {A = ℕ} movedBytes (length (fileOf (moved planA (moveTo 2 holdA 0)))) = ap length moved-bytes in
     let given : length for-file ≡ movedBytes + 4 = refl in
     record {
       m = lent for-file (zeros 15);
-      words = record { leg = omega arith; offset = omega arith };
+      words = record { leg = omega arith; offset = omega arith; periods = omega arith };
       moves = inr (
         planA,
         file-a,
@@ -155,7 +155,7 @@ moves =
             room,
             record {
               given = Granted (at 1 2 0);
-              table = moved planA (moveTo 2 holdA);
+              table = moved planA (moveTo 2 holdA 0);
               moves = granted 0 0 1176 0 2 3 (here 0 0 1176 0 2 3 (omega arith) (omega arith)) 2 holdA (omega arith) (omega arith) 2 0 (inr (refl, refl)) (omega arith) (omega arith);
               after = inr (
                 omega (arith, long, given),
@@ -163,7 +163,7 @@ moves =
                   answer = ap (answered 0) long;
                   after =
                       ap (λ (f : List ℕ). lent f (left 1 2 0)) (laid ∙ ap (overlaid for-file 0) moved-bytes)
-                      ∙ ap (lent (overlaid for-file 0 (fileOf (moved planA (moveTo 2 holdA))))) (after-move .written);
+                      ∙ ap (lent (overlaid for-file 0 (fileOf (moved planA (moveTo 2 holdA 0))))) (after-move .written);
                 },
               );
             },
@@ -176,7 +176,7 @@ moves =
 
 accepts : SliceMade movedFile (saved 1 2 0) 5 (answered 0 5) (left 1 3 0)
 accepts =
-    slice-made movedFile (moved planA (moveTo 2 holdA)) (saved 1 2 0) (at 1 2 0) _ (NothingViolated (at 1 3 0) _) (left 1 3 0) file-moved (after-move .reads)
+    slice-made movedFile (moved planA (moveTo 2 holdA 0)) (saved 1 2 0) (at 1 2 0) _ (NothingViolated (at 1 3 0) _) (left 1 3 0) file-moved (after-move .reads)
     (on (at 1 2 0) _ (NothingViolated (at 1 3 0) _) move-2
     (end 1 0 1176 holdA (rank 3 0) (accepted 1) 2 0 _ (here 1 0 1176 holdA 2 0 (omega arith) (omega arith)) (omega (arith, ranks)) (omega (arith, ranks))))
     (omega arith) (at-new-end .written)

@@ -51,9 +51,9 @@ module _ (revision o0 o1 o2 : ℕ) where
   right a p s = record { shape = shape; revision = refl; stands = s }
 
   pub granted : (a p : ℕ) → PlaceOrEnd t a p → (leg offset : ℕ) → leg < 3 → revision < maxWord → (b q : ℕ) → ((b ≡ a) × (q ≡ p)) ⊎ ((b ≡ leg) × (q ≡ 0))
-      → rank b q ≤ rank a p → rank b q ≤ rank leg 0 → Moves t (at revision a p) (moveTo leg offset) (Granted (at (revision + 1) b q)) (moved t (moveTo leg offset))
+      → rank b q ≤ rank a p → rank b q ≤ rank leg 0 → Moves t (at revision a p) (moveTo leg offset 0) (Granted (at (revision + 1) b q)) (moved t (moveTo leg offset 0))
   granted a p s leg offset l rises b q one given to-leg = record {
-    allowed = record { cursor = right a p s; can = record { below = l; rises = rises } };
+    allowed = record { cursor = right a p s; can = record { below = l; rises = rises; periods = omega arith } };
     table = refl;
     revision = refl;
     lesser = record { one = one; given = given; to-leg = to-leg };

@@ -54,22 +54,22 @@ pub record RunsAtNumbers : Type 0 where
   pub verdict : Run (slice (at 0 1 2) 7 (NothingViolated (at 0 3 0) 7) ∷ begun) good
   pub enough : budgets fiveAndSeven ≡ placeCount good
   -- These two have all that demand 3 asks for, and their verdict: a start or a granted move before them, a slice, and the newest cursor each time.
-  pub renewed : Renews (start (Granted (at 0 0 0))) × Renews (move-leg (at 0 1 2) (moveTo 2 700) (Granted (at 1 1 2)))
+  pub renewed : Renews (start (Granted (at 0 0 0))) × Renews (move-leg (at 0 1 2) (moveTo 2 700 0) (Granted (at 1 1 2)))
   pub asked-for : Since (withoutRefused fiveAndSeven) (start (Granted (at 0 0 0))) × HasSlice (withoutRefused fiveAndSeven)
   pub has-verdict : HasVerdict fiveAndSeven
   -- A budget of 0 looks at nothing, and at the end it is a verdict.
   pub nothing-looked-at : Run (slice (at 0 1 2) 0 (Paused (at 0 1 2) 0) ∷ begun) good
   pub at-the-end : Run (slice (at 0 3 0) 0 (NothingViolated (at 0 3 0) 0) ∷ slice (at 0 1 2) 7 (NothingViolated (at 0 3 0) 7) ∷ begun) good
   -- A move of a leg that the cursor has passed pulls it back, one of a leg ahead does not, and the old cursor is refused 8 from then on.
-  pub passed : Run (move-leg (at 0 1 2) (moveTo 0 600) (Granted (at 1 0 0)) ∷ begun) (moved good (moveTo 0 600))
-  pub ahead : Run (move-leg (at 0 1 2) (moveTo 2 700) (Granted (at 1 1 2)) ∷ begun) (moved good (moveTo 2 700))
-  pub stale : Run (slice (at 0 1 2) 5 (answer.Refused 8 0 (at 0 1 2)) ∷ move-leg (at 0 1 2) (moveTo 2 700) (Granted (at 1 1 2)) ∷ begun) (moved good (moveTo 2 700))
+  pub passed : Run (move-leg (at 0 1 2) (moveTo 0 600 0) (Granted (at 1 0 0)) ∷ begun) (moved good (moveTo 0 600 0))
+  pub ahead : Run (move-leg (at 0 1 2) (moveTo 2 700 0) (Granted (at 1 1 2)) ∷ begun) (moved good (moveTo 2 700 0))
+  pub stale : Run (slice (at 0 1 2) 5 (answer.Refused 8 0 (at 0 1 2)) ∷ move-leg (at 0 1 2) (moveTo 2 700 0) (Granted (at 1 1 2)) ∷ begun) (moved good (moveTo 2 700 0))
   -- A refused move leaves the table and the cursor, and is no new beginning.
-  pub refused : Run (move-leg (at 0 1 2) (moveTo 3 700) (Refused 10 0 (at 0 1 2)) ∷ begun) good
-  pub goes-on : Since (withoutRefused (move-leg (at 0 1 2) (moveTo 3 700) (Refused 10 0 (at 0 1 2)) ∷ slice (at 0 0 0) 5 (Paused (at 0 1 2) 5) ∷ [])) (start (Granted (at 0 0 0)))
+  pub refused : Run (move-leg (at 0 1 2) (moveTo 3 700 0) (Refused 10 0 (at 0 1 2)) ∷ begun) good
+  pub goes-on : Since (withoutRefused (move-leg (at 0 1 2) (moveTo 3 700 0) (Refused 10 0 (at 0 1 2)) ∷ slice (at 0 0 0) 5 (Paused (at 0 1 2) 5) ∷ [])) (start (Granted (at 0 0 0)))
   -- A refused slice is passed over: the newest cursor is the one before it, and its budget does not count.
-  pub over-stale : Run (overStale ++ move-leg (at 0 1 2) (moveTo 2 700) (Granted (at 1 1 2)) ∷ begun) (moved good (moveTo 2 700))
-  pub passed-over : Since (withoutRefused overStale) (move-leg (at 0 1 2) (moveTo 2 700) (Granted (at 1 1 2)))
+  pub over-stale : Run (overStale ++ move-leg (at 0 1 2) (moveTo 2 700 0) (Granted (at 1 1 2)) ∷ begun) (moved good (moveTo 2 700 0))
+  pub passed-over : Since (withoutRefused overStale) (move-leg (at 0 1 2) (moveTo 2 700 0) (Granted (at 1 1 2)))
   pub not-counted : budgets (withoutRefused overStale) ≡ 2
   -- Where a slice is given an older cursor than the newest, budgets of 5 and 7 give no verdict, and such a part does not count.
   pub older : Run (slice (at 0 0 0) 7 (Paused (at 0 2 0) 7) ∷ begun) good

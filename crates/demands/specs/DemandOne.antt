@@ -14,10 +14,12 @@ use Rattle.files.specs.Theorems.{ReadPlanOneAnswer, WritePlanOneAnswer, ReadCur
 use Rattle.files.specs.declared.Cursor.{Cursor}
 use Rattle.files.specs.declared.PlanRead.the-variants as plan
 use Rattle.files.specs.declared.CursorWritten.the-variants as saved
+use Rattle.editions.specs.Reading.{ReadsFirst}
+use Rattle.editions.specs.Theorems.{ReadFirstOneAnswer}
 use Rattle.checker.specs.Slices.{noCursor, Starts, Slices}
 use Rattle.checker.specs.Moves.{Moves}
 use Rattle.checker.specs.Theorems.{StartOneAnswer, SliceOneAnswer, MoveOneAnswer}
-use Rattle.host.specs.Theorems.{HostStartOneAnswer, HostSliceOneAnswer, HostSliceFullOneAnswer, HostMoveOneAnswer, HostRefusalsWriteNothing}
+use Rattle.host.specs.Theorems.{HostStartOneAnswer, HostSliceOneAnswer, HostSliceFullOneAnswer, HostMoveOneAnswer, HostConvertOneAnswer, HostRefusalsWriteNothing}
 use Rattle.claims.specs.Theorems.{TestTimesOneAnswer, TestChainOneAnswer}
 use Rattle.solver.specs.Solving.{SolvesWith}
 use Rattle.solver.specs.Theorems.{SolveOneAnswer}
@@ -42,6 +44,8 @@ pub record OneAnswerEach : Type 0 where
   pub host-slice : HostSliceOneAnswer
   pub host-slice-full : HostSliceFullOneAnswer
   pub host-move : HostMoveOneAnswer
+  pub read-first : ReadFirstOneAnswer
+  pub host-convert : HostConvertOneAnswer
   pub solve : SolveOneAnswer
   pub test-times : TestTimesOneAnswer
   pub test-chain : TestChainOneAnswer
@@ -54,6 +58,7 @@ pub record OneAnswerEach : Type 0 where
 pub record RefusalsLoseNothing : Type 0 where
   pub write-number : (x at k p : ℕ) (b b′ : List ℕ) → WritesNumber x at b (written.Refused k p) b′ → b′ ≡ b
   pub read-plan : (s b b′ : List ℕ) (k p : ℕ) → ReadsPlan s b (plan.Refused k p) b′ → b′ ≡ b
+  pub read-first : (s b b′ : List ℕ) (k p : ℕ) → ReadsFirst s b (plan.Refused k p) b′ → b′ ≡ b
   pub write-plan : (t b b′ : List ℕ) (k p : ℕ) → WritesPlan t b (written.Refused k p) b′ → b′ ≡ b
   pub write-cursor : (c d : Cursor) (b b′ : List ℕ) (k p : ℕ) → WritesCursor c b (saved.Refused k p d) b′ → (b′ ≡ b) × (d ≡ c)
   pub start : (t : List ℕ) (d : Cursor) (k p : ℕ) → Starts t (grant.Refused k p d) → d ≡ noCursor

@@ -19,12 +19,12 @@ movedFile =
     0x02 ∷ 0x03 ∷ 0x08 ∷ 0xF4 ∷ 0x03 ∷
     0xA0 ∷ 0x8D ∷ 0x06 ∷ 0xB0 ∷ 0x12 ∷ 0x40 ∷ 0x00 ∷ 0x02 ∷
     0xF0 ∷ 0x93 ∷ 0x09 ∷ 0xD0 ∷ 0x0F ∷ 0x40 ∷ 0x02 ∷ 0x01 ∷
-    0x00 ∷ 0x00 ∷ 0x00 ∷
-    0x00 ∷ 0x01 ∷ 0x98 ∷ 0x09 ∷
-    0x01 ∷ 0x00 ∷ 0xA0 ∷ 0x05 ∷ []
+    0x00 ∷ 0x00 ∷ 0x00 ∷ 0x00 ∷
+    0x00 ∷ 0x01 ∷ 0x98 ∷ 0x09 ∷ 0x00 ∷
+    0x01 ∷ 0x00 ∷ 0xA0 ∷ 0x05 ∷ 0x00 ∷ []
 
 abbrev pub movedBytes : ℕ
-movedBytes = 42
+movedBytes = 45
 
 -- A saved cursor of three bytes, and 15 lent bytes with it in front. All of them were 0 before the first call.
 abbrev pub zeros : ℕ → List ℕ
@@ -51,9 +51,9 @@ twoSlices = slice (saved 0 2 3) 5 (answered 5 1) (left 0 2 3) ∷ ten ∷ []
 abbrev pub violatedInC : List HostCall
 violatedInC = twoSlices ++ begunInC
 
--- A move of leg 2 to 672, for which 4 bytes more are lent than its file has: granted, with the file's length, and cursor (2,0) of revision 1.
+-- A move of leg 2 to 672 in its first period, for which 4 bytes more are lent than its file has: granted, with the file's length, and cursor (2,0) of revision 1.
 abbrev pub moveInC : HostCall
-moveInC = move-leg (saved 0 2 3) (moveTo 2 672) (answered 0 movedBytes) (lent (movedFile ++ zeros 4) (left 1 2 0))
+moveInC = move-leg (saved 0 2 3) (moveTo 2 672 0) (answered 0 movedBytes) (lent (movedFile ++ zeros 4) (left 1 2 0))
 
 -- Then a slice of 5 accepts with 5 steps.
 abbrev pub acceptedInC : List HostCall

@@ -110,6 +110,28 @@ pub fn put_in_place(path: &[u8]) -> bool {
     sync_folder_of(path)
 }
 
+// Internal: the same under a name that no file has; a file that has it is never replaced. The name is taken first, by an empty file: cut off there, that is what
+// stays, and otherwise no file or the whole one.
+pub fn put_under_new_name(path: &[u8]) -> bool {
+    let mut name = io::buffer();
+    let n = ended(path, b".conepalhui-new", &mut name);
+    let beside = &name[..n];
+    let fd = os::create(path);
+    if fd < 0 {
+        os::fail(path);
+        os::unlink(beside);
+        return false;
+    }
+    libc::close(fd);
+    if os::rename(beside, path) < 0 {
+        os::fail(path);
+        os::unlink(path);
+        os::unlink(beside);
+        return false;
+    }
+    sync_folder_of(path)
+}
+
 // Internal: removes a file, if there is one, and brings the folder to the disk.
 pub fn remove(path: &[u8]) -> bool {
     if os::unlink(path) < 0 {

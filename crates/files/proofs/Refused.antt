@@ -7,7 +7,8 @@ use native.Mathlib.Omega.{arith}
 use Rattle.numbers.specs.Number.{bytesEnd, NoNumber}
 use Rattle.table.specs.Size.{aboveLimit}
 use Rattle.files.specs.Reading.{leftOver}
-use Rattle.files.specs.Plan.{PlanFault}
+use Rattle.table.specs.declared.Edition.{Edition}
+use Rattle.files.specs.Plan.{PlanFaultIn}
 use Rattle.files.specs.Cursors.{ReadsCursor}
 use Rattle.files.specs.declared.CursorRead.the-variants as read
 
@@ -17,7 +18,7 @@ no-number-refused s p k (inl x) = (omega (arith, x .0), omega (arith, x .0))
 no-number-refused s p k (inr x) = (omega (arith, x .0), omega (arith, x .0))
 
 -- 2, or 12 to 14.
-pub plan-refused : (s : List ℕ) (k p : ℕ) → PlanFault s k p → (k ≡ aboveLimit) ⊎ ((bytesEnd ≤ k) × (k ≤ leftOver))
+pub plan-refused : {e : Edition} (s : List ℕ) (k p : ℕ) → PlanFaultIn e s k p → (k ≡ aboveLimit) ⊎ ((bytesEnd ≤ k) × (k ≤ leftOver))
 plan-refused s k p (inl c) = inr (no-number-refused s p k (c .no-number))
 plan-refused s k p (inr (inl x)) = inl (x .0)
 plan-refused s k p (inr (inr x)) = inr (omega (arith, x .0), omega (arith, x .0))

@@ -77,7 +77,7 @@ SavedCursorsComeBack =
     → ReadsCursor s (cursor.Saved c) → WritesCursor c bytes r bytes′
     → length s ≤ length bytes → (r ≡ saved.Bytes (length s)) × (bytes′ ≡ overlaid bytes 0 s)
 
--- No file has more than 48,665 bytes, and no saved cursor more than 15.
+-- No file has more than 58,905 bytes, and no saved cursor more than 15.
 abbrev pub maxFileBytes : ℕ
 maxFileBytes = maxNumberBytes * maxTableWords
 
@@ -85,12 +85,12 @@ abbrev pub maxCursorBytes : ℕ
 maxCursorBytes = maxNumberBytes * cursorNumbers
 
 abbrev pub FileBytesAtMost : Type 0
-FileBytesAtMost = (maxFileBytes ≡ 48665) × ((t : List ℕ) → Sized t → length (fileOf t) ≤ maxFileBytes)
+FileBytesAtMost = (maxFileBytes ≡ 58905) × ((t : List ℕ) → Sized t → length (fileOf t) ≤ maxFileBytes)
 
 abbrev pub CursorBytesAtMost : Type 0
 CursorBytesAtMost = (maxCursorBytes ≡ 15) × ((c : Cursor) → length (cursorFile c) ≤ maxCursorBytes)
 
--- Plan A's file, 41 bytes.
+-- Plan A's file, 44 bytes.
 abbrev pub planAFile : List ℕ
 planAFile =
     0x00 ∷ 0x02 ∷ 0x02 ∷ 0x03 ∷ 0x64 ∷
@@ -98,9 +98,9 @@ planAFile =
     0x02 ∷ 0x03 ∷ 0x08 ∷ 0xF4 ∷ 0x03 ∷
     0xA0 ∷ 0x8D ∷ 0x06 ∷ 0xB0 ∷ 0x12 ∷ 0x40 ∷ 0x00 ∷ 0x02 ∷
     0xF0 ∷ 0x93 ∷ 0x09 ∷ 0xD0 ∷ 0x0F ∷ 0x40 ∷ 0x02 ∷ 0x01 ∷
-    0x00 ∷ 0x00 ∷ 0x00 ∷
-    0x00 ∷ 0x01 ∷ 0x98 ∷ 0x09 ∷
-    0x01 ∷ 0x00 ∷ 0x00 ∷ []
+    0x00 ∷ 0x00 ∷ 0x00 ∷ 0x00 ∷
+    0x00 ∷ 0x01 ∷ 0x98 ∷ 0x09 ∷ 0x00 ∷
+    0x01 ∷ 0x00 ∷ 0x00 ∷ 0x00 ∷ []
 
 abbrev pub PlanAFile : Type 0
 PlanAFile = fileOf planA ≡ planAFile

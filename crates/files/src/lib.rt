@@ -4,7 +4,7 @@ ghost use Rattle.files.specs.Cursors.{ReadsCursor, WritesCursor};
 use basics::Checked;
 use numbers::Written;
 
-mod look;
+pub mod look;
 pub mod one_pass;
 
 pub const LEFT_OVER: u32 = 14;

@@ -2,15 +2,16 @@
 -- refusal of a move is 15. Assumes nothing.
 use Prim.Native.Nat.{ℕ, _+_, _≤_}
 use mathlib.Core.Path.{_≡_, ap}
-use mathlib.Core.List.{List}
+use mathlib.Core.List.{List, []}
 use mathlib.Core.Logic.{_⊎_, inl, inr}
 use native.Mathlib.Omega.{arith}
 use lib.ListN.{length}
 use Rattle.numbers.specs.Number.{noRoom, bytesEnd, bytesOf}
 use Rattle.numbers.specs.Series.{fileOf}
 use Rattle.numbers.proofs.OneNumber.{number-bytes-at-most, next-number-bytes}
+use Rattle.numbers.proofs.Rest.{rest-none, rest-last}
 use Rattle.numbers.proofs.Rows.{file-set}
-use Rattle.table.specs.Layout.{revisionOf, Sized}
+use Rattle.table.specs.Layout.{firstLayout, revisionOf, Sized}
 use Rattle.table.specs.Size.{aboveLimit}
 use Rattle.table.specs.Records.{moved}
 use Rattle.table.specs.declared.Move.{Move}
@@ -20,21 +21,28 @@ use Rattle.files.specs.Theorems.{maxCursorBytes}
 use Rattle.files.specs.declared.Cursor.{Cursor}
 use Rattle.files.proofs.ComeBack.{file-bytes-at-most}
 use Rattle.files.proofs.Refused.{plan-refused, cursor-refused}
+use Rattle.shape.specs.Streams.{maxPeriods}
 use Rattle.shape.specs.Shape.{WellFormedTable}
 use Rattle.checker.specs.Moves.{CanMove, Moves}
 use Rattle.checker.proofs.Moving.{shape-moved}
 use Rattle.checker.proofs.Refused.{move-of-table}
 use Rattle.checker.specs.declared.Grant.{Grant}
 use Rattle.checker.specs.declared.Grant.the-variants as grant
+use Rattle.editions.specs.Converted.{converted}
+use Rattle.editions.proofs.Wider.{first-older, converted-sized}
 use Rattle.host.specs.declared.Answer.{Answer}
 use Rattle.host.specs.Answers.{refusedResult, refusal, resultAlone}
 use Rattle.host.specs.Calls.{Lent, AfterMove, HostMoves}
-use Rattle.host.specs.Theorems.{moveBytes, MoveRoomIsEnough, FullRoomIsEnough}
+use Rattle.host.specs.Theorems.{moveBytes, MoveRoomIsEnough, FullRoomIsEnough, ConvertRoomIsEnough}
+
+-- A period word has one byte.
+one-byte : (x : ℕ) → x ≤ maxPeriods → length (bytesOf x) ≡ 1
+one-byte x h = ap length (rest-last x [] x (omega arith) (rest-none x (omega arith)))
 
 moved-file : {t : List ℕ} {mv : Move} → Sized t → CanMove t mv → length (fileOf (moved t mv)) ≤ length (fileOf t) + moveBytes
 moved-file {t} {mv} z can =
     moved-adds t z mv (can .below) (λ (l : List ℕ). length (fileOf l)) (λ (x : ℕ). length (bytesOf x)) 4 1 file-set
-    (λ x. number-bytes-at-most x .0) (number-bytes-at-most (mv .offset) .1) (next-number-bytes (revisionOf t))
+    (λ x. number-bytes-at-most x .0) (number-bytes-at-most (mv .offset) .1) (omega (arith, one-byte (mv .periods) (can .periods))) (next-number-bytes (revisionOf t))
 
 -- A granted move has room; a refused one is refused with another number.
 made-room : (t : List ℕ) (c : Cursor) (mv : Move) (m : Lent) (g : Grant) (u : List ℕ) (a : Answer) (m′ : Lent)
@@ -73,3 +81,13 @@ full-room-is-enough plan cursor mv m a m′ o h x e =
     room-is-enough plan cursor mv m a m′ e o
     (λ t f w can. omega (arith, file-bytes-at-most .1 (moved t mv) (shape-moved w can .sized), h))
     x
+
+pub convert-room-is-enough : ConvertRoomIsEnough
+convert-room-is-enough old file a file′ h (inl r) e = not-of-the-file (plan-refused old (r .number) (r .at) (r .fault))
+  where
+    not-of-the-file : (r .number ≡ aboveLimit) ⊎ ((bytesEnd ≤ r .number) × (r .number ≤ leftOver)) → ⊥
+    not-of-the-file (inl x) = omega (arith, ap resultAlone (r .answer), e, x)
+    not-of-the-file (inr x) = omega (arith, ap resultAlone (r .answer), e, x .1)
+convert-room-is-enough old file a file′ h (inr (u, f, inl r)) e =
+    r .fault .2 (omega (arith, h, file-bytes-at-most .1 (converted firstLayout u) (converted-sized first-older u (f .complete))))
+convert-room-is-enough old file a file′ h (inr (u, f, inr x)) e = omega (arith, ap resultAlone (x .1 .answer), e)

@@ -9,11 +9,12 @@ use Rattle.basics.specs.Refusals.{unless}
 use Rattle.basics.proofs.Refusals.{unless-one}
 use Rattle.numbers.specs.Number.{noRoom}
 use Rattle.numbers.specs.Series.{fileOf}
-use Rattle.table.specs.Layout.{Sized}
+use Rattle.table.specs.Layout.{current, firstLayout, SizedIn}
+use Rattle.table.specs.declared.Edition.{Edition}
 use Rattle.files.specs.Reading.{IsFile}
 use Rattle.table.specs.declared.Move.{Move}
 use Rattle.files.specs.Cursors.{ReadsCursor}
-use Rattle.files.specs.Plan.{PlanFault}
+use Rattle.files.specs.Plan.{PlanFaultIn}
 use Rattle.files.specs.Theorems.{maxCursorBytes}
 use Rattle.files.specs.declared.Cursor.{Cursor}
 use Rattle.files.specs.declared.CursorRead.{CursorRead}
@@ -23,11 +24,12 @@ use Rattle.places.specs.Order.{placeCount}
 use Rattle.checker.specs.declared.Grant.{Grant}
 use Rattle.checker.specs.declared.Grant.the-variants as grant
 use Rattle.checker.proofs.OneAnswer.{start-one-answer, slice-one-answer, move-one-answer}
+use Rattle.editions.specs.Converted.{converted}
 use Rattle.host.specs.declared.Answer.{Answer}
 use Rattle.host.specs.Answers.{refusal, sliceAnswered, startAnswered, bytesAfterSlice, bytesAfterStart, resultAlone}
-use Rattle.host.specs.Refusals.{CursorUnread, After, With, AfterPlan, AfterCursor, AfterRoom}
-use Rattle.host.specs.Calls.{Lent, AfterMove, BothWritten, Started, Sliced, MovedLeg, StartsTable, SlicesTable, MovesTable}
-use Rattle.host.specs.Theorems.{OneAnswer, HostStartOneAnswer, HostSliceFullOneAnswer, HostSliceOneAnswer, HostMoveOneAnswer, SliceGivesTheResult}
+use Rattle.host.specs.Refusals.{CursorUnread, After, With, AfterPlanIn, AfterPlan, AfterCursor, AfterRoom}
+use Rattle.host.specs.Calls.{Lent, AfterMove, BothWritten, FileWritten, WritesFile, Started, Sliced, MovedLeg, StartsTable, SlicesTable, MovesTable}
+use Rattle.host.specs.Theorems.{OneAnswer, HostStartOneAnswer, HostSliceFullOneAnswer, HostSliceOneAnswer, HostMoveOneAnswer, HostConvertOneAnswer, SliceGivesTheResult}
 
 -- What was read of a cursor, as numbers and a cursor.
 number-of : CursorRead → ℕ
@@ -75,10 +77,14 @@ module _ (M : Type 0) (m : M) where
       → ((v : Value) → OneAnswer Answer M (Then v)) → OneAnswer Answer M (With M Value Clear Then)
   with-one Value Clear Then same one a b x y (v, f, u) (w, g, z) = one v a b x y u (subst (λ (k : Value). Then k b y) (same w v g f) z)
 
+  after-plan-in-one : (e : Edition) (s : List ℕ) (Then : List ℕ → Answer → M → Type 0) → ((t : List ℕ) → OneAnswer Answer M (Then t))
+      → OneAnswer Answer M (AfterPlanIn e M s m Then)
+  after-plan-in-one e s Then one =
+      after-one (PlanFaultIn e s) (With M (List ℕ) (IsFile (SizedIn e) s) Then) (plan-fault-one s) (λ a x k p c f. file-no-fault (c .1) f)
+      (with-one (List ℕ) (IsFile (SizedIn e) s) Then (λ t u f g. same-file f g) one)
+
   after-plan-one : (s : List ℕ) (Then : List ℕ → Answer → M → Type 0) → ((t : List ℕ) → OneAnswer Answer M (Then t)) → OneAnswer Answer M (AfterPlan M s m Then)
-  after-plan-one s Then one =
-      after-one (PlanFault s) (With M (List ℕ) (IsFile Sized s) Then) (plan-fault-one s) (λ a x k p c f. file-no-fault (c .1) f)
-      (with-one (List ℕ) (IsFile Sized s) Then (λ t u f g. same-file f g) one)
+  after-plan-one = after-plan-in-one current
 
   after-cursor-one : (s : List ℕ) (Then : Cursor → Answer → M → Type 0) → ((c : Cursor) → OneAnswer Answer M (Then c)) → OneAnswer Answer M (AfterCursor M s m Then)
   after-cursor-one s Then one =
@@ -133,6 +139,12 @@ host-move-one-answer plan cursor mv m =
     after-plan-one Lent m plan (λ (t : List ℕ). AfterCursor Lent cursor m (λ (c : Cursor). MovesTable t c mv m))
     (λ t. after-cursor-one Lent m cursor (λ (c : Cursor). MovesTable t c mv m)
     (λ c. after-room-one Lent m (length (m .out)) maxCursorBytes (MovedLeg t c mv m) (move-made-one t c mv m)))
+
+pub host-convert-one-answer : HostConvertOneAnswer
+host-convert-one-answer old file =
+    after-plan-in-one (List ℕ) file firstLayout old (λ (u : List ℕ). WritesFile (converted firstLayout u) file)
+    (λ u. after-room-one (List ℕ) file (length file) (length (fileOf (converted firstLayout u))) (FileWritten (converted firstLayout u) file)
+    (λ a b x y v w. (v .answer ∙ sym (w .answer), v .after ∙ sym (w .after))))
 
 -- The result alone.
 pub slice-gives-the-result : SliceGivesTheResult

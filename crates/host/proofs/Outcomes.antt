@@ -7,11 +7,13 @@ use native.Mathlib.Omega.{arith}
 use lib.ListN.{length}
 use Rattle.basics.specs.Refusals.{unless}
 use Rattle.numbers.specs.Number.{noRoom}
-use Rattle.files.specs.Plan.{PlanFault}
+use Rattle.files.specs.Plan.{PlanFaultIn, PlanFault}
 use Rattle.files.specs.Theorems.{maxCursorBytes}
 use Rattle.files.specs.declared.Cursor.{Cursor}
 use Rattle.files.proofs.OneAnswer.{plan-fault-one, file-no-fault}
-use Rattle.table.specs.Layout.{Sized}
+use Rattle.numbers.specs.Series.{fileOf}
+use Rattle.table.specs.Layout.{current, firstLayout}
+use Rattle.table.specs.declared.Edition.{Edition}
 use Rattle.shape.proofs.Refused.{shape-of-table}
 use Rattle.rules.specs.declared.Rule.{Rule}
 use Rattle.rules.specs.declared.Rule.the-variants as rule
@@ -21,10 +23,11 @@ use Rattle.checker.specs.declared.Grant.{Grant}
 use Rattle.checker.specs.declared.Grant.the-variants as grant
 use Rattle.checker.specs.declared.SliceAnswer.{SliceAnswer}
 use Rattle.checker.specs.declared.SliceAnswer.the-variants as answer
+use Rattle.editions.specs.Converted.{converted}
 use Rattle.host.specs.declared.Answer.{Answer}
 use Rattle.host.specs.Answers.{refusedResult, ruleResult, refusal, sliceAnswered, startAnswered, bytesAfterSlice, bytesAfterStart, resultAlone}
-use Rattle.host.specs.Refusals.{CursorUnread, After, AfterPlan, AfterCursor, AfterRoom}
-use Rattle.host.specs.Calls.{Lent, AfterMove, Started, Sliced, MovedLeg, StartsTable, SlicesTable, MovesTable, HostStarts, HostSlices}
+use Rattle.host.specs.Refusals.{CursorUnread, After, AfterPlanIn, AfterPlan, AfterCursor, AfterRoom}
+use Rattle.host.specs.Calls.{Lent, AfterMove, FileWritten, WritesFile, Started, Sliced, MovedLeg, StartsTable, SlicesTable, MovesTable, HostStarts, HostSlices}
 use Rattle.host.specs.Theorems.{Keeps, HostRefusalsWriteNothing, PlanFaultsComeFirst, ResultsOfThePaper}
 
 -- A refusal at any stage keeps the memory, so what comes after the stage decides.
@@ -33,8 +36,11 @@ module _ (M : Type 0) (m : M) where
   after-keeps Fault Next keeps a m′ (inl x) h = x .kept
   after-keeps Fault Next keeps a m′ (inr x) h = keeps a m′ x h
 
+  after-plan-in-keeps : (e : Edition) (s : List ℕ) (Then : List ℕ → Answer → M → Type 0) → ((t : List ℕ) → Keeps M m (Then t)) → Keeps M m (AfterPlanIn e M s m Then)
+  after-plan-in-keeps e s Then keeps = after-keeps (PlanFaultIn e s) _ (λ a m′ x h. keeps (x .0) a m′ (x .2) h)
+
   after-plan-keeps : (s : List ℕ) (Then : List ℕ → Answer → M → Type 0) → ((t : List ℕ) → Keeps M m (Then t)) → Keeps M m (AfterPlan M s m Then)
-  after-plan-keeps s Then keeps = after-keeps (PlanFault s) _ (λ a m′ x h. keeps (x .0) a m′ (x .2) h)
+  after-plan-keeps = after-plan-in-keeps current
 
   after-cursor-keeps : (s : List ℕ) (Then : Cursor → Answer → M → Type 0) → ((c : Cursor) → Keeps M m (Then c)) → Keeps M m (AfterCursor M s m Then)
   after-cursor-keeps s Then keeps = after-keeps (CursorUnread s) _ (λ a m′ x h. keeps (x .0) a m′ (x .2) h)
@@ -84,6 +90,10 @@ host-refusals-write-nothing = record {
       (λ t. after-cursor-keeps Lent m cursor (λ (c : Cursor). MovesTable t c mv m)
       (λ c. after-room-keeps Lent m (length (m .out)) maxCursorBytes (MovedLeg t c mv m)
       (λ a m′ x. move-keeps m (x .given) (x .table) a m′ (x .after))));
+  convert = λ old file.
+      after-plan-in-keeps (List ℕ) file firstLayout old (λ (u : List ℕ). WritesFile (converted firstLayout u) file)
+      (λ u. after-room-keeps (List ℕ) file (length file) (length (fileOf (converted firstLayout u))) (FileWritten (converted firstLayout u) file)
+      (λ a file′ x h. absurd (omega (arith, ap resultAlone (x .answer), h))));
 }
 
 -- A fault of the plan file.

@@ -27,7 +27,7 @@ use Rattle.checker.specs.declared.SliceAnswer.the-variants as answer
 use Rattle.places.specs.Order.{placeCount}
 use Rattle.host.specs.declared.Answer.{Answer}
 use Rattle.host.specs.Answers.{ruleResult, refusal, sliceAnswered, startAnswered, resultAlone}
-use Rattle.host.specs.Calls.{Lent, AfterMove, HostStarts, HostSlices, HostMoves}
+use Rattle.host.specs.Calls.{Lent, AfterMove, HostStarts, HostSlices, HostMoves, HostConverts}
 use Rattle.host.specs.Theorems.{SliceResult, IsRefusal, ResultsAreThese}
 
 -- A refusal from 4 on, one for room, and one of the plan file.
@@ -93,6 +93,11 @@ move-these plan cursor mv m a m′ (inr (t, f, inr (c, g, inl r))) = inr (for-ro
 move-these plan cursor mv m a m′ (inr (t, f, inr (c, g, inr x))) =
     let s = x .1 in move-results t c mv (s .given) (s .table) m a m′ (f .complete) (s .moves) (s .after)
 
+convert-these : (old file : List ℕ) (a : Answer) (file′ : List ℕ) → HostConverts old file a file′ → (a .result ≡ 0) ⊎ IsRefusal (a .result)
+convert-these old file a file′ (inl r) = inr (of-the-plan a (r .number) (r .at) (r .answer) (plan-refused old (r .number) (r .at) (r .fault)))
+convert-these old file a file′ (inr (u, f, inl r)) = inr (for-room a (r .number) (r .at) (r .answer) (r .fault .0))
+convert-these old file a file′ (inr (u, f, inr x)) = inl (ap resultAlone (x .1 .answer))
+
 pub results-are-these : ResultsAreThese
 results-are-these = record {
   start = start-these;
@@ -100,4 +105,5 @@ results-are-these = record {
       subst (λ (n : ℕ). SliceResult n ⊎ IsRefusal n) (sym (x .is)) (slice-these plan cursor budget out (x .answer) out′ (x .slices));
   slice-full = slice-these;
   move-leg = move-these;
+  convert = convert-these;
 }

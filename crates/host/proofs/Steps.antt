@@ -9,12 +9,14 @@ use lib.Seq.{length-take-le}
 use Rattle.basics.specs.Refusals.{unless}
 use Rattle.numbers.specs.Number.{noRoom, maxWord}
 use Rattle.numbers.specs.Series.{fileOf}
+use Rattle.numbers.proofs.Overlay.{overlaid-length, overlaid-taken}
 use Rattle.numbers.specs.declared.Written.{Written}
 use Rattle.numbers.specs.declared.Written.the-variants as written
-use Rattle.table.specs.Layout.{maxTableWords, maxLegs, legCount, Sized}
+use Rattle.table.specs.Layout.{maxTableWords, maxLegs, firstLayout, legCount, SizedIn, Sized}
 use Rattle.table.specs.declared.Move.{Move}
-use Rattle.table.proofs.Sizes.{size-one}
-use Rattle.files.specs.Plan.{PlanFault, InFront, writeRefusals, TakesPlan, WritesPlan}
+use Rattle.table.proofs.Sizes.{size-one, table-words-at-most}
+use Rattle.files.specs.Reading.{IsFile}
+use Rattle.files.specs.Plan.{PlanFaultIn, PlanUnreadIn, PlanFault, InFront, writeRefusals, TakesPlan, WritesPlan}
 use Rattle.files.specs.Cursors.{ReadsCursor}
 use Rattle.files.specs.Theorems.{maxFileBytes}
 use Rattle.files.specs.declared.PlanRead.{PlanRead}
@@ -36,14 +38,18 @@ use Rattle.checker.specs.declared.Grant.the-variants as grant
 use Rattle.rules.specs.declared.Rule.{Rule}
 use Rattle.checker.specs.declared.SliceAnswer.{SliceAnswer}
 use Rattle.checker.specs.declared.SliceAnswer.the-variants as answer
+use Rattle.editions.specs.Converted.{converted}
+use Rattle.editions.specs.Reading.{ReadsFirst}
+use Rattle.editions.proofs.Wider.{first-older, converted-sized}
+use Rattle.editions.proofs.Answers.{first-gives-tables}
 use Rattle.host.specs.declared.Answer.{Answer}
 use Rattle.host.specs.declared.Opened.{Opened}
 use Rattle.host.specs.declared.Opened.the-variants as opened
 use Rattle.host.specs.Answers.{answered, ruleResult, refusal, withCursor}
 use Rattle.host.specs.Refusals.{RefusedFor, CursorUnread, AfterPlan, AfterCursor}
-use Rattle.host.specs.Calls.{Lent, lent, WritesBoth, MovedLeg, Started, Sliced, StartsTable, SlicesTable, MovesTable, HostStarts, HostSlices, HostMoves}
+use Rattle.host.specs.Calls.{Lent, lent, WritesBoth, WritesFile, HostConverts, MovedLeg, Started, Sliced, StartsTable, SlicesTable, MovesTable, HostStarts, HostSlices, HostMoves}
 use Rattle.host.specs.Steps.{Small, Opens}
-use Rattle.host.proofs.Laws.{plan-fault-small, cursor-file-small, table-small}
+use Rattle.host.proofs.Laws.{plan-fault-small, first-fault-small, cursor-file-small, table-small}
 
 -- Too few bytes are lent for the cursor that comes back: each call on a table looks there first.
 pub no-room : {M : Type 0} {room needed : ℕ} {m : M} {a : Answer} → room < needed → a ≡ refusal noRoom 0
@@ -216,3 +222,58 @@ module _ {t file file′ : List ℕ} {r : Written} {d : Cursor} {out : List ℕ}
         omega (arith, l .room, l .count),
         record { answer = ap (answered 0) (l .count); after = ap (λ (x : List ℕ). lent x out′) (l .after) ∙ ap (lent _) k },
       )
+
+module _ {t file file′ : List ℕ} {r : Written} where
+  pub no-file-written : {a : Answer} {k p : ℕ} → Sized t → r ≡ written.Refused k p → WritesPlan t file r file′ → a ≡ refusal k p → WritesFile t file a file′
+  no-file-written {a} {k} {p} z e h f =
+      inl (record { number = k; at = p; fault = unwritten-room file file′ z e h; answer = f; kept = subst (λ (y : Written). WritesPlan t file y file′) e h .1 })
+
+  pub file-written : {n : ℕ} → r ≡ written.Bytes n → WritesPlan t file r file′ → WritesFile t file (answered 0 n) file′
+  file-written {n} e h =
+      let l = subst (λ (y : Written). WritesPlan t file y file′) e h .1 in
+      inr (omega (arith, l .room, l .count), record { answer = ap (answered 0) (l .count); after = l .after })
+
+-- A plan file of the first layout was read: what its table becomes lies in the first words; or a fault of the file, since there is room for every table.
+pub record InFrontOfFirst (s : List ℕ) (n : ℕ) (w : List ℕ) : Type 0 where
+  pub table : List ℕ
+  pub file : IsFile (SizedIn firstLayout) s table
+  pub is : take n w ≡ converted firstLayout table
+  pub inside : n ≤ length w
+  pub sized : Sized (take n w)
+
+pub converted-length : {s w : List ℕ} {n : ℕ} → InFrontOfFirst s n w → n ≡ length (take n w)
+converted-length {s} {w} {n} f = sym (length-take-le _ _ (f .inside))
+
+module _ (s w w′ : List ℕ) {r : PlanRead} where
+  pub first-front : {n : ℕ} → r ≡ plan.Words n → ReadsFirst s w r w′ → InFrontOfFirst s n w′
+  first-front {n} e h = given n (subst (λ (y : PlanRead). ReadsFirst s w y w′) e h)
+    where
+      given : (n : ℕ) → ReadsFirst s w (plan.Words n) w′ → InFrontOfFirst s n w′
+      given n (u, f, l) =
+          let c = l .count in
+          let a = l .after in
+          let long = overlaid-length w 0 (converted firstLayout u) (omega (arith, l .room, l .count)) in
+          record {
+            table = u;
+            file = f;
+            is = rw (c, a) (overlaid-taken w (converted firstLayout u));
+            inside = omega (arith, l .room, ap length a, long);
+            sized = first-gives-tables s w w′ n (u, f, l) .0;
+          }
+
+  pub first-fault : {k p : ℕ} → r ≡ plan.Refused k p → maxTableWords ≤ length w → ReadsFirst s w r w′ → PlanFaultIn firstLayout s k p
+  first-fault {k} {p} e room h = fault (subst (λ (y : PlanRead). ReadsFirst s w y w′) e h .0)
+    where
+      fault : PlanUnreadIn firstLayout (converted firstLayout) s (length w) k p → PlanFaultIn firstLayout s k p
+      fault (inl f) = f
+      fault (inr x) = absurd (omega (arith, room, x .2 .long, table-words-at-most .1 _ (converted-sized first-older (x .2 .table) (x .2 .file .complete))))
+
+  pub first-small : {k p : ℕ} → r ≡ plan.Refused k p → maxTableWords ≤ length w → ReadsFirst s w r w′ → Small k p
+  first-small {k} {p} e room h = first-fault-small s k p (first-fault e room h)
+
+  module _ {file : List ℕ} {a : Answer} where
+    pub convert-refused : {k p : ℕ} → r ≡ plan.Refused k p → maxTableWords ≤ length w → ReadsFirst s w r w′ → a ≡ refusal k p → HostConverts s file a file
+    convert-refused {k} {p} e room h f = inl (record { number = k; at = p; fault = first-fault e room h; answer = f; kept = refl })
+
+    pub convert-on : {file′ : List ℕ} {n : ℕ} → r ≡ plan.Words n → ReadsFirst s w r w′ → WritesFile (take n w′) file a file′ → HostConverts s file a file′
+    convert-on {file′} e h x = let f = first-front e h in inr (f .table, f .file, subst (λ (t : List ℕ). WritesFile t file a file′) (f .is) x)

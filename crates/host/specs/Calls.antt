@@ -4,6 +4,7 @@ use mathlib.Core.Path.{_≡_}
 use mathlib.Core.List.{List}
 use lib.ListN.{length}
 use Rattle.numbers.specs.Series.{fileOf, overlaid}
+use Rattle.table.specs.Layout.{firstLayout}
 use Rattle.table.specs.declared.Move.{Move}
 use Rattle.files.specs.Theorems.{maxCursorBytes}
 use Rattle.files.specs.declared.Cursor.{Cursor}
@@ -15,7 +16,8 @@ use Rattle.checker.specs.declared.Grant.the-variants as grant
 use Rattle.checker.specs.declared.SliceAnswer.{SliceAnswer}
 use Rattle.host.specs.declared.Answer.{Answer}
 use Rattle.host.specs.Answers.{answered, refusal, sliceAnswered, startAnswered, withCursor, bytesAfterSlice, bytesAfterStart, resultAlone}
-use Rattle.host.specs.Refusals.{AfterPlan, AfterCursor, AfterRoom}
+use Rattle.editions.specs.Converted.{converted}
+use Rattle.host.specs.Refusals.{AfterPlanIn, AfterPlan, AfterCursor, AfterRoom}
 
 -- A start of the table t: given is what it gives. Granted, the number of places stands beside the result.
 pub record Started (t : List ℕ) (out : List ℕ) (a : Answer) (out′ : List ℕ) : Type 0 where
@@ -82,6 +84,19 @@ HostSlices plan cursor budget out =
 
 abbrev pub HostMoves : List ℕ → List ℕ → Move → Lent → Answer → Lent → Type 0
 HostMoves plan cursor mv m = AfterPlan Lent plan m (λ (t : List ℕ). AfterCursor Lent cursor m (λ (c : Cursor). MovesTable t c mv m))
+
+-- The plan file of the table u lies in the first bytes of file, and every other byte is as it was. How many bytes it has stands beside the result.
+pub record FileWritten (u file : List ℕ) (a : Answer) (file′ : List ℕ) : Type 0 where
+  pub answer : a ≡ answered 0 (length (fileOf u))
+  pub after : file′ ≡ overlaid file 0 (fileOf u)
+
+-- 15 where fewer bytes are lent than it has.
+abbrev pub WritesFile : List ℕ → List ℕ → Answer → List ℕ → Type 0
+WritesFile u file = AfterRoom (List ℕ) (length file) (length (fileOf u)) file (FileWritten u file)
+
+-- A plan file of the first layout, converted: the plan file of what its table becomes is written.
+abbrev pub HostConverts : List ℕ → List ℕ → Answer → List ℕ → Type 0
+HostConverts old file = AfterPlanIn firstLayout (List ℕ) old file (λ (u : List ℕ). WritesFile (converted firstLayout u) file)
 
 -- The slice that gives one number, r: the result of the answer that the slice in full gives.
 pub record HostSliceResult (plan cursor : List ℕ) (budget : ℕ) (out : List ℕ) (r : ℕ) (out′ : List ℕ) : Type 0 where

@@ -6,9 +6,10 @@ use mathlib.Core.List.{List}
 use mathlib.Core.Logic.{_⊎_}
 use Rattle.basics.specs.Refusals.{unless}
 use Rattle.numbers.specs.Number.{noRoom}
-use Rattle.table.specs.Layout.{Sized}
+use Rattle.table.specs.Layout.{current, SizedIn}
+use Rattle.table.specs.declared.Edition.{Edition}
 use Rattle.files.specs.Reading.{IsFile}
-use Rattle.files.specs.Plan.{PlanFault}
+use Rattle.files.specs.Plan.{PlanFaultIn}
 use Rattle.files.specs.Cursors.{ReadsCursor}
 use Rattle.files.specs.declared.Cursor.{Cursor}
 use Rattle.files.specs.declared.CursorRead.the-variants as read
@@ -35,9 +36,12 @@ After M Fault m Next a m′ = RefusedFor M Fault m a m′ ⊎ Next a m′
 abbrev pub With : (M Value : Type 0) → (Value → Type 0) → (Value → Answer → M → Type 0) → Answer → M → Type 0
 With M Value Clear Then a m′ = (v : Value) × Clear v × Then v a m′
 
--- The plan reader refuses the file, or it is the file of a table. It never refuses 15: the host has room for every table.
+-- The plan reader of a layout refuses the file, or it is the file of a table. It never refuses 15: the host has room for every table.
+abbrev pub AfterPlanIn : Edition → (M : Type 0) → List ℕ → M → (List ℕ → Answer → M → Type 0) → Answer → M → Type 0
+AfterPlanIn e M plan m Then = After M (PlanFaultIn e plan) m (With M (List ℕ) (IsFile (SizedIn e) plan) Then)
+
 abbrev pub AfterPlan : (M : Type 0) → List ℕ → M → (List ℕ → Answer → M → Type 0) → Answer → M → Type 0
-AfterPlan M plan m Then = After M (PlanFault plan) m (With M (List ℕ) (IsFile Sized plan) Then)
+AfterPlan M plan m Then = AfterPlanIn current M plan m Then
 
 -- The cursor reader refuses the saved cursor, or it is that of a cursor.
 abbrev pub AfterCursor : (M : Type 0) → List ℕ → M → (Cursor → Answer → M → Type 0) → Answer → M → Type 0

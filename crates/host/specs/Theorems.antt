@@ -15,7 +15,7 @@ use Rattle.checker.specs.declared.Grant.the-variants as grant
 use Rattle.checker.specs.declared.SliceAnswer.the-variants as answer
 use Rattle.host.specs.declared.Answer.{Answer}
 use Rattle.host.specs.Answers.{refusedResult, answered, refusal, sliceAnswered, startAnswered, resultAlone}
-use Rattle.host.specs.Calls.{Lent, HostStarts, HostSlices, HostSliceResult, HostMoves}
+use Rattle.host.specs.Calls.{Lent, HostStarts, HostSlices, HostSliceResult, HostMoves, HostConverts}
 
 -- No second answer and no second memory satisfies Does, the statement of a call.
 abbrev pub OneAnswer : (A M : Type 0) → (A → M → Type 0) → Type 0
@@ -34,6 +34,9 @@ HostSliceOneAnswer = (plan cursor : List ℕ) (budget : ℕ) (out : List ℕ) �
 abbrev pub HostMoveOneAnswer : Type 0
 HostMoveOneAnswer = (plan cursor : List ℕ) (mv : Move) (m : Lent) → OneAnswer Answer Lent (HostMoves plan cursor mv m)
 
+abbrev pub HostConvertOneAnswer : Type 0
+HostConvertOneAnswer = (old file : List ℕ) → OneAnswer Answer (List ℕ) (HostConverts old file)
+
 -- The slice that gives one number gives the result of the slice in full, and writes the same.
 abbrev pub SliceGivesTheResult : Type 0
 SliceGivesTheResult =
@@ -49,6 +52,7 @@ pub record HostRefusalsWriteNothing : Type 0 where
   pub slice : (plan cursor : List ℕ) (budget : ℕ) (out : List ℕ) → Keeps (List ℕ) out (HostSlices plan cursor budget out)
   pub slice-alone : (plan cursor : List ℕ) (budget : ℕ) (out : List ℕ) (r : ℕ) (out′ : List ℕ) → HostSliceResult plan cursor budget out r out′ → refusedResult 0 ≤ r → out′ ≡ out
   pub move-leg : (plan cursor : List ℕ) (mv : Move) (m : Lent) → Keeps Lent m (HostMoves plan cursor mv m)
+  pub convert : (old file : List ℕ) → Keeps (List ℕ) file (HostConverts old file)
 
 -- Which file a refusal 12, 13 or 14 lies in: in every call a fault of the plan file comes before all else, and a start gives 12, 13 and 14 for such a fault alone.
 -- So it lies in the plan file exactly when a start gives it too.
@@ -60,7 +64,7 @@ pub record PlanFaultsComeFirst : Type 0 where
       → PlanFault plan k p → HostMoves plan cursor mv m a m′ → a ≡ refusal k p
   pub no-other : (plan out : List ℕ) (k p : ℕ) (out′ : List ℕ) → 12 ≤ k → k ≤ 14 → HostStarts plan out (refusal k p) out′ → PlanFault plan k p
 
--- A move makes a plan file longer by 5 bytes at the most: 4 for the offset and 1 for the revision. So whoever lends that much more than the plan has for the new
+-- A move makes a plan file longer by 5 bytes at the most: 4 for the offset and 1 for the revision; a period word has one byte. So whoever lends that much more than the plan has for the new
 -- file, and 15 bytes for the cursor, is not refused with 15.
 abbrev pub moveBytes : ℕ
 moveBytes = 5
@@ -78,7 +82,13 @@ FullRoomIsEnough =
     → maxCursorBytes ≤ length (m .out) → maxFileBytes ≤ length (m .file)
     → HostMoves plan cursor mv m a m′ → a .result ≡ refusedResult noRoom → ⊥
 
--- The results of refusals: 102, and 104 to 115. No call gives 101 or 103: they are of tables in memory, and a plan file that is read has the length that its header
+-- A conversion to as many bytes as the largest plan file has is not refused with 15.
+abbrev pub ConvertRoomIsEnough : Type 0
+ConvertRoomIsEnough =
+    (old file : List ℕ) (a : Answer) (file′ : List ℕ) → maxFileBytes ≤ length file
+    → HostConverts old file a file′ → a .result ≡ refusedResult noRoom → ⊥
+
+-- The results of refusals: 102, 104 to 115, and 117. No call gives 101 or 103: they are of tables in memory, and a plan file that is read has the length that its header
 -- says.
 abbrev pub IsRefusal : ℕ → Type 0
 IsRefusal r = (r ≡ 102) ⊎ ((104 ≤ r) × RefusalNumber (r - 100))
@@ -87,7 +97,7 @@ IsRefusal r = (r ≡ 102) ⊎ ((104 ≤ r) × RefusalNumber (r - 100))
 abbrev pub SliceResult : ℕ → Type 0
 SliceResult r = r ≤ 5
 
--- Which results there are: 0 of a start and of a move, those of a slice, or a refusal.
+-- Which results there are: 0 of a start, of a move and of a conversion, those of a slice, or a refusal.
 pub record ResultsAreThese : Type 0 where
   pub start : (plan out : List ℕ) (a : Answer) (out′ : List ℕ) → HostStarts plan out a out′ → (a .result ≡ 0) ⊎ IsRefusal (a .result)
   pub slice : (plan cursor : List ℕ) (budget : ℕ) (out : List ℕ) (r : ℕ) (out′ : List ℕ)
@@ -96,9 +106,10 @@ pub record ResultsAreThese : Type 0 where
       → HostSlices plan cursor budget out a out′ → SliceResult (a .result) ⊎ IsRefusal (a .result)
   pub move-leg : (plan cursor : List ℕ) (mv : Move) (m : Lent) (a : Answer) (m′ : Lent)
       → HostMoves plan cursor mv m a m′ → (a .result ≡ 0) ⊎ IsRefusal (a .result)
+  pub convert : (old file : List ℕ) (a : Answer) (file′ : List ℕ) → HostConverts old file a file′ → (a .result ≡ 0) ⊎ IsRefusal (a .result)
 
 -- The answers at the paper's numbers: 0 nothing violated, 1 paused, 2 to 5 violated (window, hop, deadline, overlap), each with the steps; a start, 0 with the
--- places; 100 plus the refusal number, with the position. And 15: the fewest bytes that are taken for the cursor, and the largest refusal.
+-- places; 100 plus the refusal number, with the position. And 15, the fewest bytes that are taken for the cursor; and 17, the largest refusal.
 pub record ResultsOfThePaper : Type 0 where
   pub nothing-violated : (d : Cursor) (n : ℕ) → sliceAnswered (answer.NothingViolated d n) ≡ answered 0 n
   pub paused : (d : Cursor) (n : ℕ) → sliceAnswered (answer.Paused d n) ≡ answered 1 n
@@ -110,4 +121,4 @@ pub record ResultsOfThePaper : Type 0 where
   pub started : (n : ℕ) (d : Cursor) → startAnswered n (grant.Granted d) ≡ answered 0 n
   pub not-started : (n k p : ℕ) (d : Cursor) → startAnswered n (grant.Refused k p d) ≡ answered (100 + k) p
   pub room : maxCursorBytes ≡ 15
-  pub largest : maxRefusal ≡ 15
+  pub largest : maxRefusal ≡ 17

@@ -4,7 +4,7 @@ ghost use Prim.Native.Nat.{_≤_};
 ghost use lib.ListN.{length};
 ghost use Rattle.table.specs.Layout.{maxTableWords};
 ghost use Rattle.table.specs.Records.{moveTo};
-ghost use Rattle.host.specs.Calls.{lent, HostStarts, HostSlices, HostSliceResult, HostMoves};
+ghost use Rattle.host.specs.Calls.{lent, HostStarts, HostSlices, HostSliceResult, HostMoves, HostConverts};
 ghost use Rattle.host.specs.Steps.{Opens};
 use files::Cursor;
 use files::CursorRead;
@@ -18,8 +18,8 @@ mod tables;
 // (docs/DECISIONS.md, 51).
 const ANY_WORD: u32 = 1;
 
-// What C gets, laid out as the struct in include/conepalhui.h: a result (0 is nothing violated after a slice, and granted after a start or a move), and a number
-// beside it. Refused, that is the position; after a slice the steps, after a start the number of places, after a move the size of the new plan file.
+// What C gets, laid out as the struct in include/conepalhui.h: a result (0 is nothing violated after a slice, and granted after a start, a move or a conversion), and a
+// number beside it. Refused, that is the position; after a slice the steps, after a start the number of places, after a move or a conversion the size of the new plan file.
 #[repr(C)]
 pub struct Answer {
     pub result: u32,
@@ -90,10 +90,21 @@ fn move_plan(
     }
 }
 
+fn convert_plan(old: &[u8], file: &mut [u8], words: &mut [u32]) -> Answer
+    requires { ⌜ maxTableWords ≤ length (now words) ⌝ }
+    ensures { λ r. ⌜ HostConverts (now (old .entry)) (now (file .entry)) r (now (file .exit)) ⌝ }
+{
+    let read = editions::read_first(old, words);
+    match read {
+        PlanRead::Refused(number, at) => answers::refused(number, at),
+        PlanRead::Words(n) => tables::write_file(&words[..n], file),
+    }
+}
+
 // Starts a check of a plan file, and writes its first cursor. Its name ends in the edition of the rules, so that a program which was compiled for another one is not
 // linked; in the header it is conepalhui_start.
 #[no_mangle]
-pub extern "C" fn conepalhui_start_2(plan: &[u8], out: &mut [u8]) -> Answer
+pub extern "C" fn conepalhui_start_3(plan: &[u8], out: &mut [u8]) -> Answer
     ensures { λ r. ⌜ HostStarts (now (plan .entry)) (now (out .entry)) r (now (out .exit)) ⌝ }
 {
     let mut words = [ANY_WORD; table::MAX_TABLE_WORDS];
@@ -124,19 +135,33 @@ pub extern "C" fn conepalhui_slice_full(
     slice_plan(plan, cursor, budget, out, &mut words)
 }
 
-// Moves one leg of a plan file, and writes the new plan file and the new cursor.
+// Moves one leg of a plan file, and writes the new plan file and the new cursor. Its name ends in the edition too, since its form changed with it; in the header it is conepalhui_move.
 #[no_mangle]
-pub extern "C" fn conepalhui_move(
+pub extern "C" fn conepalhui_move_3(
     plan: &[u8],
     cursor: &[u8],
     leg: u32,
     offset: u32,
+    periods: u32,
     file: &mut [u8],
     out: &mut [u8],
 ) -> Answer
-    ensures { λ r. ⌜ HostMoves (now (plan .entry)) (now (cursor .entry)) (moveTo leg offset) (lent (now (file .entry)) (now (out .entry))) r (lent (now (file .exit)) (now (out .exit))) ⌝ }
+    ensures { λ r. ⌜ HostMoves (now (plan .entry)) (now (cursor .entry)) (moveTo leg offset periods) (lent (now (file .entry)) (now (out .entry))) r (lent (now (file .exit)) (now (out .exit))) ⌝ }
 {
     let mut words = [ANY_WORD; table::MAX_TABLE_WORDS];
-    let mv = Move { leg, offset };
+    let mv = Move {
+        leg,
+        offset,
+        periods,
+    };
     move_plan(plan, cursor, mv, file, out, &mut words)
+}
+
+// Converts a plan file of the first layout, and writes the plan file of the table that its table becomes.
+#[no_mangle]
+pub extern "C" fn conepalhui_convert_first(old: &[u8], file: &mut [u8]) -> Answer
+    ensures { λ r. ⌜ HostConverts (now (old .entry)) (now (file .entry)) r (now (file .exit)) ⌝ }
+{
+    let mut words = [ANY_WORD; table::MAX_TABLE_WORDS];
+    convert_plan(old, file, &mut words)
 }

@@ -3,7 +3,7 @@ ghost use Prim.Native.Nat.{_≤_};
 ghost use lib.ListN.{length};
 ghost use Rattle.table.specs.Layout.{Sized};
 ghost use Rattle.files.specs.Theorems.{maxCursorBytes};
-ghost use Rattle.host.specs.Calls.{lent, WritesBoth, StartsTable, SlicesTable, MovesTable};
+ghost use Rattle.host.specs.Calls.{lent, WritesBoth, WritesFile, StartsTable, SlicesTable, MovesTable};
 use crate::Answer;
 use crate::answers;
 use checker::Grant;
@@ -103,5 +103,20 @@ pub(crate) fn move_table(
     match told {
         Grant::Refused(number, at, given) => answers::refused(number, at),
         Grant::Granted(next) => write_both(t, next, file, out),
+    }
+}
+
+// Writes the file of a table, or nothing where it has no room.
+pub(crate) fn write_file(t: &[u32], file: &mut [u8]) -> Answer
+    requires { ⌜ Sized (now t) ⌝ }
+    ensures { λ r. ⌜ WritesFile (now (t .entry)) (now (file .entry)) r (now (file .exit)) ⌝ }
+{
+    let written = files::write_plan(t, file);
+    match written {
+        Written::Refused(number, at) => answers::refused(number, at),
+        Written::Bytes(n) => Answer {
+            result: 0,
+            beside: n as u32,
+        },
     }
 }

@@ -37,7 +37,7 @@ pub fn why(t: &[u32], c: Cursor) {
     );
 }
 
-// Internal: why a move is refused.
+// Internal: why a move is refused with 10 or 11.
 pub fn why_move(t: &[u32], mv: Move) {
     let legs = header_word(t, table::LEGS_AT);
     if mv.leg < legs {

@@ -3,6 +3,7 @@ use crate::Order;
 use basics::Holds;
 use checker::Grant;
 use checker::SliceAnswer;
+use checker::cursors::TOO_LATE;
 use durable::FileRead;
 use files::Cursor;
 use files::PlanRead;
@@ -15,10 +16,11 @@ use numbers::Written;
 use reasons::records;
 use show::answers;
 use show::answers::Part;
+use table::Leg;
 use table::Move;
 
 // One byte more than the largest plan file, so that a byte left over is seen.
-const PLAN_ROOM: usize = files::MAX_FILE_BYTES + 1;
+pub(crate) const PLAN_ROOM: usize = files::MAX_FILE_BYTES + 1;
 
 pub(crate) fn are_same(a: &[u8], b: &[u8]) -> bool {
     let told = seen::same(a, b);
@@ -219,7 +221,7 @@ fn written(
     t: &[u32],
     c: Cursor,
     mv: Move,
-    from: u32,
+    before: Leg,
 ) {
     let mut new = [0u8; files::MAX_FILE_BYTES];
     let told = files::write_plan(t, &mut new);
@@ -230,7 +232,7 @@ fn written(
                 return;
             }
             if replaced(plan_path, cursor_path, old, &new[0..n], c) {
-                answers::moved(c, records::leg_count(t), mv, from);
+                answers::moved(c, records::leg_count(t), mv, before);
             }
         }
     }
@@ -243,17 +245,25 @@ fn may_move(cursor_path: &[u8], t: &[u32], c: Cursor) -> bool {
     cursor_stands(cursor_path, t, c)
 }
 
+fn move_refused(t: &[u32], number: u32, at: usize, mv: Move) {
+    if number == TOO_LATE {
+        records::late_move(mv.periods);
+    } else {
+        refused::why_move(t, mv);
+    }
+    judged(t, number, at, Part::Move);
+}
+
 fn moved(plan_path: &[u8], cursor_path: &[u8], old: &[u8], t: &mut [u32], c: Cursor, mv: Move) {
-    let from = records::leg_at(t, mv.leg).offset;
+    let before = records::leg_at(t, mv.leg);
     let told = checker::move_leg(t, c, mv);
     match told {
         Grant::Refused(number, at, _) => {
-            refused::why_move(t, mv);
-            judged(t, number, at, Part::Move);
+            move_refused(t, number, at, mv);
         }
         Grant::Granted(d) => {
             if saved::is_known(cursor_path, old, c.revision) {
-                written(plan_path, cursor_path, old, t, d, mv, from);
+                written(plan_path, cursor_path, old, t, d, mv, before);
             }
         }
     }
@@ -281,6 +291,7 @@ fn on_table(order: Order, plan_path: &[u8], cursor_path: &[u8], plan: &[u8], t: 
         }
         Order::Words => {}
         Order::Shape => {}
+        Order::Convert => {}
         Order::Wrong => {}
     }
 }

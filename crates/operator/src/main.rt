@@ -1,10 +1,11 @@
 // What an operator and a planner do with a plan on standard input: words, shape; and with files: start PLAN CURSOR [--anew], slice PLAN CURSOR BUDGET,
-// move PLAN CURSOR LEG OFFSET. It writes one answer; where a file cannot be read or written or is not ours, or an argument is wrong, it writes none and
-// says so on standard error.
+// move PLAN CURSOR LEG OFFSET [PERIODS], convert OLD NEW. It writes one answer; where a file cannot be read or written or is not ours, or an argument is wrong,
+// it writes none and says so on standard error.
 use decimal::Decimal;
 use table::Move;
 
 mod calls;
+mod convert;
 mod plans;
 
 // What is asked for. A start says whether a check that has begun may be dropped.
@@ -14,6 +15,7 @@ pub(crate) enum Order {
     Start(bool),
     Slice(u32),
     Move(Move),
+    Convert,
     Wrong,
 }
 
@@ -32,6 +34,8 @@ const CURSOR_AT: usize = 3;
 const FIRST_NUMBER_AT: usize = 4;
 
 const ANEW_AT: usize = 4;
+
+const PERIODS_AT: usize = 6;
 
 fn not_a_number(what: &[u8], why: &[u8]) -> Word {
     reasons::begin();
@@ -83,14 +87,30 @@ fn slice_order() -> Order {
     }
 }
 
+// The period word of a move: 0 where it is not given.
+fn periods_given() -> Word {
+    if os::arg_count() <= PERIODS_AT {
+        return Word::Given(0);
+    }
+    number_at(PERIODS_AT, b"the period word")
+}
+
 fn move_order() -> Order {
     let first = number_at(FIRST_NUMBER_AT, b"the leg");
     let Word::Given(leg) = first else {
         return Order::Wrong;
     };
     let second = number_at(FIRST_NUMBER_AT + 1, b"the offset");
-    match second {
-        Word::Given(offset) => Order::Move(Move { leg, offset }),
+    let Word::Given(offset) = second else {
+        return Order::Wrong;
+    };
+    let third = periods_given();
+    match third {
+        Word::Given(periods) => Order::Move(Move {
+            leg,
+            offset,
+            periods,
+        }),
         Word::Wrong => Order::Wrong,
     }
 }
@@ -103,7 +123,7 @@ fn plan_order(verb: &[u8]) -> Order {
     if calls::are_same(verb, b"shape") {
         return Order::Shape;
     }
-    reasons::text(b"the first argument is words, shape, start, slice or move\n");
+    reasons::text(b"the first argument is words, shape, start, slice, move or convert\n");
     Order::Wrong
 }
 
@@ -117,6 +137,9 @@ fn order_of(verb: &[u8]) -> Order {
     if calls::are_same(verb, b"move") {
         return move_order();
     }
+    if calls::are_same(verb, b"convert") {
+        return Order::Convert;
+    }
     plan_order(verb)
 }
 
@@ -124,6 +147,15 @@ fn order_given() -> Order {
     let mut verb = io::buffer();
     let n = os::arg(VERB_AT, &mut verb);
     order_of(&verb[..n])
+}
+
+// A conversion has the new file in the place of the cursor.
+fn on_paths(order: Order, plan: &[u8], cursor: &[u8]) {
+    if let Order::Convert = order {
+        convert::first(plan, cursor);
+        return;
+    }
+    calls::on_file(order, plan, cursor);
 }
 
 fn on_files(order: Order) {
@@ -136,10 +168,10 @@ fn on_files(order: Order) {
     let mut cursor = io::buffer();
     let m = os::arg(CURSOR_AT, &mut cursor);
     if os::errno() != 0 {
-        os::fail(b"the path of the cursor");
+        os::fail(b"the path of the cursor or of the new file");
         return;
     }
-    calls::on_file(order, &plan[..n], &cursor[..m]);
+    on_paths(order, &plan[..n], &cursor[..m]);
 }
 
 fn main() {
@@ -158,6 +190,9 @@ fn main() {
             on_files(order);
         }
         Order::Move(mv) => {
+            on_files(order);
+        }
+        Order::Convert => {
             on_files(order);
         }
         Order::Wrong => {}

@@ -6,6 +6,10 @@ use crate::say;
 use crate::small;
 use crate::text;
 use numbers::Number;
+use table::CURRENT;
+use table::Edition;
+use table::FIRST_LAYOUT;
+use table::Limits;
 
 // How many numbers end with this byte.
 fn ending(byte: u8) -> usize {
@@ -56,13 +60,29 @@ fn number_of(bytes: &[u8], k: usize) -> u32 {
 }
 
 // Says the name of the number after these bytes of a file.
-fn name_after(bytes: &[u8], before: &[u8]) {
+fn name_after(e: Edition, bytes: &[u8], before: &[u8]) {
     let links = number_of(bytes, table::LINKS_AT);
     let streams = number_of(bytes, table::STREAMS_AT);
-    names::name(numbers_in(before), links, streams);
+    names::name(e, numbers_in(before), links, streams);
 }
 
-fn cut_short(bytes: &[u8], at: usize) {
+// Whether a file that ends with a number has as many of them as a plan of the first layout. A layout is named by whoever reads: nothing is decided by this.
+fn ends_in_first(bytes: &[u8]) -> bool {
+    let head = [
+        number_of(bytes, table::REVISION_AT),
+        number_of(bytes, table::LINKS_AT),
+        number_of(bytes, table::STREAMS_AT),
+        number_of(bytes, table::LEGS_AT),
+        number_of(bytes, table::PRECISION_AT),
+    ];
+    let told = table::header_words(FIRST_LAYOUT, &head);
+    match told {
+        Limits::Within(n) => numbers_in(bytes) == n,
+        Limits::Above => false,
+    }
+}
+
+fn cut_short(e: Edition, bytes: &[u8], at: usize) {
     if bytes.len() == 0 {
         line(
             b"the file is empty, but a plan begins with five numbers",
@@ -73,13 +93,17 @@ fn cut_short(bytes: &[u8], at: usize) {
     begin();
     if at < bytes.len() {
         text(b"the file ends too early, inside ");
-        name_after(bytes, &bytes[0..at]);
+        name_after(e, bytes, &bytes[0..at]);
         say(b", which begins at byte #\n", &[small(at)]);
         return;
     }
     text(b"the file ends too early: ");
-    name_after(bytes, bytes);
-    say(b" is due at byte #\n", &[small(at)]);
+    name_after(e, bytes, bytes);
+    say(b" is due at byte #", &[small(at)]);
+    if ends_in_first(bytes) {
+        text(b", but not in the first layout: see 'conepalhui help convert'");
+    }
+    text(b"\n");
 }
 
 // What is wrong with the number that these bytes begin with: a last byte 0, a fifth byte that goes on, or one above the largest.
@@ -104,12 +128,12 @@ fn form(bytes: &[u8]) {
     text(b", is above 4294967295\n");
 }
 
-fn unfit(bytes: &[u8], at: usize) {
+fn unfit(e: Edition, bytes: &[u8], at: usize) {
     if bytes.len() < at {
         return;
     }
     begin();
-    name_after(bytes, &bytes[0..at]);
+    name_after(e, bytes, &bytes[0..at]);
     say(b", at byte #", &[small(at)]);
     form(&bytes[at..]);
 }
@@ -148,23 +172,42 @@ fn above_limits(bytes: &[u8]) {
     );
 }
 
-// Internal: why bytes are refused with a number at a position.
-pub fn why(bytes: &[u8], number: u32, at: usize) {
+// Why bytes are refused in a layout. The sentence of bytes left over is given.
+fn why_in(e: Edition, left_over: &[u8], bytes: &[u8], number: u32, at: usize) {
     match number {
         numbers::BYTES_END => {
-            cut_short(bytes, at);
+            cut_short(e, bytes, at);
         }
         numbers::UNFIT_NUMBER => {
-            unfit(bytes, at);
+            unfit(e, bytes, at);
         }
         table::ABOVE_LIMIT => {
             above_limits(bytes);
         }
         _ => {
-            line(
-                b"by its header the plan has # bytes, but the file has more",
-                &[small(at)],
-            );
+            line(left_over, &[small(at)]);
         }
     }
+}
+
+// Internal: why bytes are refused with a number at a position.
+pub fn why(bytes: &[u8], number: u32, at: usize) {
+    why_in(
+        CURRENT,
+        b"by its header the plan has # bytes, but the file has more",
+        bytes,
+        number,
+        at,
+    );
+}
+
+// Internal: the same by the reader of the first layout.
+pub fn why_first(bytes: &[u8], number: u32, at: usize) {
+    why_in(
+        FIRST_LAYOUT,
+        b"by its header the plan has # bytes in the first layout, but the file has more",
+        bytes,
+        number,
+        at,
+    );
 }

@@ -3,6 +3,7 @@ use crate::gap_from;
 use crate::say;
 use crate::small;
 use crate::text;
+use table::Edition;
 
 // Where a piece of a list begins: after so many gaps.
 fn piece_start(list: &[u8], k: usize) -> usize {
@@ -27,37 +28,49 @@ fn piece(list: &[u8], k: usize) {
     }
 }
 
+// The k-th number of a part with records of so many words, which no layout has without a word. A record of an older layout has the first names of the list.
+fn in_part(k: usize, width: u8, list: &[u8], record: &[u8]) {
+    let words = width as usize;
+    if words == 0 {
+        return;
+    }
+    piece(list, k % words);
+    say(record, &[small(k / words)]);
+}
+
 // The number that is k-th after the header, of so many links and streams.
-fn after_header(k: usize, links: u32, streams: u32) {
-    let link_words = table::LINK_WORDS * table::wide(links);
+fn after_header(e: Edition, k: usize, links: u32, streams: u32) {
+    let link_words = table::part_words(e.link, links);
     if k < link_words {
-        piece(
+        in_part(
+            k,
+            e.link,
             b"the from node#the to node#the ns per octet#the propagation",
-            k % table::LINK_WORDS,
+            b" of link #",
         );
-        say(b" of link #", &[small(k / table::LINK_WORDS)]);
         return;
     }
     let after = k - link_words;
-    let stream_words = table::STREAM_WORDS * table::wide(streams);
+    let stream_words = table::part_words(e.stream, streams);
     if after < stream_words {
-        piece(
+        in_part(
+            after,
+            e.stream,
             b"the period#the deadline#the octet count#the first leg#the leg count",
-            after % table::STREAM_WORDS,
+            b" of stream #",
         );
-        say(b" of stream #", &[small(after / table::STREAM_WORDS)]);
         return;
     }
-    let of_legs = after - stream_words;
-    piece(
-        b"the stream#the link#the offset",
-        of_legs % table::LEG_WORDS,
+    in_part(
+        after - stream_words,
+        e.leg,
+        b"the stream#the link#the offset#the period word",
+        b" of leg #",
     );
-    say(b" of leg #", &[small(of_legs / table::LEG_WORDS)]);
 }
 
-// The k-th number of a plan file of so many links and streams.
-pub(crate) fn name(k: usize, links: u32, streams: u32) {
+// The k-th number of a plan file of so many links and streams, in a layout.
+pub(crate) fn name(e: Edition, k: usize, links: u32, streams: u32) {
     if k < table::HEAD_WORDS {
         piece(
             b"the revision#the number of links#the number of streams#the number of legs#the clock precision",
@@ -65,5 +78,5 @@ pub(crate) fn name(k: usize, links: u32, streams: u32) {
         );
         return;
     }
-    after_header(k - table::HEAD_WORDS, links, streams);
+    after_header(e, k - table::HEAD_WORDS, links, streams);
 }

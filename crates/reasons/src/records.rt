@@ -6,6 +6,8 @@ use shape::links::MAX_NODE;
 use shape::links::MAX_PROPAGATION;
 use shape::streams::MAX_OCTETS;
 use shape::streams::MAX_PERIOD;
+use shape::streams::MAX_PERIODS;
+use shape::streams::MAX_PERIODS_DUE;
 use shape::streams::MAX_ROUTE;
 use shape::streams::MIN_OCTETS;
 use table::Leg;
@@ -70,6 +72,7 @@ pub fn leg_at(t: &[u32], a: u32) -> Leg {
         stream: 0,
         link: 0,
         offset: 0,
+        periods: 0,
     }
 }
 
@@ -192,6 +195,15 @@ fn bad_legs(t: &[u32], i: u32, s: Stream) {
     past_the_last(t, i, s);
 }
 
+// The latest deadline that a period allows, as far as a word holds it.
+fn latest_deadline(period: u32) -> u32 {
+    let latest = MAX_PERIODS_DUE * (period as u64);
+    if latest <= 4294967295 {
+        return latest as u32;
+    }
+    4294967295
+}
+
 fn bad_stream(t: &[u32], i: u32, s: Stream) {
     if !is_between(s.period, 1, MAX_PERIOD) {
         line(
@@ -200,10 +212,11 @@ fn bad_stream(t: &[u32], i: u32, s: Stream) {
         );
         return;
     }
-    if !is_between(s.deadline, 1, s.period) {
+    let latest = latest_deadline(s.period);
+    if !is_between(s.deadline, 1, latest) {
         line(
             b"stream # has a deadline of # ns, but its period allows 1 to # ns",
-            &[i, s.deadline, s.period],
+            &[i, s.deadline, latest],
         );
         return;
     }
@@ -265,6 +278,26 @@ fn bad_route(t: &[u32], a: u32, leg: Leg) {
     );
 }
 
+// Internal: why a move is refused for its period word.
+pub fn late_move(periods: u32) {
+    line(
+        b"the period word is #, but period words are 0 to #",
+        &[periods, MAX_PERIODS],
+    );
+}
+
+// What is left of a leg that names its stream and a link: its period word, or its route.
+fn bad_lateness(t: &[u32], a: u32, leg: Leg) {
+    if MAX_PERIODS < leg.periods {
+        line(
+            b"leg # has the period word #, but period words are 0 to #",
+            &[a, leg.periods, MAX_PERIODS],
+        );
+        return;
+    }
+    bad_route(t, a, leg);
+}
+
 fn bad_leg(t: &[u32], a: u32, leg: Leg) {
     let own = own_stream(t, a);
     if leg.stream != own {
@@ -276,7 +309,7 @@ fn bad_leg(t: &[u32], a: u32, leg: Leg) {
     }
     let links = header_word(t, table::LINKS_AT);
     if leg.link < links {
-        bad_route(t, a, leg);
+        bad_lateness(t, a, leg);
         return;
     }
     if links == 0 {

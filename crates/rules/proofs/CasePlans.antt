@@ -20,17 +20,17 @@ use Rattle.shape.proofs.Reading.{linkOn, stream-of, link-on}
 use Rattle.overlap.specs.Meeting.{NeverMeet}
 use Rattle.overlap.specs.declared.Slot.{Slot}
 use Rattle.overlap.proofs.Law.{meeting-is-symmetric}
-use Rattle.rules.specs.Times.{wireTime, holdTime, lasting, maxTime, startOf}
+use Rattle.rules.specs.Times.{startTime, wireTime, holdTime, lasting, maxTime, startOf}
 use Rattle.rules.specs.Rules.{Window, Hop, Deadline, Overlap}
-use Rattle.rules.specs.Steps.{Timed, FrameOf, ReadyOf, SlotOf}
+use Rattle.rules.specs.Steps.{Timed, StartsAt, FrameOf, ReadyOf, SlotOf}
 use Rattle.rules.specs.declared.Frame.{Frame}
 use Rattle.rules.proofs.Judging.{window-kept, window-broken, first-has-no-hop, hop-kept, hop-broken, not-last-has-no-deadline, deadline-kept, late-last-leg, other-links-never-meet, same-link-told}
 
--- The frame of a leg whose record, stream and link are known, whose frame is on the wire for w and holds its link for h.
-abbrev pub frameWith : Leg → Stream → Link → ℕ → ℕ → Frame
-frameWith l s k w h = record {
+-- The frame of a leg whose record, stream and link are known, which starts at b, and whose frame is on the wire for w and holds its link for h.
+abbrev pub frameWith : Leg → Stream → Link → ℕ → ℕ → ℕ → Frame
+frameWith l s k b w h = record {
   offset = l .offset;
-  start = l .offset;
+  start = b;
   wire = w;
   hold = h;
   propagation = k .propagation;
@@ -48,20 +48,30 @@ pub record Small (l : Leg) (s : Stream) (k : Link) : Type 0 where
   pub deadline : s .deadline ≤ maxWord
   pub propagation : k .propagation ≤ maxPropagation
 
+-- A leg of its first period starts at its offset.
+in-period : (offset period : ℕ) → offset ≤ maxWord → StartsAt (startTime offset 0 period) offset
+unfolding startTime
+in-period offset period h = record { same = omega arith; small = omega arith }
+
 -- A time that is some and small.
 pub timed : (w : ℕ) → 1 ≤ w → w ≤ maxTime → Timed w w
 timed w some small = record { same = refl; from = some; to = small }
 
-pub frame-of : (t : List ℕ) (a : ℕ) (l : Leg) (s : Stream) (k : Link) (w h : ℕ)
-    → legAt t a ≡ l → streamOf t a ≡ s → linkOf t a ≡ k → Timed (wireTime (s .octets) (k .rate)) w → Timed (holdTime (s .octets) (k .rate)) h → Small l s k
-    → FrameOf t a (frameWith l s k w h)
+pub frame-of : (t : List ℕ) (a : ℕ) (l : Leg) (s : Stream) (k : Link) (b w h : ℕ)
+    → legAt t a ≡ l → streamOf t a ≡ s → linkOf t a ≡ k → StartsAt (startTime (l .offset) (l .periods) (s .period)) b → Timed (wireTime (s .octets) (k .rate)) w → Timed (holdTime (s .octets) (k .rate)) h → Small l s k
+    → FrameOf t a (frameWith l s k b w h)
 unfolding startOf
-frame-of t a l s k w h e f g on-wire holds small =
+frame-of t a l s k b w h e f g starts on-wire holds small =
+    let o = ap (λ (z : Leg). z .offset) e in
+    let n = ap (λ (z : Leg). z .periods) e in
+    let p = ap (λ (z : Stream). z .period) f in
+    let q = starts .same in
+    let at-start : b ≡ startTime (legAt t a .offset) (legAt t a .periods) (streamOf t a .period) = cc in
     record {
       offset = sym (ap (λ (z : Leg). z .offset) e);
-      start = sym (ap (λ (z : Leg). z .offset) e);
+      start = at-start;
       near = small .offset;
-      small = small .offset;
+      small = starts .small;
       wire = rw (f, g) on-wire;
       hold = rw (f, g) holds;
       propagation = sym (ap (λ (z : Link). z .propagation) g);
@@ -163,7 +173,7 @@ module _ (n : PlanNumbers) where
     pub is-0 : FrameOf plan 0 f0
     unfolding plan f0 wireTime holdTime lasting
     is-0 =
-        frame-of plan 0 _ _ _ w0 h0 (reads .leg-0) stream-0 link-0 (timed w0 (omega arith) (omega arith)) (timed h0 (omega arith) (omega arith))
+        frame-of plan 0 _ _ _ _ w0 h0 (reads .leg-0) stream-0 link-0 (in-period _ _ (omega (arith, b .offsets))) (timed w0 (omega arith) (omega arith)) (timed h0 (omega arith) (omega arith))
         (record {
           offset = omega (arith, b .offsets);
           period = (omega (arith, b .in-range .deadline-0), omega (arith, b .in-range .period-0));
@@ -175,8 +185,8 @@ module _ (n : PlanNumbers) where
     unfolding plan f1 wireTime holdTime lasting
     is-1 =
         let r = rate-small (n .rate-1) (b .in-range .rate-1) in
-        frame-of plan 1 _ _ _ w1 h1 (reads .leg-1) (stream-of plan 1 0 _ _ (reads .leg-1) refl (reads .stream-0)) (link-on plan 1)
-        (timed w1 (omega (arith, r)) (omega (arith, r))) (timed h1 (omega (arith, r)) (omega (arith, r)))
+        frame-of plan 1 _ _ _ _ w1 h1 (reads .leg-1) (stream-of plan 1 0 _ _ (reads .leg-1) refl (reads .stream-0)) (link-on plan 1)
+        (in-period _ _ (omega (arith, b .offsets))) (timed w1 (omega (arith, r)) (omega (arith, r))) (timed h1 (omega (arith, r)) (omega (arith, r)))
         (record {
           offset = omega (arith, b .offsets);
           period = (omega (arith, b .in-range .deadline-0), omega (arith, b .in-range .period-0));
@@ -188,7 +198,7 @@ module _ (n : PlanNumbers) where
     unfolding plan f2 wireTime holdTime lasting
     is-2 =
         let o = b .in-range .octets-1 in
-        frame-of plan 2 _ _ _ w2 h2 (reads .leg-2) stream-2 link-2 (timed w2 (omega (arith, o)) (omega (arith, o))) (timed h2 (omega (arith, o)) (omega (arith, o)))
+        frame-of plan 2 _ _ _ _ w2 h2 (reads .leg-2) stream-2 link-2 (in-period _ _ (omega (arith, b .offsets))) (timed w2 (omega (arith, o)) (omega (arith, o))) (timed h2 (omega (arith, o)) (omega (arith, o)))
         (record {
           offset = omega (arith, b .offsets);
           period = (omega (arith, b .in-range .deadline-1), omega (arith, b .in-range .period-1));

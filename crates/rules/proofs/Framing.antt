@@ -11,11 +11,11 @@ use Rattle.table.specs.declared.Leg.{Leg}
 use Rattle.table.specs.declared.Link.{Link}
 use Rattle.table.specs.declared.Stream.{Stream}
 use Rattle.table.proofs.PartLaws.{link-inside, stream-inside, leg-inside, link-of-part, stream-of-part, leg-of-part}
-use Rattle.shape.specs.Streams.{maxOctets}
+use Rattle.shape.specs.Streams.{maxPeriod, maxPeriods, maxOctets}
 use Rattle.shape.specs.Legs.{linkOf, streamOf}
 use Rattle.shape.specs.Guarantees.{StreamPlaced, LinkSmall}
-use Rattle.rules.specs.Times.{wireTime, holdTime, startOf}
-use Rattle.rules.specs.Steps.{Timed, FrameOf, LegIn}
+use Rattle.rules.specs.Times.{startTime, wireTime, holdTime, startOf}
+use Rattle.rules.specs.Steps.{Timed, StartsAt, FrameOf, LegIn}
 
 -- A leg's record lies in the part, and is the table's.
 module _ {t legs : List ℕ} {a : ℕ} (here : LegIn t a) (of : legs ≡ legPart t) where
@@ -58,8 +58,9 @@ pub record Reading : Type 0 where
   pub leg-is : leg ≡ legAt t a
   pub stream-is : stream ≡ streamOf t a
   pub link-is : link ≡ linkOf t a
+  pub periods : leg .periods ≤ maxPeriods
   pub octets : stream .octets ≤ maxOctets
-  pub period : 1 ≤ stream .period
+  pub period : (1 ≤ stream .period) × (stream .period ≤ maxPeriod)
   pub legs : stream .first + stream .count ≤ maxLegs
   pub small : LinkSmall link
 
@@ -81,14 +82,15 @@ reading {t = t} {a = a} {leg = leg} {stream = stream} {link = link} here of is o
       leg-is = leg-is here of is;
       stream-is = e;
       link-is = k;
+      periods = rw (leg-is here of is) (p .periods);
       octets = rw e (placed .small .octets-to);
-      period = rw e (placed .small .period-from);
+      period = rw e (placed .small .period-from, placed .small .period-to);
       legs = rw e (omega (arith, placed .in-table, here .table .sized .limits .legs));
       small = rw k (here .table .link _ (p .link));
     }
 
 -- The frame that is made of them is the leg's.
-pub frame-read : (r : Reading) {offset start wire hold propagation period deadline first count : ℕ} → Word (r .leg .offset) offset → Word (r .leg .offset) start
+pub frame-read : (r : Reading) {offset start wire hold propagation period deadline first count : ℕ} → Word (r .leg .offset) offset → StartsAt (startTime (r .leg .offset) (r .leg .periods) (r .stream .period)) start
     → Timed (wireTime (r .stream .octets) (r .link .rate)) wire → Timed (holdTime (r .stream .octets) (r .link .rate)) hold → Word (r .link .propagation) propagation
     → Word (r .stream .period) period → Word (r .stream .deadline) deadline → first ≡ r .stream .first → count ≡ r .stream .count
     → FrameOf (r .t) (r .a) (record {
@@ -106,9 +108,9 @@ pub frame-read : (r : Reading) {offset start wire hold propagation period deadli
 unfolding startOf
 frame-read r o s w h g p d f n = record {
   offset = o .0 ∙ ap (λ (z : Leg). z .offset) (r .leg-is);
-  start = s .0 ∙ ap (λ (z : Leg). z .offset) (r .leg-is);
+  start = rw (r .leg-is, r .stream-is) at (s .same);
   near = o .1;
-  small = s .1;
+  small = s .small;
   wire = rw (r .stream-is, r .link-is) at w;
   hold = rw (r .stream-is, r .link-is) at h;
   propagation = g .0 ∙ ap (λ (z : Link). z .propagation) (r .link-is);
@@ -118,6 +120,6 @@ frame-read r o s w h g p d f n = record {
   deadline = d .0 ∙ ap (λ (z : Stream). z .deadline) (r .stream-is);
   first = f ∙ ap (λ (z : Stream). z .first) (r .stream-is);
   end = omega (arith, ap (λ (z : Stream). z .first) (r .stream-is), ap (λ (z : Stream). z .count) (r .stream-is));
-  repeats = (omega (arith, p .0, r .period), p .1);
+  repeats = (omega (arith, p .0, r .period .0), p .1);
   due = d .1;
 }

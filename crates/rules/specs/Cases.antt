@@ -30,7 +30,7 @@ pub record StarredCases : Type 0 where
 
 -- Each rule with Plan B, whose two links differ, and so do the two frames on link 0: a window by the leg's own hold time, a hop by the previous leg's wire time and
 -- propagation, a deadline by the last leg's own, an overlap by each leg's own hold time. Beside that: an offset past the period is not taken by its remainder; a
--- deadline is not for a leg that is not the last, and counts from the first leg's offset; legs on different links may be sent at one time.
+-- deadline is not for a leg that is not the last, and counts from the first leg's start; legs on different links may be sent at one time.
 pub record MoreCases : Type 0 where
   pub window-1 : Window (planWith (offsetsB 0 93280 672)) 1 × (Window (planWith (offsetsB 0 93281 672)) 1 → ⊥)
   pub window-2 : Window (planWith (offsetsB 0 1176 137664)) 2 × (Window (planWith (offsetsB 0 1176 137665)) 2 → ⊥)

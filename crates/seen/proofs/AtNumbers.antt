@@ -1,29 +1,41 @@
 -- The forms of copies at numbers: the numbers in front are computed, and what stands in front stands there in one way. Assumes nothing.
 use Prim.Native.Nat.{ℕ, _<_}
 use mathlib.Core.Path.{_≡_, refl, _∙_, sym, ap}
-use mathlib.Core.List.{List, [], _∷_}
+use mathlib.Core.List.{List, [], _∷_, _++_}
 use mathlib.Core.Logic.{inl, inr, ⊎-elim}
 use lib.ListN.{length, getD}
+use native.Mathlib.Nat.{mul-zero}
 use native.Mathlib.Omega.{arith}
 use Rattle.numbers.specs.Number.{bytesOf}
 use Rattle.numbers.specs.Calls.{NumberStands}
 use Rattle.numbers.specs.declared.Number.the-variants as number
-use Rattle.numbers.proofs.Computed.{fileBytes, file-is, small-words}
+use Rattle.numbers.proofs.Computed.{fileBytes, file-is, small-words, row-in-front}
 use Rattle.numbers.proofs.Rows.{file-one}
+use Rattle.table.specs.Layout.{current, firstLayout, SizedIn}
+use Rattle.table.specs.declared.Edition.{Edition}
+use Rattle.files.proofs.OneAnswer.{file-no-fault}
 use Rattle.seen.specs.Seen.{Kept, PlanFile, Copy}
 use Rattle.seen.specs.Editions.{mark, Under, KnownUnder, CopyUnder, OfEdition}
-use Rattle.seen.specs.Theorems.{emptyPlan, keptUnderTwo, keptUnderNone, twoPlans, tooLong, leftOver, CopiesAtNumbers}
+use Rattle.seen.specs.Theorems.{emptyPlan, keptUnderTwo, keptUnderNone, legUnderNone, legOfToday, twoPlans, tooLong, leftOver, CopiesAtNumbers}
 use Rattle.seen.proofs.Laws.{kept-once, cut-after}
 use Rattle.seen.proofs.Fronts.{under-once, no-small-mark, plan-bytes, copy-not-under}
 
 number-is : (v : ℕ) → bytesOf v ≡ fileBytes (v ∷ [])
 number-is v = sym (file-one v) ∙ file-is (v ∷ [])
 
-plan : PlanFile emptyPlan
-plan = (
+-- A header alone is a table of any layout.
+header-alone : (e : Edition) → SizedIn e (9 ∷ 0 ∷ 0 ∷ 0 ∷ 0 ∷ [])
+header-alone e = record {
+  head = omega arith;
+  limits = record { links = omega arith; streams = omega arith; legs = omega arith; precision = omega arith };
+  exact = rw (mul-zero (e .link), mul-zero (e .stream), mul-zero (e .leg)) refl;
+}
+
+plan : (e : Edition) → PlanFile e emptyPlan
+plan e = (
   9 ∷ 0 ∷ 0 ∷ 0 ∷ 0 ∷ [],
   record {
-    complete = record { head = omega arith; limits = record { links = omega arith; streams = omega arith; legs = omega arith; precision = omega arith }; exact = refl };
+    complete = header-alone e;
     words = small-words (9 ∷ 0 ∷ 0 ∷ 0 ∷ 0 ∷ []) (omega arith);
     bytes = sym (file-is (9 ∷ 0 ∷ 0 ∷ 0 ∷ 0 ∷ []));
   },
@@ -32,8 +44,8 @@ plan = (
 one-plan : Kept keptUnderNone emptyPlan []
 one-plan = record { size = omega arith; whole = rw (number-is 5) }
 
-copy : Copy keptUnderNone
-copy = record { first = emptyPlan; other = []; kept = one-plan; plan = plan; rest = inl refl }
+copy : (e : Edition) → Copy e keptUnderNone
+copy e = record { first = emptyPlan; other = []; kept = one-plan; plan = plan e; rest = inl refl }
 
 under-two : Under keptUnderTwo 2 keptUnderNone
 under-two = record { word = omega arith; whole = rw (number-is mark, number-is 2) }
@@ -84,7 +96,7 @@ both k =
     (k .known .is)
 
 -- What begins with a small number names no edition, so it has to be a copy; and the parts of a copy are plan files.
-small-front : (s : List ℕ) {n next : ℕ} → NumberStands s 0 n next → n < mark → (e : ℕ) → (Copy s → ⊥) → OfEdition s e → ⊥
+small-front : (s : List ℕ) {n next : ℕ} → NumberStands s 0 n next → n < mark → (e : ℕ) → (Copy firstLayout s → ⊥) → OfEdition s e → ⊥
 small-front s h small e none (inl n) = no-small-mark s h small (n .under)
 small-front s h small e none (inr c) = none (c .1)
 
@@ -111,9 +123,43 @@ left-over e = small-front _ five (omega arith) e (λ c.
     (λ f. omega (arith, plan-bytes f, ap length o))
     (c .rest))
 
+-- One leg in the first layout, with nothing after it, and with a byte after it.
+abbrev leg789 : List ℕ
+leg789 = 0 ∷ 0 ∷ 0 ∷ 1 ∷ 0 ∷ 7 ∷ 8 ∷ 9 ∷ []
+
+leg-sized : SizedIn firstLayout leg789
+leg-sized = record { head = omega arith; limits = record { links = omega arith; streams = omega arith; legs = omega arith; precision = omega arith }; exact = refl }
+
+leg-kept : Kept legUnderNone leg789 []
+leg-kept = record { size = omega arith; whole = rw (number-is 8) }
+
+unnamed-leg : OfEdition legUnderNone 1
+unnamed-leg = inr (
+  refl,
+  record {
+    first = leg789;
+    other = [];
+    kept = leg-kept;
+    plan = (leg789, record { complete = leg-sized; words = small-words leg789 (omega arith); bytes = sym (file-is leg789) });
+    rest = inl refl;
+  },
+)
+
+nine : NumberStands legOfToday 0 9 1
+nine = record { word = omega arith; stands = record { rest = leg789 ++ (0 ∷ []); there = rw (number-is 9) }; ends = rw (number-is 9) }
+
+today-kept : Kept legOfToday (leg789 ++ (0 ∷ [])) []
+today-kept = record { size = omega arith; whole = rw (number-is 9) }
+
+not-of-today : (e : ℕ) → OfEdition legOfToday e → ⊥
+not-of-today e = small-front _ nine (omega arith) e (λ c.
+    let same = kept-once _ _ _ _ _ today-kept (c .kept) .0 in
+    let plan : PlanFile firstLayout (leg789 ++ (0 ∷ [])) = rw same at (c .plan) in
+    file-no-fault (plan .1) (inr (inr (refl, record { ws = leg789; row = row-in-front leg789 (0 ∷ []) (omega arith); complete = leg-sized; left-over = omega arith }))))
+
 pub copies-at-numbers : CopiesAtNumbers
 copies-at-numbers = record {
-  copied = record { rest = keptUnderNone; under = under-two; copy = copy };
+  copied = record { rest = keptUnderNone; under = under-two; copy = copy current };
   not-three = λ c. omega (arith, under-once keptUnderTwo under-two (c .under) .0);
   seen = record { rest = keptUnderNone; under = under-two; known = record { first = emptyPlan; other = []; kept = one-plan; is = inl refl } };
   not-seen-three = λ k. omega (arith, under-once keptUnderTwo under-two (k .under) .0);
@@ -124,8 +170,10 @@ copies-at-numbers = record {
   other = record { rest = _; under = under-300; known = record { first = _; other = _; kept = two-plans; is = inr refl } };
   form-alone = inl (record { rest = _; first = _; other = _; under = under-300; kept = two-plans });
   no-plan-files = no-plan-files;
-  unnamed = inr (refl, copy);
-  unknown = λ e p k. copy-not-under keptUnderNone copy (k .under);
+  unnamed = inr (refl, copy firstLayout);
+  unnamed-leg = unnamed-leg;
+  not-of-today = not-of-today;
+  unknown = λ e p k. copy-not-under keptUnderNone (copy firstLayout) (k .under);
   too-long = too-long;
   no-file = no-file;
   left-over = left-over;

@@ -15,9 +15,9 @@ use Rattle.numbers.specs.Calls.{NumberStands, ReadsNumber}
 use Rattle.numbers.specs.declared.Number.{Number}
 use Rattle.numbers.specs.declared.Number.the-variants as number
 use Rattle.numbers.proofs.OneNumber.{read-number-one-answer, number-bytes-at-most, word-not-refused}
-use Rattle.numbers.proofs.Rows.{stands-after, file-cons}
-use Rattle.table.specs.Layout.{headWords}
-use Rattle.files.proofs.ComeBack.{file-bytes-at-most}
+use Rattle.numbers.proofs.Rows.{stands-after, file-cons, file-length}
+use Rattle.table.specs.Layout.{current, firstLayout, headWords}
+use Rattle.table.specs.declared.Edition.{Edition}
 use Rattle.seen.specs.Seen.{Known, PlanFile, Copy, Splits}
 use Rattle.seen.specs.Editions.{mark, firstEdition, Under, KnownUnder, CopyUnder, Names, OfEdition, FrontTold, RestTold}
 use Rattle.seen.specs.declared.Front.{Front}
@@ -85,19 +85,21 @@ words-bytes : (t : List ℕ) → length t ≤ length (fileOf t)
 words-bytes [] = omega arith
 words-bytes (w ∷ ws) = omega (arith, words-bytes ws, ap length (file-cons w ws) ∙ length-append (bytesOf w) (fileOf ws), number-bytes-at-most w .0)
 
-pub plan-bytes : {p : List ℕ} → PlanFile p → headWords ≤ length p
+pub plan-bytes : {e : Edition} {p : List ℕ} → PlanFile e p → headWords ≤ length p
 plan-bytes (t, f) = omega (arith, words-bytes t, f .complete .head, ap length (f .bytes))
 
 -- And fewer than the mark says.
-plan-short : {p : List ℕ} → PlanFile p → length p < mark
-plan-short (t, f) = omega (arith, file-bytes-at-most .1 t (f .complete), ap length (f .bytes))
+plan-short : {p : List ℕ} → PlanFile firstLayout p → length p < mark
+plan-short (t, f) =
+    let z = f .complete in
+    omega (arith, file-length t, z .exact, z .limits .links, z .limits .streams, z .limits .legs, ap length (f .bytes))
 
 -- What begins with a smaller number than the mark is kept under no edition.
 pub no-small-mark : (s : List ℕ) {n next e : ℕ} {q : List ℕ} → NumberStands s 0 n next → n < mark → Under s e q → ⊥
 no-small-mark s h small u = omega (arith, number-once s h (under-mark u) .0)
 
 -- A copy with nothing in front of it is kept under no edition.
-pub copy-not-under : (s : List ℕ) {e : ℕ} {q : List ℕ} → Copy s → Under s e q → ⊥
+pub copy-not-under : (s : List ℕ) {e : ℕ} {q : List ℕ} → Copy firstLayout s → Under s e q → ⊥
 copy-not-under s c = no-small-mark s (kept-number (c .kept)) (plan-short (c .plan))
 
 -- The two numbers in front, as they were read.
@@ -128,8 +130,8 @@ module _ (s : List ℕ) {r : Number} where
       front-read is2 told2 = two-numbers s mark-is (subst (ReadsNumber s at) is2 told2)
 
 -- A copy with nothing in front of it is of the first edition.
-pub copy-first : (s : List ℕ) {r : Holds} → r ≡ holds.Yes → Tells (Copy s) r → OfEdition s firstEdition
-copy-first s is told = inr (refl, subst (Tells (Copy s)) is told)
+pub copy-first : (s : List ℕ) {r : Holds} → r ≡ holds.Yes → Tells (Copy firstLayout s) r → OfEdition s firstEdition
+copy-first s is told = inr (refl, subst (Tells (Copy firstLayout s)) is told)
 
 -- What stands in front, as it was told.
 module _ (s : List ℕ) {f : Front} where
@@ -139,9 +141,9 @@ module _ (s : List ℕ) {f : Front} where
   pub unnamed-under : {e : ℕ} → f ≡ front.Unnamed → FrontTold s f → (q : List ℕ) → Under s e q → ⊥
   unnamed-under {e} is told = none-under is told e
 
-  pub unnamed-nothing : {r : Holds} → f ≡ front.Unnamed → FrontTold s f → r ≡ holds.No → Tells (Copy s) r → (e : ℕ) → OfEdition s e → ⊥
+  pub unnamed-nothing : {r : Holds} → f ≡ front.Unnamed → FrontTold s f → r ≡ holds.No → Tells (Copy firstLayout s) r → (e : ℕ) → OfEdition s e → ⊥
   unnamed-nothing is told refused none e (inl n) = none-under is told e (n .rest) (n .under)
-  unnamed-nothing is told refused none e (inr c) = subst (Tells (Copy s)) refused none (c .1)
+  unnamed-nothing is told refused none e (inr c) = subst (Tells (Copy firstLayout s)) refused none (c .1)
 
   module _ {d next : ℕ} (is : f ≡ front.Named d next) (told : FrontTold s f) where
     named-is : FrontTold s (front.Named d next)
@@ -193,7 +195,7 @@ module _ (s : List ℕ) (e : ℕ) {t : Rest} where
         let same = under-once s (k .under) (rest-is .1) .1 in
         none (rw (after s next rest-start) (rw same at (k .known)))
 
-    pub rest-copied : (r : Holds) → Tells (Copy (take (length s - next) (drop next s))) r → Tells (CopyUnder s e) r
+    pub rest-copied : (r : Holds) → Tells (Copy current (take (length s - next) (drop next s))) r → Tells (CopyUnder s e) r
     rest-copied holds.Yes k = record { rest = drop next s; under = rest-is .1; copy = rw (after s next rest-start) at k }
     rest-copied holds.No none = λ k.
         let same = under-once s (k .under) (rest-is .1) .1 in

@@ -15,9 +15,8 @@ use Rattle.numbers.specs.Calls.{NumberStands, ReadsNumber}
 use Rattle.numbers.specs.declared.Number.{Number}
 use Rattle.numbers.specs.declared.Number.the-variants as number
 use Rattle.numbers.proofs.OneNumber.{read-number-one-answer, word-not-refused}
-use Rattle.table.specs.Layout.{maxTableWords}
-use Rattle.table.proofs.Sizes.{table-words-at-most}
-use Rattle.files.specs.Plan.{PlanUnread}
+use Rattle.table.specs.declared.Edition.{Edition}
+use Rattle.files.specs.Plan.{PlanFaultIn}
 use Rattle.files.proofs.OneAnswer.{file-no-fault}
 use Rattle.seen.specs.Seen.{Kept, Known, KnownParts, PlanFile, Copy, PlanParts, Splits}
 use Rattle.seen.specs.declared.Parts.{Parts}
@@ -98,25 +97,24 @@ told-known : (s f o p : List ℕ) (r : Holds) → Kept s f o → Tells ((f ≡ p
 told-known s f o p Yes k i = record { first = f; other = o; kept = k; is = i }
 told-known s f o p No k neither = λ h. let e = kept-once s f o (h .first) (h .other) k (h .kept) in neither (rw (e .0, e .1) at (h .is))
 
-told-copy : (s f o : List ℕ) (r : Holds) → Kept s f o → Tells (PlanFile f × ((o ≡ []) ⊎ PlanFile o)) r → Tells (Copy s) r
-told-copy s f o Yes k i = record { first = f; other = o; kept = k; plan = i .0; rest = i .1 }
-told-copy s f o No k others = λ h.
-    let e = kept-once s f o (h .first) (h .other) k (h .kept) in
-    others (rw (e .0) at (h .plan), rw (e .1) at (h .rest))
+told-copy : (e : Edition) (s f o : List ℕ) (r : Holds) → Kept s f o → Tells (PlanFile e f × ((o ≡ []) ⊎ PlanFile e o)) r → Tells (Copy e s) r
+told-copy e s f o Yes k i = record { first = f; other = o; kept = k; plan = i .0; rest = i .1 }
+told-copy e s f o No k others = λ h.
+    let same = kept-once s f o (h .first) (h .other) k (h .kept) in
+    others (rw (same .0) at (h .plan), rw (same .1) at (h .rest))
 
--- There is room for every table, so whatever is refused is no plan file.
-pub refused-no-plan : (s : List ℕ) (room k p : ℕ) → maxTableWords ≤ room → PlanUnread s room k p → PlanFile s → ⊥
-refused-no-plan s room k p h (inl f) (t, file) = file-no-fault file f
-refused-no-plan s room k p h (inr x) (t, file) = omega (arith, x .2 .long, table-words-at-most .1 (x .2 .table) (x .2 .file .complete))
+-- Whatever is refused is no plan file.
+pub refused-no-plan : (e : Edition) (s : List ℕ) (k p : ℕ) → PlanFaultIn e s k p → PlanFile e s → ⊥
+refused-no-plan e s k p f (t, file) = file-no-fault file f
 
 -- Where a plan file stands in front, what comes after it tells.
-pub told-plans : (s : List ℕ) (at : ℕ) (r : Holds) → at ≤ length s → (at ≡ length s → ⊥)
-    → PlanFile (take (at - 0) (drop 0 s)) → Tells (PlanFile (take (length s - at) (drop at s))) r → Tells (PlanParts s at) r
-told-plans s at Yes h more f i = (rw (front s at) at f, inr (rw (after s at h) at i))
-told-plans s at No h more f none = λ x. either (x .1)
+pub told-plans : (e : Edition) (s : List ℕ) (at : ℕ) (r : Holds) → at ≤ length s → (at ≡ length s → ⊥)
+    → PlanFile e (take (at - 0) (drop 0 s)) → Tells (PlanFile e (take (length s - at) (drop at s))) r → Tells (PlanParts e s at) r
+told-plans e s at Yes h more f i = (rw (front s at) at f, inr (rw (after s at h) at i))
+told-plans e s at No h more f none = λ x. either (x .1)
   where
-    either : (drop at s ≡ []) ⊎ PlanFile (drop at s) → ⊥
-    either (inl e) = let l = ap length e in more (omega (arith, length-drop at s))
+    either : (drop at s ≡ []) ⊎ PlanFile e (drop at s) → ⊥
+    either (inl x) = let l = ap length x in more (omega (arith, length-drop at s))
     either (inr i) = none (rw (after s at h) i)
 
 -- The number that was read in front, and the first plan after it: w bytes from next on.
@@ -149,7 +147,7 @@ module _ (s : List ℕ) {p : Parts} where
   pub none-known : {q : List ℕ} → p ≡ parts.Nowhere → Splits s p → Known s q → ⊥
   none-known e told k = none-kept-so e told (k .first) (k .other) (k .kept)
 
-  pub none-copied : p ≡ parts.Nowhere → Splits s p → Copy s → ⊥
+  pub none-copied : {l : Edition} → p ≡ parts.Nowhere → Splits s p → Copy l s → ⊥
   none-copied e told k = none-kept-so e told (k .first) (k .other) (k .kept)
 
   module _ {next n : ℕ} (e : p ≡ parts.At next n) (told : Splits s p) where
@@ -165,8 +163,8 @@ module _ (s : List ℕ) {p : Parts} where
     pub split-known : (q : List ℕ) (r : Holds) → Tells (KnownParts (take (length s - next) (drop next s)) n q) r → Tells (Known s q) r
     split-known q r t = told-known s _ _ q r (split-is .2) (rw (after s next split-start) at t)
 
-    pub split-copied : (r : Holds) → Tells (PlanParts (take (length s - next) (drop next s)) n) r → Tells (Copy s) r
-    split-copied r t = told-copy s _ _ r (split-is .2) (rw (after s next split-start) at t)
+    pub split-copied : (l : Edition) (r : Holds) → Tells (PlanParts l (take (length s - next) (drop next s)) n) r → Tells (Copy l s) r
+    split-copied l r t = told-copy l s _ _ r (split-is .2) (rw (after s next split-start) at t)
 
 -- The bytes of two strings below i are equal.
 pub record SameTo (a b : List ℕ) (i : ℕ) : Type 0 where

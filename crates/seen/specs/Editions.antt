@@ -8,6 +8,7 @@ use Rattle.numbers.specs.Number.{maxWord, bytesOf}
 use Rattle.numbers.specs.Series.{fileOf, Laid, TooSmall}
 use Rattle.numbers.specs.declared.Written.{Written}
 use Rattle.numbers.specs.declared.Written.the-variants as written
+use Rattle.table.specs.Layout.{current, firstLayout}
 use Rattle.seen.specs.Seen.{Kept, Known, Copy}
 use Rattle.seen.specs.declared.Front.{Front}
 use Rattle.seen.specs.declared.Front.the-variants as front
@@ -42,11 +43,11 @@ pub record KnownUnder (s : List ℕ) (edition : ℕ) (p : List ℕ) : Type 0 whe
   pub under : Under s edition rest
   pub known : Known rest p
 
--- s is what is kept beside a cursor under this edition: a copy of one plan or of two.
+-- s is what is kept beside a cursor under this edition: a copy of one plan or of two, of today's layout.
 pub record CopyUnder (s : List ℕ) (edition : ℕ) : Type 0 where
   pub rest : List ℕ
   pub under : Under s edition rest
-  pub copy : Copy rest
+  pub copy : Copy current rest
 
 -- s names this edition, and what comes after it has the form of what was seen, whatever stands there for a plan: another edition may have other plan files.
 pub record Names (s : List ℕ) (edition : ℕ) : Type 0 where
@@ -56,9 +57,10 @@ pub record Names (s : List ℕ) (edition : ℕ) : Type 0 where
   pub under : Under s edition rest
   pub kept : Kept rest first other
 
--- The edition that s is of: the one that it names; or the first, where s is a copy with nothing in front of it.
+-- The edition that s is of: the one that it names; or the first, where s is a copy with nothing in front of it, of plans in the first layout, since there was no other
+-- when editions were not named.
 abbrev pub OfEdition : List ℕ → ℕ → Type 0
-OfEdition s edition = Names s edition ⊎ ((edition ≡ firstEdition) × Copy s)
+OfEdition s edition = Names s edition ⊎ ((edition ≡ firstEdition) × Copy firstLayout s)
 
 -- Of which edition s is, if of any.
 abbrev pub EditionTold : List ℕ → Of → Type 0

@@ -5,7 +5,8 @@ use mathlib.Core.List.{List, [], _++_}
 use mathlib.Core.Logic.{_⊎_}
 use lib.ListN.{length, take, drop}
 use Rattle.numbers.specs.Number.{maxWord, bytesOf}
-use Rattle.table.specs.Layout.{Sized}
+use Rattle.table.specs.Layout.{SizedIn}
+use Rattle.table.specs.declared.Edition.{Edition}
 use Rattle.files.specs.Reading.{IsFile}
 use Rattle.seen.specs.declared.Parts.{Parts}
 use Rattle.seen.specs.declared.Parts.the-variants as parts
@@ -26,22 +27,22 @@ pub record Known (s p : List ℕ) : Type 0 where
 abbrev pub KnownParts : List ℕ → ℕ → List ℕ → Type 0
 KnownParts s at p = (take at s ≡ p) ⊎ (drop at s ≡ p)
 
--- p is a plan file.
-abbrev pub PlanFile : List ℕ → Type 0
-PlanFile p = (t : List ℕ) × IsFile Sized p t
+-- p is a plan file of the layout e.
+abbrev pub PlanFile : Edition → List ℕ → Type 0
+PlanFile e p = (t : List ℕ) × IsFile (SizedIn e) p t
 
--- s is a copy: the first plan is a plan file, and the other is one or nothing. This is what was kept beside a cursor before editions were named; since then the
+-- s is a copy: the first plan is a plan file of the layout e, and the other is one or nothing. This is what was kept beside a cursor before editions were named; since then the
 -- edition stands in front of it (Editions.antt).
-pub record Copy (s : List ℕ) : Type 0 where
+pub record Copy (e : Edition) (s : List ℕ) : Type 0 where
   pub first : List ℕ
   pub other : List ℕ
   pub kept : Kept s first other
-  pub plan : PlanFile first
-  pub rest : (other ≡ []) ⊎ PlanFile other
+  pub plan : PlanFile e first
+  pub rest : (other ≡ []) ⊎ PlanFile e other
 
 -- Two plans stand in s, one after the other, and the first has so many bytes: the first is a plan file, and the second is one or is empty.
-abbrev pub PlanParts : List ℕ → ℕ → Type 0
-PlanParts s at = PlanFile (take at s) × ((drop at s ≡ []) ⊎ PlanFile (drop at s))
+abbrev pub PlanParts : Edition → List ℕ → ℕ → Type 0
+PlanParts e s at = PlanFile e (take at s) × ((drop at s ≡ []) ⊎ PlanFile e (drop at s))
 
 -- Where the first plan begins in s and how many bytes it has; or s does not have the form of what was seen.
 abbrev pub Splits : List ℕ → Parts → Type 0

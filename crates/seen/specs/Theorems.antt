@@ -5,6 +5,7 @@ use mathlib.Core.List.{List, [], _∷_, _++_}
 use lib.ListN.{length, take}
 use Rattle.numbers.specs.Number.{maxWord}
 use Rattle.numbers.specs.declared.Written.the-variants as written
+use Rattle.table.specs.Layout.{firstLayout}
 use Rattle.seen.specs.Seen.{Copy}
 use Rattle.seen.specs.Editions.{WritesFront, KnownUnder, CopyUnder, OfEdition}
 
@@ -13,7 +14,7 @@ pub record EditionsPartCopies : Type 0 where
   -- What is known under one edition is known under no other.
   pub one : (s : List ℕ) (d e : ℕ) (p q : List ℕ) → KnownUnder s d p → KnownUnder s e q → d ≡ e
   -- What was kept before editions were named is known under none.
-  pub first : (s p : List ℕ) (e : ℕ) → Copy s → KnownUnder s e p → ⊥
+  pub first : (s p : List ℕ) (e : ℕ) → Copy firstLayout s → KnownUnder s e p → ⊥
   -- What was kept is of one edition at the most.
   pub told-once : (s : List ℕ) (d e : ℕ) → OfEdition s d → OfEdition s e → d ≡ e
   -- A copy under an edition is of that edition.
@@ -47,6 +48,13 @@ tooLong = 0xE4 ∷ 0xE0 ∷ 0x96 ∷ 0x90 ∷ 0x0A ∷ 0x02 ∷ 0x06 ∷ emptyPl
 abbrev pub leftOver : List ℕ
 leftOver = 0x05 ∷ 0x09 ∷ 0x00 ∷ 0x00 ∷ 0x00 ∷ 0x00 ∷ 0x00 ∷ []
 
+-- A plan file of the first layout with one leg, and one of today's, each in a copy without an edition.
+abbrev pub legUnderNone : List ℕ
+legUnderNone = 0x08 ∷ 0x00 ∷ 0x00 ∷ 0x00 ∷ 0x01 ∷ 0x00 ∷ 0x07 ∷ 0x08 ∷ 0x09 ∷ []
+
+abbrev pub legOfToday : List ℕ
+legOfToday = 0x09 ∷ 0x00 ∷ 0x00 ∷ 0x00 ∷ 0x01 ∷ 0x00 ∷ 0x07 ∷ 0x08 ∷ 0x09 ∷ 0x00 ∷ []
+
 -- Copies at numbers.
 pub record CopiesAtNumbers : Type 0 where
   pub copied : CopyUnder keptUnderTwo 2
@@ -64,6 +72,9 @@ pub record CopiesAtNumbers : Type 0 where
   pub no-plan-files : CopyUnder twoPlans 300 → ⊥
   -- Without an edition in front: of the first, and known under none.
   pub unnamed : OfEdition keptUnderNone 1
+  -- Without one its plans are of the first layout.
+  pub unnamed-leg : OfEdition legUnderNone 1
+  pub not-of-today : (e : ℕ) → OfEdition legOfToday e → ⊥
   pub unknown : (e : ℕ) (p : List ℕ) → KnownUnder keptUnderNone e p → ⊥
   -- Of no edition: a length that is too large, what is no plan file, and a plan file with a byte after it.
   pub too-long : (e : ℕ) → OfEdition tooLong e → ⊥

@@ -9,6 +9,7 @@ use basics::Holds;
 use files::PlanRead;
 use numbers::Number;
 use numbers::Written;
+use table::Edition;
 
 // The number that stands before the edition, and the edition of what was kept before editions were named.
 const MARK: u32 = 2718281828;
@@ -104,43 +105,42 @@ fn known_in(seen: &[u8], plan: &[u8]) -> Holds
     }
 }
 
-// Whether bytes are a plan file.
-fn is_plan(bytes: &[u8]) -> Holds
-    ensures { λ r. ⌜ Tells (PlanFile (now (bytes .entry))) r ⌝ }
+// Whether bytes are a plan file of a layout.
+fn is_plan(layout: Edition, bytes: &[u8]) -> Holds
+    ensures { λ r. ⌜ Tells (PlanFile layout (now (bytes .entry))) r ⌝ }
 {
-    let mut words = [0u32; table::MAX_TABLE_WORDS];
-    let read = files::read_plan(bytes, &mut words);
-    match read {
+    let told = files::look::plan_size(layout, bytes);
+    match told {
         PlanRead::Words(_) => Holds::Yes,
         PlanRead::Refused(_, _) => Holds::No,
     }
 }
 
 // Whether a plan file stands in front of a position, and another or nothing after it.
-fn are_plans(plans: &[u8], at: usize) -> Holds
+fn are_plans(layout: Edition, plans: &[u8], at: usize) -> Holds
     requires { ⌜ at ≤ length (now plans) ⌝ }
-    ensures { λ r. ⌜ Tells (PlanParts (now (plans .entry)) at) r ⌝ }
+    ensures { λ r. ⌜ Tells (PlanParts layout (now (plans .entry)) at) r ⌝ }
 {
-    let first = is_plan(&plans[0..at]);
+    let first = is_plan(layout, &plans[0..at]);
     match first {
         Holds::No => Holds::No,
         Holds::Yes => {
             if at == plans.len() {
                 return Holds::Yes;
             }
-            is_plan(&plans[at..])
+            is_plan(layout, &plans[at..])
         }
     }
 }
 
-// Whether bytes are a copy of one plan or of two.
-fn is_copy_in(seen: &[u8]) -> Holds
-    ensures { λ r. ⌜ Tells (Copy (now (seen .entry))) r ⌝ }
+// Whether bytes are a copy of one plan or of two, of a layout.
+fn is_copy_in(layout: Edition, seen: &[u8]) -> Holds
+    ensures { λ r. ⌜ Tells (Copy layout (now (seen .entry))) r ⌝ }
 {
     let parts = split(seen);
     match parts {
         Parts::Nowhere => Holds::No,
-        Parts::At(next, at) => are_plans(&seen[next..], at),
+        Parts::At(next, at) => are_plans(layout, &seen[next..], at),
     }
 }
 
@@ -209,7 +209,7 @@ pub fn is_copy(seen: &[u8], edition: u32) -> Holds
     let rest = rest_under(seen, edition);
     match rest {
         Rest::Nowhere => Holds::No,
-        Rest::At(next) => is_copy_in(&seen[next..]),
+        Rest::At(next) => is_copy_in(table::CURRENT, &seen[next..]),
     }
 }
 
@@ -220,7 +220,7 @@ pub fn edition_of(seen: &[u8]) -> Of
     let front = front_of(seen);
     match front {
         Front::Unnamed => {
-            let told = is_copy_in(seen);
+            let told = is_copy_in(table::FIRST_LAYOUT, seen);
             match told {
                 Holds::Yes => Of::Edition(FIRST_EDITION),
                 Holds::No => Of::Nothing,

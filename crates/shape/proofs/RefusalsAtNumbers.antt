@@ -12,19 +12,21 @@ use Rattle.table.specs.Layout.{linkWords, streamWords, legWords, maxLinks, maxS
 use Rattle.table.specs.Records.{linkPart, streamPart, linkIn, streamIn, streamAt}
 use Rattle.table.specs.declared.Link.{Link}
 use Rattle.table.specs.declared.Stream.{Stream}
+use Rattle.table.specs.declared.Leg.{Leg}
 use Rattle.table.proofs.PartLaws.{link-of-part, stream-of-part, leg-of-part}
 use Rattle.shape.specs.Links.{maxNode, maxPropagation, IsRate, LinkInRange, LinkNew}
-use Rattle.shape.specs.Streams.{maxRoute, legsBefore, StreamInRange, StreamRight}
+use Rattle.shape.specs.Streams.{maxPeriod, maxPeriods, maxPeriodsDue, maxRoute, legsBefore, StreamInRange, StreamRight}
 use Rattle.shape.specs.Legs.{LegRight}
-use Rattle.shape.specs.Shape.{LinkRight, ShapeFault}
+use Rattle.shape.specs.Shape.{LinkRight, WellFormedTable, ShapeFault}
 use Rattle.shape.specs.Steps.{LinksPassed}
-use Rattle.shape.specs.RefusalsAtNumbers.{TableRefused, headerOf, wrongLink, linkAgain, wrongStream, fewerLegs, wrongLeg, ShapeRefusalsAtNumbers}
+use Rattle.shape.specs.RefusalsAtNumbers.{TableRefused, headerOf, wrongLink, linkAgain, wrongStream, fewerLegs, wrongLeg, oneLeg, LateAtNumbers, ShapeRefusalsAtNumbers}
 use Rattle.shape.proofs.LinksComputed.{all-new}
 use Rattle.shape.proofs.Judged.{past-links}
 use Rattle.shape.proofs.Rates.{gigabit, hundred-megabit}
 use Rattle.shape.proofs.OneShape.{well-no-fault}
 use Rattle.shape.proofs.StreamLaws.{legs-none, legs-more}
 use Rattle.shape.proofs.Reading.{link-of, stream-of, first-leg-right}
+use Rattle.shape.proofs.Computed.{leg-on, only-leg, in-range, before-next, stream-placed}
 
 -- A refused table is not well-formed, since a shape has one answer.
 refused : (t : List ℕ) (k p : ℕ) → ShapeFault t k p → TableRefused t k p
@@ -164,7 +166,7 @@ leg =
     (LegRight wrongLeg)
     0
     (below-none (LegRight wrongLeg))
-    (first-leg-right wrongLeg 0 0 0 _ _ _ (omega arith) (omega arith) leg-0 refl refl its-stream refl (omega arith) link-0 (λ e. omega (arith, e))) in
+    (first-leg-right wrongLeg 0 0 0 _ _ _ (omega arith) (omega arith) leg-0 refl refl (omega arith) its-stream refl (omega arith) link-0 (λ e. omega (arith, e))) in
     past-links wrongLeg 7 1 links
     (inr (
       first-stream wrongLeg 2 refl (omega arith, omega arith, omega arith),
@@ -177,6 +179,61 @@ leg =
       links = second-link wrongLeg refl 3 4 refl (omega arith) (omega arith);
       new-links = all-new wrongLeg 2 refl;
     }
+
+module _ (period deadline periods : ℕ) where
+  abbrev one : List ℕ
+  one = oneLeg period deadline periods
+
+  links-pass : LinksPassed one
+  links-pass = one-link one (sized 1 1 1 _ (omega arith) refl) refl refl
+
+  only-stream : (1 ≤ period) × (period ≤ maxPeriod) × (1 ≤ deadline) × (deadline ≤ maxPeriodsDue * period) → All (StreamRight one) 1
+  only-stream h =
+      below-more (StreamRight one) 0 (below-none (StreamRight one))
+      (stream-placed one 0 (legs-none one) (in-range _ (h .2, h .3, h .1) (omega arith, omega arith) (omega arith, omega arith)) (omega arith))
+
+  -- Its deadline is too long: 6, whatever its leg.
+  due-late : maxPeriodsDue * period < deadline → TableRefused one 6 0
+  due-late l =
+      refused one 6 0
+      (past-links one 6 0 links-pass (inl (refl, lowest-of-all (omega arith) bad (below-none (StreamRight one)))))
+    where
+      bad : StreamRight one 0 → ⊥
+      bad r =
+          let e = stream-of-part one 0 in
+          omega (arith, r .in-range .deadline-to, ap (λ (s : Stream). s .deadline) e, ap (λ (s : Stream). s .period) e)
+
+  module _ (h : (1 ≤ period) × (period ≤ maxPeriod) × (1 ≤ deadline) × (deadline ≤ maxPeriodsDue * period)) where
+    leg-late : maxPeriods < periods → TableRefused one 7 0
+    leg-late l =
+        refused one 7 0
+        (past-links one 7 0 links-pass
+        (inr (only-stream h, inr (before-next one 0 (legs-none one), (refl, lowest-of-all (omega arith) bad (below-none (LegRight one)))))))
+      where
+        bad : LegRight one 0 → ⊥
+        bad r = omega (arith, r .in-range .periods, ap (λ (x : Leg). x .periods) (leg-of-part one 0))
+
+    well : periods ≤ maxPeriods → WellFormedTable one
+    well l = record {
+      sized = links-pass .sized;
+      links = links-pass .links;
+      new-links = links-pass .new-links;
+      streams = only-stream h;
+      counts = before-next one 0 (legs-none one);
+      legs = below-more (LegRight one) 0 (below-none (LegRight one))
+          (leg-on one 0 (omega arith) (omega arith) l (omega arith) (omega arith) (only-leg one 0 (λ e. absurd (omega (arith, e)))));
+    }
+
+late : LateAtNumbers
+late = record {
+  latest = well _ _ _ (omega arith, omega arith, omega arith, omega arith) (omega arith);
+  too-late = leg-late _ _ _ (omega arith, omega arith, omega arith, omega arith) (omega arith);
+  due-too-late = due-late _ _ _ (omega arith);
+  word-full = well _ _ _ (omega arith, omega arith, omega arith, omega arith) (omega arith);
+  word-over = due-late _ _ _ (omega arith);
+  word-end = well _ _ _ (omega arith, omega arith, omega arith, omega arith) (omega arith);
+  longest = well _ _ _ (omega arith, omega arith, omega arith, omega arith) (omega arith);
+}
 
 pub shape-refusals-at-numbers : ShapeRefusalsAtNumbers
 shape-refusals-at-numbers = record {
@@ -192,4 +249,5 @@ shape-refusals-at-numbers = record {
   stream = refused _ 6 1 stream;
   fewer-legs = refused _ 6 1 fewer-legs;
   leg = refused _ 7 1 leg;
+  late = late;
 }

@@ -9,14 +9,18 @@ use Rattle.table.specs.Layout.{maxTableWords, Sized}
 use Rattle.table.specs.Size.{noHeader, aboveLimit, wrongLength}
 use Rattle.table.proofs.Sizes.{size-one}
 use Rattle.shape.specs.Shape.{badLink, doubleLink, badStream, badLeg, ShapeFault}
-use Rattle.shape.specs.OfTables.{RefusalNumber, OfBytes, OfTable}
+use Rattle.shape.specs.OfTables.{maxRefusal, RefusalNumber, OfBytes, OfTable}
 
 -- All numbers up to 15 are such numbers.
 pub up-to-room : (k : ℕ) → k ≤ noRoom → RefusalNumber k
-up-to-room k h = h
+up-to-room k h = inl h
 
 pub of-table : (n : ℕ) {k p : ℕ} → n ≤ noRoom → (OfBytes n → ⊥) → k ≡ n → p ≤ maxTableWords → OfTable k p
 of-table n l b e h = record { number = up-to-room _ (omega arith); small = omega arith; position = h; not-of-bytes = λ x. b (omega (arith, x .0), omega (arith, x .1)) }
+
+-- The largest is none of bytes.
+pub largest-of-table : {k p : ℕ} → k ≡ maxRefusal → p ≤ maxTableWords → OfTable k p
+largest-of-table e h = record { number = inr e; small = omega arith; position = h; not-of-bytes = λ x. omega (arith, x .1) }
 
 pub shape-of-table : (t : List ℕ) (k p : ℕ) → ShapeFault t k p → OfTable k p
 shape-of-table t k p (inl (inl x)) = of-table noHeader (omega arith) (λ b. omega (arith, b)) (x .0) (omega (arith, x .1))

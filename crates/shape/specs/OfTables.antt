@@ -1,15 +1,17 @@
 -- What the refusals of tables have in common, whatever their numbers.
 use Prim.Native.Nat.{ℕ, _≤_}
+use mathlib.Core.Path.{_≡_}
+use mathlib.Core.Logic.{_⊎_}
 use Rattle.numbers.specs.Number.{bytesEnd, noRoom}
 use Rattle.table.specs.Layout.{maxTableWords}
 
--- The numbers of refusals: up to 15.
-abbrev pub RefusalNumber : ℕ → Type 0
-RefusalNumber k = k ≤ noRoom
-
--- The largest of them.
+-- The largest number of a refusal, that of a move too many periods late.
 abbrev pub maxRefusal : ℕ
-maxRefusal = 15
+maxRefusal = 17
+
+-- The numbers of refusals: up to 15, and this one. (16 is of networks.)
+abbrev pub RefusalNumber : ℕ → Type 0
+RefusalNumber k = (k ≤ noRoom) ⊎ (k ≡ maxRefusal)
 
 -- The refusals 12 to 15 concern bytes, not tables.
 abbrev pub OfBytes : ℕ → Type 0

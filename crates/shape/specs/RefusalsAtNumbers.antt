@@ -47,8 +47,8 @@ wrongStream =
     1 ∷ 2 ∷ 8 ∷ 500 ∷
     1000 ∷ 900 ∷ 64 ∷ 0 ∷ 1 ∷
     1000 ∷ 900 ∷ 64 ∷ 0 ∷ 1 ∷
-    0 ∷ 1 ∷ 0 ∷
-    1 ∷ 0 ∷ 0 ∷ []
+    0 ∷ 1 ∷ 0 ∷ 0 ∷
+    1 ∷ 0 ∷ 0 ∷ 0 ∷ []
 
 -- The one stream is right and has one leg, but G is 2; leg 0 names a link that is not there: 6 at S, before 7.
 abbrev pub fewerLegs : List ℕ
@@ -56,8 +56,8 @@ fewerLegs =
     0 ∷ 1 ∷ 1 ∷ 2 ∷ 0 ∷
     1 ∷ 2 ∷ 8 ∷ 500 ∷
     1000 ∷ 900 ∷ 64 ∷ 0 ∷ 1 ∷
-    0 ∷ 1 ∷ 0 ∷
-    0 ∷ 0 ∷ 0 ∷ []
+    0 ∷ 1 ∷ 0 ∷ 0 ∷
+    0 ∷ 0 ∷ 0 ∷ 0 ∷ []
 
 -- Leg 1 begins at node 3, and leg 0 ended at node 2.
 abbrev pub wrongLeg : List ℕ
@@ -66,8 +66,27 @@ wrongLeg =
     1 ∷ 2 ∷ 8 ∷ 500 ∷
     3 ∷ 4 ∷ 8 ∷ 500 ∷
     1000 ∷ 900 ∷ 64 ∷ 0 ∷ 2 ∷
-    0 ∷ 0 ∷ 0 ∷
-    0 ∷ 1 ∷ 0 ∷ []
+    0 ∷ 0 ∷ 0 ∷ 0 ∷
+    0 ∷ 1 ∷ 0 ∷ 0 ∷ []
+
+-- One stream of one leg, with this period, this deadline, and the leg so many periods late.
+abbrev pub oneLeg : (period deadline periods : ℕ) → List ℕ
+oneLeg period deadline periods =
+    0 ∷ 1 ∷ 1 ∷ 1 ∷ 0 ∷
+    1 ∷ 2 ∷ 8 ∷ 500 ∷
+    period ∷ deadline ∷ 64 ∷ 0 ∷ 1 ∷
+    0 ∷ 0 ∷ 0 ∷ periods ∷ []
+
+-- Document 02's L4: a leg may lie 7 periods late, also a first leg, and not 8; a deadline may have 8 periods and not a nanosecond more, also where they are 4,294,967,288
+-- ns, just inside a word; where they are more than a word holds, any word from 1 up is a deadline.
+pub record LateAtNumbers : Type 0 where
+  pub latest : WellFormedTable (oneLeg 1000 8000 7)
+  pub too-late : TableRefused (oneLeg 1000 8000 8) 7 0
+  pub due-too-late : TableRefused (oneLeg 1000 8001 8) 6 0
+  pub word-full : WellFormedTable (oneLeg 536870911 4294967288 7)
+  pub word-over : TableRefused (oneLeg 536870911 4294967289 7) 6 0
+  pub word-end : WellFormedTable (oneLeg 536870912 4294967295 7)
+  pub longest : WellFormedTable (oneLeg 1000000000 4294967295 7)
 
 pub record ShapeRefusalsAtNumbers : Type 0 where
   pub four-words : TableRefused fourWords 1 0
@@ -82,3 +101,4 @@ pub record ShapeRefusalsAtNumbers : Type 0 where
   pub stream : TableRefused wrongStream 6 1
   pub fewer-legs : TableRefused fewerLegs 6 1
   pub leg : TableRefused wrongLeg 7 1
+  pub late : LateAtNumbers

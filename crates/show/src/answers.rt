@@ -8,6 +8,7 @@ use crate::text;
 use crate::told;
 use files::Cursor;
 use rules::Rule;
+use table::Leg;
 use table::Move;
 
 // What a refusal lies in: the plan, a cursor of ours, a file in the cursor's place that is none, or the move.
@@ -97,13 +98,28 @@ pub fn granted(at: Cursor, legs: usize) {
     text(b"status 0\n");
 }
 
-// Internal: a move that is granted, with the offset that its leg had before.
-pub fn moved(at: Cursor, legs: usize, mv: Move, from: u32) {
+fn from_to(from: u32, to: u32) {
+    labelled(b" from ", from);
+    labelled(b" to ", to);
+}
+
+// Internal: a move that is granted, with the leg as it was before.
+pub fn moved(at: Cursor, legs: usize, mv: Move, before: Leg) {
     grant(at, legs);
     labelled(b"leg ", mv.leg);
-    labelled(b" from ", from);
-    labelled(b" to ", mv.offset);
-    text(b" ns\nstatus 0\n");
+    from_to(before.offset, mv.offset);
+    text(b" ns, periods");
+    from_to(before.periods, mv.periods);
+    text(b"\nstatus 0\n");
+}
+
+// Internal: a file that is converted: how many legs and bytes it has now, and its revision.
+pub fn converted(legs: u32, bytes: usize, revision: u32) {
+    labelled(b"converted legs ", legs);
+    text(b" bytes ");
+    number(bytes as u64);
+    labelled(b" revision ", revision);
+    text(b"\nstatus 0\n");
 }
 
 // Ends the answer of a slice: its exit status, how many places it looked at, how many lie before the cursor, and how many there are.

@@ -23,12 +23,12 @@ planC n =
     20000 ∷ n .deadline-1 ∷ 100 ∷ 1 ∷ 3 ∷
     20000 ∷ n .deadline-2 ∷ 64 ∷ 4 ∷ 1 ∷
     20000 ∷ 5000 ∷ 64 ∷ 5 ∷ 1 ∷
-    0 ∷ 3 ∷ 1500 ∷
-    1 ∷ 0 ∷ 1000 ∷
-    1 ∷ 1 ∷ n .offset-2 ∷
-    1 ∷ 2 ∷ n .offset-3 ∷
-    2 ∷ 4 ∷ 1200 ∷
-    3 ∷ 4 ∷ 1300 ∷ []
+    0 ∷ 3 ∷ 1500 ∷ 0 ∷
+    1 ∷ 0 ∷ 1000 ∷ 0 ∷
+    1 ∷ 1 ∷ n .offset-2 ∷ 0 ∷
+    1 ∷ 2 ∷ n .offset-3 ∷ 0 ∷
+    2 ∷ 4 ∷ 1200 ∷ 0 ∷
+    3 ∷ 4 ∷ 1300 ∷ 0 ∷ []
 
 -- Plan C with these deadlines of streams 1 and 2, and with legs 2 and 3 at these offsets.
 abbrev pub deadlinesC : ℕ → ℕ → PlanCNumbers

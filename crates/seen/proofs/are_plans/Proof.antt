@@ -56,7 +56,7 @@ returns-3 c =
     let first : tie.After-enum-told2 = search in
     let told : tie.After-is-plan = search in
     let entry : tie.Start = search in
-    told-plans (entry .args .plans .now) (entry .args .at) (c .is-plan2 .result) (omega arith) (λ e. omega arith)
+    told-plans (entry .args .layout) (entry .args .plans .now) (entry .args .at) (c .is-plan2 .result) (omega arith) (λ e. omega arith)
     (rw (first .enum-told2 .given .1) at (told .is-plan .ensures)) (c .is-plan2 .ensures)
 
 pub are-plans-spec : {M : Type 1} → statement M

@@ -33,7 +33,7 @@ returns-2 c =
     let at : tie.After-parts = search in
     let told : tie.After-split = search in
     let entry : tie.Start = search in
-    split-copied (entry .args .seen .now) (at .parts .given .1) (told .split .ensures) (c .are-plans .result) (c .are-plans .ensures)
+    split-copied (entry .args .seen .now) (at .parts .given .1) (told .split .ensures) (entry .args .layout) (c .are-plans .result) (c .are-plans .ensures)
 
 pub is-copy-in-spec : {M : Type 1} → statement M
 is-copy-in-spec =

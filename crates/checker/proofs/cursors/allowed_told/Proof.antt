@@ -16,11 +16,14 @@ shared-slice-read-if2 : tie.Need-shared-slice-read-if2
 shared-slice-read-if2 c = search needs
 
 returns-2 : tie.Need-returns-2
-returns-2 c = inr (search, inr (search needs, (refl, refl, λ h. omega arith)))
+returns-2 c = inr (search, inr (search needs, inl (refl, refl, λ h. omega arith)))
 
 returns-3 : tie.Need-returns-3
-returns-3 c = search needs
+returns-3 c = inr (search, inr (search needs, inr (omega arith, (refl, refl, λ h. omega arith))))
+
+returns-4 : tie.Need-returns-4
+returns-4 c = search needs
 
 pub allowed-told-spec : {M : Type 1} → statement M
 allowed-told-spec =
-    tie.close (tie.spec shared-slice-read-if1 returns shared-slice-read-if2 returns-2 returns-3)
+    tie.close (tie.spec shared-slice-read-if1 returns shared-slice-read-if2 returns-2 returns-3 returns-4)

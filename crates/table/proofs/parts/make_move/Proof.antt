@@ -1,5 +1,5 @@
 -- `table::parts::make_move` meets its contract. Assumes nothing.
-use Rattle.table.proofs.Moved.{revision-inside, moved-is}
+use Rattle.table.proofs.Moved.{periods-fit, revision-inside, moved-is}
 use borrow.Author.Needs.{needs}
 use Rattle.table.proofs.parts.make_move.Statement.{statement}
 use Rattle.table.proofs.parts.make_move.Tie as tie
@@ -16,8 +16,17 @@ mul-t c = search needs
 slice-write-t : tie.Need-slice-write-t
 slice-write-t c = search needs
 
+add-t : tie.Need-add-t
+add-t c = search needs
+
+mul-t-2 : tie.Need-mul-t-2
+mul-t-2 c = search needs
+
 slice-write-t-2 : tie.Need-slice-write-t-2
-slice-write-t-2 c = search revision-inside
+slice-write-t-2 c = search periods-fit
+
+slice-write-t-3 : tie.Need-slice-write-t-3
+slice-write-t-3 c = search revision-inside
 
 same-length : tie.Need-same-length
 same-length c = search needs
@@ -33,6 +42,9 @@ make-move-spec =
     offset-at-requires
     mul-t
     slice-write-t
+    add-t
+    mul-t-2
     slice-write-t-2
+    slice-write-t-3
     same-length
     returns)
