@@ -1,6 +1,6 @@
 -- The rules at numbers with Plan D, whose records compute from its words. Assumes nothing.
 use Prim.Native.Nat.{ℕ, zero, suc, _+_, _≤_, _<_}
-use mathlib.Core.Path.{_≡_, refl, sym}
+use mathlib.Core.Path.{_≡_, refl}
 use native.Mathlib.Omega.{arith}
 use Rattle.basics.specs.declared.Holds.the-variants.{Yes, No}
 use Rattle.table.specs.PlanD.{PlanDNumbers, planD, routeD, lateD}
