@@ -3,3 +3,4 @@ pub mod Moving
 pub mod OneAnswer
 pub mod Refused
 pub mod RefusalsAtNumbers
+pub mod Whole

@@ -6,6 +6,7 @@ use files::Cursor;
 use rules::Rule;
 use table::Move;
 
+pub mod accepted;
 pub mod cursors;
 pub mod look;
 

@@ -27,7 +27,8 @@ use Rattle.demands.specs.Verdicts.{Verdict, violated, nothing-violated, 
 use Rattle.demands.specs.Runs.{Call, start, slice, move-leg, cursorOf, Run, Renews, withoutRefused, newest, Since, budgets, HasSlice, HasVerdict}
 use Rattle.demands.specs.DemandThree.{Sound, OneRightVerdict, RunsAreSound, RunsEndInTime, RunsGoOn, RunsKeepShape, DemandThree}
 use Rattle.demands.proofs.Verdicts.{rules-keep-places, right-verdict}
-use Rattle.demands.proofs.DemandTwo.{start-right, start-rank, demand-two}
+use Rattle.checker.proofs.Whole.{start-right, start-rank}
+use Rattle.demands.proofs.DemandTwo.{demand-two}
 use Rattle.demands.proofs.Runs.{Kept, run-keeps, right-moved}
 
 -- The first violated place is one.

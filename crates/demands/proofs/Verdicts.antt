@@ -6,12 +6,12 @@ use native.Mathlib.Omega.{arith}
 use Rattle.basics.proofs.Splits.{lt-or-ge}
 use Rattle.rules.specs.Rules.{RulesHold}
 use Rattle.rules.specs.declared.Rule.{Rule}
-use Rattle.rules.proofs.Covering.{places-cover-the-rules}
 use Rattle.places.specs.Order.{rank, placeCount, HoldFrom}
 use Rattle.places.proofs.Ranks.{place-rank, end-rank, order-is-by-leg}
 use Rattle.files.specs.declared.Cursor.{Cursor}
 use Rattle.checker.specs.Cursors.{cursorRank}
 use Rattle.checker.specs.Slices.{Went, Violates, Ends, Slices}
+use Rattle.checker.proofs.Whole.{all-held, broken-rules}
 use Rattle.checker.specs.declared.SliceAnswer.{SliceAnswer}
 use Rattle.checker.specs.declared.SliceAnswer.the-variants as answer
 use Rattle.demands.specs.Verdicts.{Verdict, FirstViolated, Gives, RightVerdict}
@@ -21,11 +21,8 @@ pub held-through : {t : List ℕ} (n m k : ℕ) → HoldFrom t n m → HoldFrom 
 held-through n m k h l a p i from below =
     ⊎-elim (λ (g : rank a p < m). h a p i from g) (λ (g : m ≤ rank a p). l a p i g below) (lt-or-ge (rank a p) m)
 
-all-held : (t : List ℕ) → HoldFrom t 0 (placeCount t) → RulesHold t
-all-held t h = places-cover-the-rules t .0 (λ a p l m. h a p (record { leg = l; place = m }) (omega arith) (place-rank {t = t} (record { leg = l; place = m })))
-
 pub rules-keep-places : {t : List ℕ} {a p : ℕ} → FirstViolated t a p → RulesHold t → ⊥
-rules-keep-places {t} {a} {p} v h = v .broken (places-cover-the-rules t .1 h a p (v .place .leg) (v .place .place))
+rules-keep-places {t} {a} {p} v = broken-rules t a p (v .place) (v .broken)
 
 module _ (t : List ℕ) (c : Cursor) (held : HoldFrom t 0 (cursorRank c)) where
   pub all-before : {d : Cursor} {n : ℕ} → Went t c d n → HoldFrom t 0 (cursorRank d)

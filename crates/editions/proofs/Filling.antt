@@ -11,7 +11,7 @@ use Rattle.numbers.specs.Series.{Row, fileOf, overlaid}
 use Rattle.numbers.specs.Steps.{AllNumbers, Filled, Stopped, Taken}
 use Rattle.numbers.specs.declared.series.Scan.{Scan}
 use Rattle.numbers.specs.declared.series.Scan.the-variants.{End, Stop}
-use Rattle.numbers.proofs.Rows.{file-none, file-append, file-row, row-compare, row-stops, stands-front}
+use Rattle.numbers.proofs.Rows.{file-none, file-append, file-row, row-compare, row-stops, stands-front, words-take}
 use Rattle.numbers.proofs.Overlay.{overlaid-all, overlaid-none, overlaid-more, overlaid-append, overlaid-length}
 use Rattle.table.specs.Layout.{current, headWords, linkWords, streamWords, legWords, linkCount, streamCount, legCount, streamStartIn, legStartIn, tableWords, LimitsIn, SizedIn}
 use Rattle.table.specs.declared.Edition.{Edition}
@@ -19,7 +19,7 @@ use Rattle.table.proofs.Headers.{SameHeader, limits-same, words-same, same-head
 use Rattle.files.specs.Reading.{IsFile}
 use Rattle.editions.specs.Converted.{newWord, wider, converted, Older}
 use Rattle.editions.specs.Steps.{FilledOn, FilledWider, Counted, Converts}
-use Rattle.editions.proofs.Wider.{one-more, words-take, wider-none, wider-more, wider-length, wider-taken, limits-today, streams-there, legs-there, converted-long}
+use Rattle.editions.proofs.Wider.{one-more, wider-none, wider-more, wider-length, wider-taken, limits-today, streams-there, legs-there, converted-long}
 
 -- The first n words of a row stand, and the rest of the row after them.
 pub row-part : {s : List ℕ} {at next : ℕ} (ws : List ℕ) (n : ℕ) → Row s at ws next → n ≤ length ws → AllNumbers s at n

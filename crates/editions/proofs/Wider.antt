@@ -8,7 +8,7 @@ use native.Mathlib.Nat.{mul-suc, mul-zero}
 use native.Mathlib.Omega.{arith}
 use Rattle.numbers.specs.Number.{maxWord}
 use Rattle.numbers.specs.Series.{AllWords}
-use Rattle.numbers.proofs.Rows.{words-append}
+use Rattle.numbers.proofs.Rows.{words-append, words-take, words-drop}
 use Rattle.table.specs.Layout.{current, firstLayout, linkWords, streamWords, legWords, linkCount, streamCount, legCount, streamStartIn, legStartIn, tableWords, LimitsIn, SizedIn, Sized}
 use Rattle.table.specs.declared.Edition.{Edition}
 use Rattle.table.proofs.Headers.{SameHeader, limits-same, words-same}
@@ -18,16 +18,6 @@ use Rattle.editions.specs.Converted.{newWord, wider, converted, Older}
 pub one-more : (w n : ℕ) → 0 < n → w * n ≡ w + w * (n - 1)
 one-more w zero h = absurd (omega arith)
 one-more w (suc n) h = let e : suc n - 1 ≡ n = omega arith in rw e (let m = mul-suc w n in omega arith)
-
-pub words-take : (n : ℕ) (ws : List ℕ) → AllWords ws → AllWords (take n ws)
-words-take zero ws h = tt
-words-take (suc n) [] h = tt
-words-take (suc n) (w ∷ ws) h = (h .0, words-take n ws (h .1))
-
-pub words-drop : (n : ℕ) (ws : List ℕ) → AllWords ws → AllWords (drop n ws)
-words-drop zero ws h = h
-words-drop (suc n) [] h = tt
-words-drop (suc n) (w ∷ ws) h = words-drop n ws (h .1)
 
 words-same-word : (n v : ℕ) → v ≤ maxWord → AllWords (replicate n v)
 words-same-word zero v h = tt

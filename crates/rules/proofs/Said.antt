@@ -1,6 +1,6 @@
--- What each rule says, for the layers above, which open none; and that a leg which does not lie late starts at its offset. Assumes nothing.
-use Prim.Native.Nat.{ℕ, _+_, _≤_}
-use mathlib.Core.Path.{_≡_, ap}
+-- What each rule says, for the layers above, which open none; when a leg starts, and that one which does not lie late starts at its offset. Assumes nothing.
+use Prim.Native.Nat.{ℕ, _+_, _*_, _≤_}
+use mathlib.Core.Path.{_≡_, refl, ap}
 use mathlib.Core.List.{List}
 use native.Mathlib.Omega.{arith}
 use Rattle.table.specs.Records.{legAt}
@@ -10,6 +10,10 @@ use Rattle.rules.specs.Times.{holdOf, offsetOf, startTime, startOf, slot
 use Rattle.rules.specs.Rules.{Window, Hop, Deadline, Overlap}
 
 module _ (t : List ℕ) (a : ℕ) where
+  pub start-says : startOf t a ≡ offsetOf t a + legAt t a .periods * streamOf t a .period
+  unfolding startOf startTime
+  start-says = refl
+
   pub on-time : legAt t a .periods ≡ 0 → startOf t a ≡ offsetOf t a
   unfolding startOf startTime
   on-time h = let none = ap (λ (k : ℕ). startTime (offsetOf t a) k (streamOf t a .period)) h in omega (arith, none)
