@@ -1,0 +1,5 @@
+pub mod Saying
+pub mod Keeping
+pub mod Waiting
+pub mod Stepping
+pub mod Answers

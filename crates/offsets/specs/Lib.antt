@@ -1,0 +1,4 @@
+pub mod Conditions
+pub mod Search
+pub mod Steps
+pub mod Theorems
