@@ -1,0 +1,9 @@
+pub mod Pieces
+pub mod Grown
+pub mod NewLegs
+pub mod Laying
+pub mod Front
+pub mod Sending
+pub mod LegTurns
+pub mod Ranges
+pub mod AtNumbers

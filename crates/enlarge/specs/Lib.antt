@@ -1,0 +1,4 @@
+pub mod Enlarged
+pub mod Reads
+pub mod Steps
+pub mod AtNumbers
