@@ -1,0 +1,10 @@
+pub mod OldLegs
+pub mod NewLegs
+pub mod Wanting
+pub mod Fitting
+pub mod OneAnswer
+pub mod Walking
+pub mod Asking
+pub mod Leasts
+pub mod Refusing
+pub mod Admitting

@@ -1,0 +1,3 @@
+pub mod Admits
+pub mod Steps
+pub mod Theorems
