@@ -84,6 +84,12 @@ early-refused {t} w route from until {out} e s = record { answer = inl (subst (T
 pub may : {t : List ℕ} (w : Wanted) (route : List ℕ) {room : ℕ} {told : Checked} → told ≡ checked.Clear → Told (earlyRefusals t w route room) told → MayAdmit t w route room
 may {t} w route {room} e s = subst (Told (earlyRefusals t w route room)) e s
 
+-- A piece that goes up to the end of the period does not end with none yet.
+not-yet : (t : List ℕ) (w : Wanted) (route : List ℕ) (room : ℕ) (a : Admission) → PieceTold t w route room 0 (w .period) a → a ≡ NoneYet → ⊥
+not-yet t w route room a told e = omega (arith, subst (PieceTold t w route room 0 (w .period)) e told .not-the-end)
+
 pub whole-admits : {t : List ℕ} {w : Wanted} {route out out′ : List ℕ} (a : Admission) → AdmitsBetween t w route 0 (w .period) out a out′ → Admits t w route out a out′
-whole-admits {t} {w} {route} {out} a h =
-    record { answer = pieces-make-the-whole .whole t w route (length out) (w .period) a (omega arith) (h .answer); after = h .after }
+whole-admits {t} {w} {route} {out} a h = record {
+  answer = pieces-make-the-whole .whole t w route (length out) (w .period) a (not-yet t w route (length out) a (h .answer)) (h .answer);
+  after = h .after;
+}

@@ -28,7 +28,7 @@ use Rattle.admission.proofs.Wanting.{route-new}
 use Rattle.admission.proofs.Walking.{guaranteed, can-send}
 
 -- Two slots of the same numbers.
-same-slot : (a b : Slot) → a .offset ≡ b .offset → a .period ≡ b .period → a .hold ≡ b .hold → a ≡ b
+pub same-slot : (a b : Slot) → a .offset ≡ b .offset → a .period ≡ b .period → a .hold ≡ b .hold → a ≡ b
 same-slot a b o p h =
     let x : _≡_ {A = Slot} (record { offset = a .offset; period = a .period; hold = a .hold }) (record { offset = b .offset; period = b .period; hold = b .hold }) = cc in
     x

@@ -37,7 +37,7 @@ use Rattle.admission.proofs.NewLegs.{reads, new-leg, new-link, new-firs
 use Rattle.admission.proofs.Wanting.{zero-reads, leg-at-zero, route-new}
 
 -- A leg of the enlarged table is an old one or a new one.
-old-or-new : (g k a : ℕ) (P : ℕ → Type 0) → ((b : ℕ) → b < g → P b) → ((j : ℕ) → j < k → P (g + j)) → a < g + k → P a
+pub old-or-new : (g k a : ℕ) (P : ℕ → Type 0) → ((b : ℕ) → b < g → P b) → ((j : ℕ) → j < k → P (g + j)) → a < g + k → P a
 old-or-new g k a P old new h =
     ⊎-elim
     (λ (l : a < g). old a l)
@@ -166,7 +166,7 @@ module _ (t : List ℕ) (w : Wanted) (route : List ℕ) (ready : Ready t w route
         )
 
     -- A new leg beside an old one, and two new legs, which are never on one link.
-    abbrev Beside : ℕ → ℕ → Type 0
+    abbrev pub Beside : ℕ → ℕ → Type 0
     Beside j a = getD route j 0 ≡ legAt t a .link → NeverMeet (slotFrom (afterOf t w route j) (w .period) (newHold t w route j) x) (slotOf t a)
 
     beside-new : (j a : ℕ) (h : j < length route) (l : a < legCount t) → Beside j a → Overlap (enlarged t w route x) (legCount t + j) a
@@ -176,7 +176,7 @@ module _ (t : List ℕ) (w : Wanted) (route : List ℕ) (ready : Ready t w route
         rw (new-slot t w route x sized j h, old-slot t (enlarged t w route x) w (length route) _ read guaranteed a l)
         (clear (sym (new-link t w route x sized j h) ∙ same ∙ old-link t (enlarged t w route x) w (length route) _ read guaranteed a l)))
 
-    new-beside : (j a : ℕ) (h : j < length route) (l : a < legCount t) → Overlap (enlarged t w route x) (legCount t + j) a → Beside j a
+    pub new-beside : (j a : ℕ) (h : j < length route) (l : a < legCount t) → Overlap (enlarged t w route x) (legCount t + j) a → Beside j a
     new-beside j a h l r same =
         let link = new-link t w route x sized j h ∙ same ∙ sym (old-link t (enlarged t w route x) w (length route) _ read guaranteed a l) in
         subst (λ (s : Slot). NeverMeet s (slotOf t a)) (new-slot t w route x sized j h)

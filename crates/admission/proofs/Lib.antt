@@ -8,3 +8,5 @@ pub mod Asking
 pub mod Leasts
 pub mod Refusing
 pub mod Admitting
+pub mod Adding
+pub mod AtNumbers

@@ -24,17 +24,17 @@ module _ (t u : List ℕ) (w : Wanted) (k : ℕ) (legs : List ℕ) (g : Grown t 
     pub old-link : legAt u a .link ≡ legAt t a .link
     old-link = ap (λ (l : Leg). l .link) leg
 
-    link : linkOf u a ≡ linkOf t a
-    link = ap (λ (l : Leg). linkAt u (l .link)) leg ∙ g .link (legAt t a .link)
+    pub old-link-of : linkOf u a ≡ linkOf t a
+    old-link-of = ap (λ (l : Leg). linkAt u (l .link)) leg ∙ g .link (legAt t a .link)
 
     stream : streamOf u a ≡ streamOf t a
     stream = ap (λ (l : Leg). streamAt u (l .stream)) leg ∙ g .stream (legAt t a .stream) (v .leg a h .stream)
 
-    first : firstOf u a ≡ firstOf t a
-    first = ap (λ (s : Stream). s .first) stream
+    pub old-first : firstOf u a ≡ firstOf t a
+    old-first = ap (λ (s : Stream). s .first) stream
 
-    end : endOf u a ≡ endOf t a
-    end = ap (λ (s : Stream). s .first + s .count) stream
+    pub old-end : endOf u a ≡ endOf t a
+    old-end = ap (λ (s : Stream). s .first + s .count) stream
 
     period : streamOf u a .period ≡ streamOf t a .period
     period = ap (λ (s : Stream). s .period) stream
@@ -43,16 +43,16 @@ module _ (t u : List ℕ) (w : Wanted) (k : ℕ) (legs : List ℕ) (g : Grown t 
     offset = ap (λ (l : Leg). l .offset) leg
 
     hold : holdOf u a ≡ holdOf t a
-    hold = let s = stream in let l = link in cc
+    hold = let s = stream in let l = old-link-of in cc
 
     wire : wireOf u a ≡ wireOf t a
-    wire = let s = stream in let l = link in cc
+    wire = let s = stream in let l = old-link-of in cc
 
     start : startOf u a ≡ startOf t a
     start = let s = stream in let l = leg in let new = start-says u a in let old = start-says t a in cc
 
     ready : readyOf u a ≡ readyOf t a
-    ready = omega (arith, start, wire, ap (λ (l : Link). l .propagation) link, g .precision)
+    ready = omega (arith, start, wire, ap (λ (l : Link). l .propagation) old-link-of, g .precision)
 
     pub old-slot : slotOf u a ≡ slotOf t a
     old-slot = let o = offset in let p = period in let k = hold in cc
@@ -64,13 +64,13 @@ module _ (t u : List ℕ) (w : Wanted) (k : ℕ) (legs : List ℕ) (g : Grown t 
     pub old-hop : Hop t a → Hop u a
     old-hop r =
         hop-says u a .1
-        (λ b from next. omega (arith, hop-says t a .0 r b (omega (arith, from, first a h)) next, ready b (omega arith), start a h))
+        (λ b from next. omega (arith, hop-says t a .0 r b (omega (arith, from, old-first a h)) next, ready b (omega arith), start a h))
 
     pub old-deadline : Deadline t a → Deadline u a
     old-deadline r =
-        let f = ap (startOf u) (first a h) ∙ start (firstOf t a) (omega (arith, v .leg a h .from-first)) in
+        let f = ap (startOf u) (old-first a h) ∙ start (firstOf t a) (omega (arith, v .leg a h .from-first)) in
         let d = ap (λ (s : Stream). s .deadline) (stream a h) in
-        deadline-says u a .1 (λ last. omega (arith, deadline-says t a .0 r (last ∙ end a h), ready a h, f, d))
+        deadline-says u a .1 (λ last. omega (arith, deadline-says t a .0 r (last ∙ old-end a h), ready a h, f, d))
 
     pub old-overlap : (b : ℕ) → b < legCount t → Overlap t a b → Overlap u a b
     old-overlap b l r = overlap-says u a b .1 (λ e. rw (old-slot a h, old-slot b l) (overlap-says t a b .0 r (sym (old-link a h) ∙ e ∙ old-link b l)))

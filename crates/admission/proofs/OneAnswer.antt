@@ -142,10 +142,10 @@ join t w route room from m until (Refused k p) h none f =
     more)
     f
 
-whole : (t : List ℕ) (w : Wanted) (route : List ℕ) (room until : ℕ) (a : Admission) → w .period ≤ until → PieceTold t w route room 0 until a → WholeTold t w route room a
-whole t w route room until (Admitted x n) h a = a .0
-whole t w route room until NoneYet h a = omega (arith, a .not-the-end)
-whole t w route room until (Refused k p) h f =
+whole : (t : List ℕ) (w : Wanted) (route : List ℕ) (room until : ℕ) (a : Admission) → (a ≡ NoneYet → ⊥) → PieceTold t w route room 0 until a → WholeTold t w route room a
+whole t w route room until (Admitted x n) ended a = a .0
+whole t w route room until NoneYet ended a = ended refl
+whole t w route room until (Refused k p) ended f =
     other-words (earlyRefusals t w route room) (More t w route 0 until) (SomeFits t w route 0) k p (λ s. inr s) f
 
 pub pieces-make-the-whole : PiecesMakeTheWhole

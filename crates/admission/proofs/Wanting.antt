@@ -24,11 +24,11 @@ module _ (t : List ℕ) (w : Wanted) (route : List ℕ) (sized : Sized t) where
   pub leg-at-zero : (j : ℕ) → j < length route → legAt (withoutTimes t w route) (legCount t + j) ≡ legAtZero t (getD route j 0)
   leg-at-zero j h = zero-reads .new-leg j h ∙ zero-leg t route j h
 
-  link : (j : ℕ) → j < length route → linkOf (withoutTimes t w route) (legCount t + j) ≡ linkAt t (getD route j 0)
-  link j h = ap (λ (l : Leg). linkAt (withoutTimes t w route) (l .link)) (leg-at-zero j h) ∙ zero-reads .link (getD route j 0)
+  pub zero-link : (j : ℕ) → j < length route → linkOf (withoutTimes t w route) (legCount t + j) ≡ linkAt t (getD route j 0)
+  zero-link j h = ap (λ (l : Leg). linkAt (withoutTimes t w route) (l .link)) (leg-at-zero j h) ∙ zero-reads .link (getD route j 0)
 
-  first : (j : ℕ) → j < length route → firstOf (withoutTimes t w route) (legCount t + j) ≡ legCount t
-  first j h =
+  pub zero-first : (j : ℕ) → j < length route → firstOf (withoutTimes t w route) (legCount t + j) ≡ legCount t
+  zero-first j h =
       ap (λ (l : Leg). streamAt (withoutTimes t w route) (l .stream) .first) (leg-at-zero j h) ∙ ap (λ (s : Stream). s .first) (zero-reads .new-stream)
 
   module _ (can : CanAdd t w route) where
@@ -38,8 +38,8 @@ module _ (t : List ℕ) (w : Wanted) (route : List ℕ) (sized : Sized t) where
     -- No link occurs twice: the frame would come to its end again.
     pub route-new : (i j : ℕ) → i < j → j < length route → getD route i 0 ≡ getD route j 0 → ⊥
     route-new i j below h same =
-        let li = link i (omega arith) in
-        let lj = link j h in
+        let li = zero-link i (omega arith) in
+        let lj = zero-link j h in
         let to : linkOf (withoutTimes t w route) (legCount t + j) .to ≡ linkOf (withoutTimes t w route) (legCount t + i) .to
         = ap (λ (l : Link). l .to) (lj ∙ ap (linkAt t) (sym same) ∙ sym li) in
-        can .legs (legCount t + j) (inside j h) .new-node (legCount t + i) (omega (arith, first j h)) (omega arith) to
+        can .legs (legCount t + j) (inside j h) .new-node (legCount t + i) (omega (arith, zero-first j h)) (omega arith) to

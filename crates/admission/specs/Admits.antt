@@ -19,7 +19,7 @@ use Rattle.enlarge.specs.declared.Wanted.{Wanted}
 use Rattle.admission.specs.declared.Admission.{Admission}
 use Rattle.admission.specs.declared.Admission.the-variants.{Admitted, NoneYet, Refused}
 
--- 18: no first offset fits. 19: the table is not accepted. 20: the stream would break a limit or the shape.
+-- 18: no first offset below the period fits (of a piece see PieceTold). 19: the table is not accepted. 20: the stream would break a limit or the shape.
 abbrev pub noOffset : ℕ
 noOffset = 18
 
@@ -29,11 +29,11 @@ notAccepted = 19
 abbrev pub cannotAdd : ℕ
 cannotAdd = 20
 
--- The stream breaks no limit and no shape: with it, all its legs at offset 0, the table is well-formed. (A period word above 7 is found with the times: see Fits.)
+-- The stream breaks no limit and no shape: with it, all its legs at offset 0, the table is well-formed. (A period word above 7 comes with the times, and with it an offset does not fit: see Fits. What this says of limits, ranges and the route is in specs/Adding.antt.)
 abbrev pub CanAdd : List ℕ → Wanted → List ℕ → Type 0
 CanAdd t w route = WellFormedTable (withoutTimes t w route)
 
--- An offset may be looked for: the table is accepted, its revision can rise, the stream can be added, and there is room for the enlarged table.
+-- An offset may be looked for: the table is well-formed, its revision can rise, the stream can be added, there is room for the enlarged table, and the rules hold of the table.
 pub record MayAdmit (t : List ℕ) (w : Wanted) (route : List ℕ) (room : ℕ) : Type 0 where
   pub shape : WellFormedTable t
   pub rises : revisionOf t < maxWord
@@ -41,7 +41,7 @@ pub record MayAdmit (t : List ℕ) (w : Wanted) (route : List ℕ) (room : ℕ) 
   pub has-room : enlargedWords t route ≤ room
   pub rules : RulesHold t
 
--- The refusals up to there, in their order: 1 to 7, then 11, then 20, then 15, then 19.
+-- The refusals before an offset is looked for, in their order: 1 to 7, then 11, then 20, then 15, then 19.
 abbrev pub earlyRefusals : List ℕ → Wanted → List ℕ → ℕ → Refusals
 earlyRefusals t w route room =
     shapeRefusals t
@@ -55,14 +55,14 @@ earlyRefusals t w route room =
 abbrev pub Fits : List ℕ → Wanted → List ℕ → ℕ → Type 0
 Fits t w route x = Accepted (enlarged t w route x)
 
--- Some first offset from one on and below the period fits.
+-- Some first offset from `from` on and below the period fits.
 pub record SomeFits (t : List ℕ) (w : Wanted) (route : List ℕ) (from : ℕ) : Type 0 where
   pub offset : ℕ
   pub above : from ≤ offset
   pub below : offset < w .period
   pub fits : Fits t w route offset
 
--- Admitted at x: of the first offsets from one on and below the period it is the least that fits. n is how many words the enlarged table has.
+-- Admitted at x: of the first offsets from `from` on and below the period it is the least that fits. n is how many words the enlarged table has.
 pub record AdmittedAt (t : List ℕ) (w : Wanted) (route : List ℕ) (room from x n : ℕ) : Type 0 where
   pub may : MayAdmit t w route room
   pub found : LeastFrom (Fits t w route) (w .period) from x
@@ -80,7 +80,8 @@ pub record NoneBetween (t : List ℕ) (w : Wanted) (route : List ℕ) (room from
   pub none : NoneFrom (Fits t w route) from until
   pub not-the-end : until < w .period
 
--- A PIECE OF AN ADMISSION: the same among the first offsets from `from` up to but without `until`. 18 is told where `until` is at the end of the period or past it, and no first offset from `from` on fits.
+-- A PIECE OF AN ADMISSION, among the first offsets from `from` up to but without `until`: the least of them that fits; that none of them does, where the period goes on after them; or 18, where the period ends with them or
+-- before, and no first offset from `from` on and below the period fits. So 18 of a piece says nothing of first offsets below `from`.
 abbrev pub PieceTold : List ℕ → Wanted → List ℕ → ℕ → ℕ → ℕ → Admission → Type 0
 PieceTold t w route room from until (Admitted x n) = AdmittedAt t w route room from x n × (x < until)
 PieceTold t w route room from until NoneYet = NoneBetween t w route room from until

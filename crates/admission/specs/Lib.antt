@@ -1,3 +1,5 @@
 pub mod Admits
+pub mod Adding
 pub mod Steps
 pub mod Theorems
+pub mod AtNumbers

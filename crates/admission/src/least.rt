@@ -15,7 +15,7 @@ pub(crate) const ANY_WORD: u32 = 1;
 // The words of a condition for each leg that a table may have.
 const MAX_CONDITION_WORDS: usize = offsets::CONDITION_WORDS * table::MAX_LEGS;
 
-// The least number from one on and below a limit at which all legs of the enlarged table have what they ask.
+// The least number from `from` on and below a limit at which all legs of the enlarged table have what they ask.
 fn least_asked(t: &[u32], w: Wanted, route: &[u32], limit: u64, from: u64) -> Searched
     requires { ⌜ Ready (now t) w (now route) ⌝ }
     requires { ⌜ limit ≤ maxWord ⌝ }
@@ -46,7 +46,7 @@ fn end_of(period: u32, last: u64, limit: u32) -> u64
     end
 }
 
-// Internal: the least first offset from one on and below a limit that fits. The deadline does not depend on it.
+// Internal: the least first offset from `from` on and below a limit that fits. The deadline does not depend on it.
 pub(crate) fn least(t: &[u32], w: Wanted, route: &[u32], limit: u32, from: u32) -> Searched
     requires { ⌜ Ready (now t) w (now route) ⌝ }
     ensures { λ r. ⌜ Searches (Fits (now (t .entry)) w (now (route .entry))) limit from r ⌝ }

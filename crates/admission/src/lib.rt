@@ -69,7 +69,7 @@ fn looked(t: &[u32], w: Wanted, route: &[u32], from: u32, until: u32, out: &mut 
     }
 }
 
-// Admits one stream to an accepted table, or to a piece of it: only first offsets from one up to but without another are looked at.
+// A piece of an admission: only the first offsets from `from` up to but without `until` are looked at.
 pub fn admit_between(
     t: &[u32],
     w: Wanted,

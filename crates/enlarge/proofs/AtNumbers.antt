@@ -34,5 +34,6 @@ enlarged-at-numbers = record {
   arrives = rw (over-0 3824) (over-1 5000);
   whole-period = refl;
   past-period = refl;
+  two-periods = refl;
   without-times = refl;
 }

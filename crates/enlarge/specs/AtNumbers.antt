@@ -50,6 +50,8 @@ pub record EnlargedAtNumbers : Type 0 where
   -- A start of exactly T, and of T + 1.
   pub whole-period : legsFrom planSix wantedNew 5000 (1 ∷ []) ≡ 2 ∷ 1 ∷ 0 ∷ 1 ∷ []
   pub past-period : legsFrom planSix wantedNew 5001 (1 ∷ []) ≡ 2 ∷ 1 ∷ 1 ∷ 1 ∷ []
+  -- Two whole periods and a rest are carried at once.
+  pub two-periods : legsFrom planSix wantedNew 12345 (1 ∷ []) ≡ 2 ∷ 1 ∷ 2345 ∷ 2 ∷ []
   -- Before times are looked for.
   pub without-times : withoutTimes planSix wantedNew (1 ∷ [])
       ≡ 7 ∷ 2 ∷ 3 ∷ 4 ∷ 100 ∷

@@ -1,5 +1,5 @@
--- The table with one stream more (document 02, L5): the new stream and its legs come last, and the revision is one higher. w is what is wanted of the stream, and
--- the route is the numbers of its links, in order.
+-- The table with one stream more (document 02, L5): the new stream and its legs come last, and the revision is one higher. w is what is wanted of the stream: period,
+-- deadline and octets. The route is the numbers of its links, in order.
 use Prim.Native.Nat.{ℕ, _+_, _*_, _/_, _%_}
 use mathlib.Core.List.{List, [], _∷_, _++_}
 use lib.ListN.{length}
@@ -20,7 +20,7 @@ newStream t w k = w .period ∷ w .deadline ∷ w .octets ∷ legCount t ∷ k �
 unfoldable pub grown : List ℕ → Wanted → ℕ → List ℕ → List ℕ
 grown t w k legs = newHead t k ++ (linkPart t ++ (streamPart t ++ (newStream t w k ++ (legPart t ++ legs))))
 
--- The legs of the new stream, all at offset 0 and none late: what its route and its numbers are worth by themselves, before times are looked for.
+-- The legs of the new stream, all at offset 0 and none late: to judge its route and its numbers before times are known.
 unfoldable pub legsAtZero : List ℕ → List ℕ → List ℕ
 legsAtZero t [] = []
 legsAtZero t (l ∷ route) = streamCount t ∷ l ∷ 0 ∷ 0 ∷ legsAtZero t route
@@ -28,11 +28,11 @@ legsAtZero t (l ∷ route) = streamCount t ∷ l ∷ 0 ∷ 0 ∷ legsAtZero t ro
 abbrev pub withoutTimes : List ℕ → Wanted → List ℕ → List ℕ
 withoutTimes t w route = grown t w (length route) (legsAtZero t route)
 
--- When the frame that is sent over link l at an instant is at the next node by every clock: W + d + P later. There it is sent on without waiting.
+-- The frame that is sent over link l at `start` is at the next node W + d + P later, by every clock, and is sent on there without waiting. W is its wire time, without the gap.
 unfoldable pub sentOn : List ℕ → Wanted → ℕ → ℕ → ℕ
 sentOn t w start l = start + wireTime (w .octets) (linkAt t l .rate) + linkAt t l .propagation + precisionOf t
 
--- The legs of the new stream without waiting, the first of which starts at an instant. Whole periods of a start are the leg's period word, and the rest is its offset.
+-- The legs of the new stream along the rest of its route, the first of them starting at `start`, and none waiting. The whole periods of a start are the leg's period word, and the rest is its offset.
 unfoldable pub legsFrom : List ℕ → Wanted → ℕ → List ℕ → List ℕ
 legsFrom t w start [] = []
 legsFrom t w start (l ∷ route) = streamCount t ∷ l ∷ (start % w .period) ∷ (start / w .period) ∷ legsFrom t w (sentOn t w start l) route
@@ -41,6 +41,6 @@ legsFrom t w start (l ∷ route) = streamCount t ∷ l ∷ (start % w .period) �
 abbrev pub enlarged : List ℕ → Wanted → List ℕ → ℕ → List ℕ
 enlarged t w route x = grown t w (length route) (legsFrom t w x route)
 
--- How many words it has.
+-- How many words it has, where t has as many words as its header says.
 abbrev pub enlargedWords : List ℕ → List ℕ → ℕ
 enlargedWords t route = tableWords t + streamWords + legWords * length route

@@ -1,9 +1,9 @@
--- The least number from one on and below a limit that has a property.
+-- The least number below a limit that has a property, where the search begins at a number `from`.
 use Prim.Native.Nat.{ℕ, _≤_, _<_}
 use Rattle.offsets.specs.declared.Searched.{Searched}
 use Rattle.offsets.specs.declared.Searched.the-variants.{At, Nothing}
 
--- No number from one up to but without another has P.
+-- No number from `from` up to but without `to` has P.
 abbrev pub NoneFrom : (ℕ → Type 0) → ℕ → ℕ → Type 0
 NoneFrom P from to = (z : ℕ) → from ≤ z → z < to → P z → ⊥
 
