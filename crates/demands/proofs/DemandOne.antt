@@ -3,6 +3,7 @@ use Rattle.numbers.proofs.OneNumber.{read-number-one-answer, write-number-one-a
 use Rattle.files.proofs.OneAnswer.{read-plan-one-answer, write-plan-one-answer, read-cursor-one-answer, write-cursor-one-answer}
 use Rattle.editions.proofs.Answers.{read-first-one-answer}
 use Rattle.checker.proofs.OneAnswer.{start-one-answer, slice-one-answer, move-one-answer}
+use Rattle.admission.proofs.OneAnswer.{admit-one-answer, admit-between-one-answer}
 use Rattle.host.proofs.OneAnswer.{host-start-one-answer, host-slice-one-answer, host-slice-full-one-answer, host-move-one-answer, host-convert-one-answer}
 use Rattle.claims.proofs.OneAnswer.{test-times-one-answer, test-chain-one-answer}
 use Rattle.solver.proofs.OneAnswer.{solve-one-answer}
@@ -21,6 +22,8 @@ one-answer-each = record {
   start = start-one-answer;
   slice = slice-one-answer;
   move-leg = move-one-answer;
+  admit = admit-one-answer;
+  admit-between = admit-between-one-answer;
   host-start = host-start-one-answer;
   host-slice = host-slice-one-answer;
   host-slice-full = host-slice-full-one-answer;
@@ -45,6 +48,8 @@ refusals-lose-nothing = record {
   start = λ t d k p w. w .1;
   slice = λ t c d b k p w. w .1;
   move-leg = λ t t′ c d mv k p w. (w .2, w .1);
+  admit = λ t w route out out′ k p a. a .after;
+  admit-between = λ t w route from until out out′ k p a. a .after;
   host = host-refusals-write-nothing;
   solve = λ n k p ws times b b′ w. w .2;
   host-solve = host-solve-refusals-write-nothing;

@@ -19,6 +19,10 @@ use Rattle.editions.specs.Theorems.{ReadFirstOneAnswer}
 use Rattle.checker.specs.Slices.{noCursor, Starts, Slices}
 use Rattle.checker.specs.Moves.{Moves}
 use Rattle.checker.specs.Theorems.{StartOneAnswer, SliceOneAnswer, MoveOneAnswer}
+use Rattle.enlarge.specs.declared.Wanted.{Wanted}
+use Rattle.admission.specs.Admits.{Admits, AdmitsBetween}
+use Rattle.admission.specs.Theorems.{AdmitOneAnswer, AdmitBetweenOneAnswer}
+use Rattle.admission.specs.declared.Admission.the-variants as admission
 use Rattle.host.specs.Theorems.{HostStartOneAnswer, HostSliceOneAnswer, HostSliceFullOneAnswer, HostMoveOneAnswer, HostConvertOneAnswer, HostRefusalsWriteNothing}
 use Rattle.claims.specs.Theorems.{TestTimesOneAnswer, TestChainOneAnswer}
 use Rattle.solver.specs.Solving.{SolvesWith}
@@ -40,6 +44,8 @@ pub record OneAnswerEach : Type 0 where
   pub start : StartOneAnswer
   pub slice : SliceOneAnswer
   pub move-leg : MoveOneAnswer
+  pub admit : AdmitOneAnswer
+  pub admit-between : AdmitBetweenOneAnswer
   pub host-start : HostStartOneAnswer
   pub host-slice : HostSliceOneAnswer
   pub host-slice-full : HostSliceFullOneAnswer
@@ -64,6 +70,8 @@ pub record RefusalsLoseNothing : Type 0 where
   pub start : (t : List ℕ) (d : Cursor) (k p : ℕ) → Starts t (grant.Refused k p d) → d ≡ noCursor
   pub slice : (t : List ℕ) (c d : Cursor) (budget k p : ℕ) → Slices t c budget (answer.Refused k p d) → d ≡ c
   pub move-leg : (t t′ : List ℕ) (c d : Cursor) (mv : Move) (k p : ℕ) → Moves t c mv (grant.Refused k p d) t′ → (t′ ≡ t) × (d ≡ c)
+  pub admit : (t : List ℕ) (w : Wanted) (route out out′ : List ℕ) (k p : ℕ) → Admits t w route out (admission.Refused k p) out′ → out′ ≡ out
+  pub admit-between : (t : List ℕ) (w : Wanted) (route : List ℕ) (from until : ℕ) (out out′ : List ℕ) (k p : ℕ) → AdmitsBetween t w route from until out (admission.Refused k p) out′ → out′ ≡ out
   pub host : HostRefusalsWriteNothing
   pub solve : (n k p : ℕ) (ws times : List ℤ) (b b′ : List ℕ) → SolvesWith n ws b (outcome.Refused k p) times b′ → b′ ≡ b
   pub host-solve : HostSolveRefusalsWriteNothing

@@ -5,7 +5,7 @@ use mathlib.Core.Logic.{_⊎_}
 use Rattle.numbers.specs.Number.{bytesEnd, noRoom}
 use Rattle.table.specs.Layout.{maxTableWords}
 
--- The largest number of a refusal, that of a move too many periods late.
+-- The largest number of a refusal of a start, a slice or a move: that of a move too many periods late. (Admissions have 18 to 20 besides.)
 abbrev pub maxRefusal : ℕ
 maxRefusal = 17
 
