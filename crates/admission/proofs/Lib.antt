@@ -10,3 +10,4 @@ pub mod Refusing
 pub mod Admitting
 pub mod Adding
 pub mod AtNumbers
+pub mod FullLink

@@ -1,7 +1,9 @@
 -- Admissions at numbers: Plan A with leg 2 at 672, which is accepted, and a third stream over link 0; the order of the refusals; and streams for which nothing fits.
-use Prim.Native.Nat.{ℕ}
+use Prim.Native.Nat.{ℕ, _*_, _≤_}
+use mathlib.Core.Path.{_≡_}
 use mathlib.Core.List.{List, [], _∷_}
 use Rattle.table.specs.PlanA.{planWith, revisedA, planA, planAOf, holdA}
+use Rattle.shape.specs.Streams.{maxPeriod, maxPeriodsDue}
 use Rattle.rules.specs.Rules.{Overlap}
 use Rattle.checker.specs.Accepted.{Accepted}
 use Rattle.enlarge.specs.Enlarged.{enlarged}
@@ -45,3 +47,17 @@ pub record AdmissionsAtNumbers : Type 0 where
   pub twenty : WholeTold planA shortFrame overLink0 0 (Refused 20 0)
   pub fifteen : WholeTold planA (third 100000 1175) overLink0 43 (Refused 15 0)
   pub nineteen : WholeTold planA (third 100000 1175) overLink0 44 (Refused 19 0)
+
+-- One link, of 1 Gb/s and 500 ns, and no stream.
+abbrev pub emptyLink : List ℕ
+emptyLink = 0 ∷ 1 ∷ 0 ∷ 0 ∷ 0 ∷ 1 ∷ 2 ∷ 8 ∷ 500 ∷ []
+
+-- The link with a stream that holds it all the time: its period is as long as it holds the link.
+abbrev pub fullLink : List ℕ
+fullLink = enlarged emptyLink (third 672 1076) overLink0 0
+
+-- The stream is admitted at 0, in 18 words. After that nothing fits over the link, whatever its period and its deadline.
+pub record FullLinkAtNumbers : Type 0 where
+  pub filled : WholeTold emptyLink (third 672 1076) overLink0 18 (Admitted 0 18)
+  pub full : (period deadline : ℕ) → 1 ≤ period → period ≤ maxPeriod → 1 ≤ deadline → deadline ≤ maxPeriodsDue * period
+      → WholeTold fullLink (third period deadline) overLink0 27 (Refused 18 0)

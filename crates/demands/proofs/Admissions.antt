@@ -44,9 +44,10 @@ module _ (t : List ℕ) (w : Wanted) (route out out′ : List ℕ) where
 
 pub admissions-pass : AdmissionsPass
 admissions-pass = record {
-  admitted = λ t w route out out′ x n a.
-      (laid t w route out out′ x n a,
-      accepted-passes (take n out′) (subst Accepted (sym (laid t w route out out′ x n a)) (a .answer .found .has)));
+  admitted = λ t w route out out′ x n a. (
+    laid t w route out out′ x n a,
+    accepted-passes (take n out′) (subst Accepted (sym (laid t w route out out′ x n a)) (a .answer .found .has)),
+  );
   sooner = λ t w route out out′ x n y a h p. a .answer .found .least y (omega arith) h (passes-accepted p);
   nowhere = λ t w route out out′ p y a h s.
       none-fits t w route out out′ p (a .answer) (record { offset = y; above = omega arith; below = h; fits = passes-accepted s });
