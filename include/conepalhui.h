@@ -25,6 +25,9 @@
  * A frame may be given another slot while the check is paused: conepalhui_move gives the new plan file and the cursor
  * to go on with, and the verdict will be that of a whole check of the new plan.
  *
+ * A stream may be added to a plan that keeps the rules: conepalhui_admit finds the least first offset with which the
+ * plan still keeps them, moves no other frame, and gives the new plan file. Its check begins anew, with a start.
+ *
  * ---- WHAT THE CALLER MUST KEEP TO. OTHERWISE 'NOTHING VIOLATED' MAY BE SAID OF A PLAN THAT BREAKS A RULE. ----
  *
  *   1. The run. It begins with a start that is granted. Starts, slices and moves follow, in any order. A refused call
@@ -38,6 +41,7 @@
  *   4. Other cursors. Before the first cursor of a run is saved, destroy every saved cursor of this plan, of its
  *      earlier and later versions, and of whatever else had its name. None of them is used again. Checks of plans
  *      under other names go on: their cursors are never given with this plan, nor those of this run with another plan.
+ *      A plan to which a stream was added is a later version of the old one, whatever name it is given.
  *   5. Backups. A cursor from a backup is never put back. A plan that was put back goes on only where it is byte by
  *      byte the plan of rule 2; otherwise remove the saved cursor and begin a new run.
  *   6. The edition. A saved cursor does not outlive the edition of the rules (CONEPALHUI_EDITION, see there). Save the
@@ -75,11 +79,11 @@
 #include <stdint.h>
 
 /* The version of this header and of the archive that it belongs to. A NUMBER is 10000 MAJOR + 100 MINOR + PATCH. */
-#define CONEPALHUI_VERSION "3.0.0"
+#define CONEPALHUI_VERSION "3.1.0"
 #define CONEPALHUI_VERSION_MAJOR 3
-#define CONEPALHUI_VERSION_MINOR 0
+#define CONEPALHUI_VERSION_MINOR 1
 #define CONEPALHUI_VERSION_PATCH 0
-#define CONEPALHUI_VERSION_NUMBER 30000
+#define CONEPALHUI_VERSION_NUMBER 30100
 
 /*
  * The edition of the rules: what a plan file, a place and a cursor mean, and when a place holds. It is raised whenever
@@ -95,22 +99,25 @@
  * has no edition, and the plan keeps its revision. So whoever saves cursors saves the edition beside them and starts
  * anew where it is another one, be it higher or lower, as examples/host.c does.
  *
- * The number here is the archive's only where header and archive belong together. So start and move have the edition in
- * their names there: a program that was compiled with the header of another edition is not linked. Compile it anew.
+ * The number here is the archive's only where header and archive belong together. So start, move and the admissions
+ * have the edition in their names there: a program that was compiled with the header of another edition is not linked.
+ * Compile it anew.
  */
 #define CONEPALHUI_EDITION 3
 #define conepalhui_start conepalhui_start_3
 #define conepalhui_move conepalhui_move_3
+#define conepalhui_admit conepalhui_admit_3
+#define conepalhui_admit_between conepalhui_admit_between_3
 
 /*
  * What holds of every call
  *
  * Any bytes and any numbers may be handed in. Each call ends, with an answer or a numbered refusal.
  *
- * Memory. A pointer and the length that follows it lend that many bytes to the call, until it returns. A pointer may be
- * null where its length is 0. plan, old_plan and cursor are only read, and may overlap one another. out and new_plan
- * are written to: neither may overlap any other memory that is lent to the same call. While a call runs, nobody else
- * may write to the lent memory, nor read out and new_plan.
+ * Memory. A pointer and the length that follows it lend that many bytes to the call, until it returns; with route, that
+ * many numbers of 32 bits. A pointer may be null where its length is 0. plan, old_plan, cursor and route are only read,
+ * and may overlap one another. out and new_plan are written to: neither may overlap any other memory that is lent to
+ * the same call. While a call runs, nobody else may write to the lent memory, nor read out and new_plan.
  *
  * A refusal writes nothing. Otherwise the cursor lies in the first bytes of out (and the new plan in the first bytes of
  * new_plan), and every byte after it is what it was.
@@ -118,9 +125,10 @@
  * Nothing is kept between calls. There is no memory from the heap, no global state, no file and no lock: calls from
  * several threads at once do not concern each other.
  *
- * The stack. No call was seen to use more than CONEPALHUI_STACK_BYTES. This is measured and not proved: the test fills
- * a stack with a known byte, makes each call on it, on a small plan and on one of 2,048 legs, and looks how much was
- * written over. The most was three quarters of that number.
+ * The stack. The two admissions were not seen to use more than CONEPALHUI_ADMIT_STACK_BYTES, and no other call more
+ * than CONEPALHUI_STACK_BYTES. This is measured and not proved: the test fills a stack with a known byte, makes each
+ * call on it, on a small plan and on one of 2,048 legs, and looks how much was written over. The most was three
+ * quarters of these numbers.
  *
  * Linking. './conepalhui library' proves the calls and builds the archive .built/libconepalhui.a. It is for x86-64 and
  * the System V calling convention (Linux), in programs and in shared libraries, and needs memset alone of other
@@ -135,6 +143,7 @@
 #define CONEPALHUI_PLAN_BYTES 58905  /* no plan file is longer; room for every new plan */
 #define CONEPALHUI_MOVE_BYTES 5      /* a move makes a plan file longer by this many bytes at most */
 #define CONEPALHUI_STACK_BYTES 98304 /* a thread that calls should have this much stack left */
+#define CONEPALHUI_ADMIT_STACK_BYTES 229376 /* and one that admits this much */
 
 /*
  * The results. Each call gives one of them: conepalhui_slice returns it, and the others have it in an answer. The
@@ -143,13 +152,14 @@
  */
 enum {
     CONEPALHUI_NOTHING_VIOLATED = 0, /* a slice: nothing is violated from its cursor on, and the check is done */
-    CONEPALHUI_GRANTED = 0,          /* start, move and conversion: done */
+    CONEPALHUI_GRANTED = 0,          /* start, move, conversion and admission: done */
     CONEPALHUI_PAUSED = 1,           /* paused: the budget is used up, and all that was looked at holds */
+    CONEPALHUI_NONE_YET = 1,         /* admit_between: none of the first offsets that were looked at fits */
     CONEPALHUI_WINDOW = 2,           /* violated: the frame, with the gap after it, is not through in its period */
     CONEPALHUI_HOP = 3,              /* violated: the frame is sent on before it has arrived from its previous link */
     CONEPALHUI_DEADLINE = 4,         /* violated: the frame arrives at its last node after its deadline */
     CONEPALHUI_OVERLAP = 5,          /* violated: two frames, each with the gap after it, want one link at some time */
-    CONEPALHUI_REFUSED = 100         /* plus the number of the refusal, 101 to 115 and 117 */
+    CONEPALHUI_REFUSED = 100         /* plus the number of the refusal, 101 to 115 and 117 to 120 */
 };
 
 /* What a start, a slice_full, a move and a conversion give. */
@@ -158,6 +168,14 @@ struct conepalhui_answer {
     uint32_t number; /* after a refusal its position; otherwise places, steps or bytes, as each call says below */
 };
 typedef struct conepalhui_answer conepalhui_answer;
+
+/* What an admission gives. */
+struct conepalhui_admission {
+    uint32_t result; /* one of those above */
+    uint32_t number; /* admitted: how many bytes the new plan file has; none yet: 0; refused: the position */
+    uint32_t offset; /* admitted: where the new stream's first leg begins; none yet: where to look on; refused: 0 */
+};
+typedef struct conepalhui_admission conepalhui_admission;
 
 #ifdef __cplusplus
 extern "C" {
@@ -231,6 +249,75 @@ conepalhui_answer conepalhui_move(const uint8_t *plan, size_t plan_len, const ui
 conepalhui_answer conepalhui_convert_first(const uint8_t *old_plan, size_t old_plan_len,
                                            uint8_t *new_plan, size_t new_plan_len);
 
+/*
+ * Admits one stream to an accepted plan, and moves no leg of it. route has the numbers of the links that the stream
+ * takes, in order; period and deadline are in ns. new_plan gets the whole plan file of the enlarged plan: its revision
+ * is one higher, the new stream and its legs come last, and all other numbers are what they were.
+ *
+ * The legs follow one another without waiting: each starts at the very nanosecond from which on its hop holds, and a
+ * start of a period or more is carried into the leg's period word. So all follows from the offset of the first leg,
+ * whose period word is 0. The least offset below the period is taken with which the enlarged plan is accepted: a start
+ * and slices of it would tell 'nothing violated'.
+ *
+ * THE RUN ON THE NEW PLAN STARTS ANEW. An admission is no part of a run, and gives no cursor. Before the first start of
+ * the new plan destroy every saved cursor of the old plan, and of anything that had the new plan's name (rule 4). This
+ * is no formality: the old plan, moved once, has the same revision as the new one, and a cursor of it that is given
+ * with the new plan is believed, though it is of another plan.
+ *
+ * Room: 5 bytes for each number of the enlarged plan, which has 5 for each stream, 4 for each link and each leg, and 5
+ * in front. CONEPALHUI_PLAN_BYTES are always enough.
+ *
+ * Result: 0 admitted, or 100 + refusal. The refusals in their order; those without a position are at 0:
+ *
+ *   12, 13, 2, 14   the plan is no plan file; positions as for a start
+ *   4, 5, 6, 7      its links, streams or legs are wrong; positions as for a start
+ *   11   its revision is 4,294,967,295
+ *   20   the stream would break a limit or the shape: period, deadline or octets out of range; no link, or more than
+ *        8; a link that is not there, or that does not begin where the one before it ended; a node met twice; 512
+ *        streams already, or more than 2,048 legs with the new ones
+ *   15   new_plan has too few bytes
+ *   19   the plan is not accepted: a whole check of it tells what is violated
+ *   18   no first offset fits. It means: none without waiting. A stream whose frames wait on their way may still have
+ *        room, and so may this one after other legs were moved; neither is looked for. It is also told where the frame
+ *        comes too late at any offset, and where a leg would lie more than 7 periods late
+ *
+ * With the periods of most plants this takes milliseconds on the fullest plan. With periods that have little in common
+ * it can be long: seconds or minutes where they are near 1,000,000,000 ns. The call cannot be stopped; the next one
+ * looks in pieces.
+ */
+conepalhui_admission conepalhui_admit(const uint8_t *plan, size_t plan_len, const uint32_t *route, size_t route_len,
+                                      uint32_t period, uint32_t deadline, uint32_t octets,
+                                      uint8_t *new_plan, size_t new_plan_len);
+
+/*
+ * A piece of an admission, for whoever shows how far it is, or may want to stop. Only the first offsets from `from` up
+ * to but without `until` are looked at, and the least of them that fits is taken. Where none of them fits:
+ *
+ *   1    none yet, where until is below the period: nothing is written, and offset is until, from where to look on
+ *   18   where until is the period or more: none from `from` on fits
+ *
+ * Result: 0 admitted, 1 none yet, or 100 + refusal, as for conepalhui_admit. Pieces of which the first is from 0, and
+ * each other from where the one before it ended, tell together what conepalhui_admit tells, and the last one writes
+ * the same, where all are given the same plan and the same numbers. This is proved
+ * (crates/host/specs/AdmissionTheorems.antt: HostPiecesMakeTheWhole).
+ *
+ *     uint32_t from = 0;
+ *     conepalhui_admission given;
+ *     do {
+ *         show_progress(from, period);
+ *         given = conepalhui_admit_between(plan, plan_len, route, route_len, period, deadline, octets, from,
+ *                                          period - from > STEP ? from + STEP : period, new_plan, new_plan_len);
+ *         from = given.offset;
+ *     } while (given.result == CONEPALHUI_NONE_YET && !stopped());
+ *
+ * Each call reads and judges the whole plan again, so a STEP should not be small: 1,000,000 ns are good.
+ */
+conepalhui_admission conepalhui_admit_between(const uint8_t *plan, size_t plan_len,
+                                              const uint32_t *route, size_t route_len,
+                                              uint32_t period, uint32_t deadline, uint32_t octets,
+                                              uint32_t from, uint32_t until,
+                                              uint8_t *new_plan, size_t new_plan_len);
+
 #ifdef __cplusplus
 }
 #endif
@@ -243,12 +330,13 @@ static inline uint32_t conepalhui_refusal(uint32_t result)
     return result > CONEPALHUI_REFUSED ? result - CONEPALHUI_REFUSED : 0;
 }
 
-/* A result in words. The number 0 says two things, one of a slice and one of the other calls. */
+/* A result in words. The numbers 0 and 1 say two things each, one of a slice and one of other calls. */
 static inline const char *conepalhui_text(uint32_t result)
 {
     switch (result) {
     case CONEPALHUI_NOTHING_VIOLATED: return "after a slice: nothing violated; after any other call: granted";
-    case CONEPALHUI_PAUSED: return "paused: the budget is used up, and all that was looked at holds";
+    case CONEPALHUI_PAUSED: return "after a slice: paused, and all that was looked at holds; after a piece of an "
+                                   "admission: none of the first offsets that were looked at fits";
     case CONEPALHUI_WINDOW: return "violated: the frame, with the gap after it, is not through in its period";
     case CONEPALHUI_HOP: return "violated: the frame is sent on before it has arrived from its previous link";
     case CONEPALHUI_DEADLINE: return "violated: the frame arrives at its last node after its deadline";
@@ -264,12 +352,15 @@ static inline const char *conepalhui_text(uint32_t result)
     case CONEPALHUI_REFUSED + 8: return "the cursor is of another revision than the plan";
     case CONEPALHUI_REFUSED + 9: return "the cursor is at no place of the plan, nor at its end";
     case CONEPALHUI_REFUSED + 10: return "there is no such leg to move";
-    case CONEPALHUI_REFUSED + 11: return "a move at revision 4,294,967,295";
+    case CONEPALHUI_REFUSED + 11: return "a move or an admission at revision 4,294,967,295";
     case CONEPALHUI_REFUSED + 12: return "the bytes end before the numbers do";
     case CONEPALHUI_REFUSED + 13: return "a number in more bytes than it needs, or above 4,294,967,295";
     case CONEPALHUI_REFUSED + 14: return "bytes left over after the last number";
     case CONEPALHUI_REFUSED + 15: return "out has fewer than 15 bytes, or new_plan has no room for the new plan";
     case CONEPALHUI_REFUSED + 17: return "a move to more than 7 periods late";
+    case CONEPALHUI_REFUSED + 18: return "no first offset fits the new stream, whose frames never wait";
+    case CONEPALHUI_REFUSED + 19: return "the plan is not accepted, so nothing is added to it";
+    case CONEPALHUI_REFUSED + 20: return "the new stream would break a limit or the shape of the plan";
     default: return result > CONEPALHUI_PAUSED && result < CONEPALHUI_REFUSED
                         ? "violated: a rule of a later edition, which this header does not know"
                         : "this is no result of Conepalhui";
@@ -354,20 +445,23 @@ static inline struct conepalhui_place conepalhui_cursor_place(const uint8_t *cur
  *    8    the cursor is of another revision than the plan                           0
  *    9    the cursor is at no place of the plan, nor at its end                     0
  *   10    there is no such leg to move                                              0
- *   11    a move at revision 4,294,967,295                                          0
+ *   11    a move or an admission at revision 4,294,967,295                          0
  *   12    the bytes end before the numbers do                                       the start of that number
  *   13    a number in more bytes than it needs, or above 4,294,967,295              the start of that number
  *   14    bytes left over after the last number                                     the first such byte
  *   15    out has fewer than 15 bytes, or new_plan has no room for the new plan     0
  *   17    a move to more than 7 periods late                                        0
+ *   18    no first offset fits the new stream, whose frames never wait              0
+ *   19    the plan is not accepted, so nothing is added to it                       0
+ *   20    the new stream would break a limit or the shape of the plan               0
  *
  * 1 and 3 concern tables in memory, and no call here gives them: a plan file that is too short or too long is refused
  * with 12 or 14.
  *
  * Where several are due the first is told: of the plan 12 and 13 from left to right, 2 after the fifth number, 14;
- * of the cursor 12, 13, 14; 15 for out; then 4 to 11 and 17 in their order; and last 15 for new_plan. A 12, 13 or 14
- * of a slice or a move lies in the plan exactly when conepalhui_start refuses that plan with it too, and otherwise in
- * the cursor.
+ * of the cursor 12, 13, 14; 15 for out; then 4 to 11 and 17 in their order; and last 15 for new_plan. An admission has
+ * no cursor, and an order of its own, after 7: 11, 20, 15, 19, 18. A 12, 13 or 14 of a slice or a move lies in the plan
+ * exactly when conepalhui_start refuses that plan with it too, and otherwise in the cursor.
  */
 
 #endif

@@ -5,6 +5,7 @@ use Rattle.editions.proofs.Answers.{read-first-one-answer}
 use Rattle.checker.proofs.OneAnswer.{start-one-answer, slice-one-answer, move-one-answer}
 use Rattle.admission.proofs.OneAnswer.{admit-one-answer, admit-between-one-answer}
 use Rattle.host.proofs.OneAnswer.{host-start-one-answer, host-slice-one-answer, host-slice-full-one-answer, host-move-one-answer, host-convert-one-answer}
+use Rattle.host.proofs.Admissions.{host-admit-one-answer, host-admit-between-one-answer, host-admissions-write-nothing}
 use Rattle.claims.proofs.OneAnswer.{test-times-one-answer, test-chain-one-answer}
 use Rattle.solver.proofs.OneAnswer.{solve-one-answer}
 use Rattle.network_host.proofs.OneAnswer.{host-solve-one-answer, host-test-times-one-answer, host-test-chain-one-answer, host-solve-refusals-write-nothing}
@@ -30,6 +31,8 @@ one-answer-each = record {
   host-move = host-move-one-answer;
   read-first = read-first-one-answer;
   host-convert = host-convert-one-answer;
+  host-admit = host-admit-one-answer;
+  host-admit-between = host-admit-between-one-answer;
   solve = solve-one-answer;
   test-times = test-times-one-answer;
   test-chain = test-chain-one-answer;
@@ -51,6 +54,7 @@ refusals-lose-nothing = record {
   admit = λ t w route out out′ k p a. a .after;
   admit-between = λ t w route from until out out′ k p a. a .after;
   host = host-refusals-write-nothing;
+  host-admissions = host-admissions-write-nothing;
   solve = λ n k p ws times b b′ w. w .2;
   host-solve = host-solve-refusals-write-nothing;
 }

@@ -24,6 +24,7 @@ use Rattle.admission.specs.Admits.{Admits, AdmitsBetween}
 use Rattle.admission.specs.Theorems.{AdmitOneAnswer, AdmitBetweenOneAnswer}
 use Rattle.admission.specs.declared.Admission.the-variants as admission
 use Rattle.host.specs.Theorems.{HostStartOneAnswer, HostSliceOneAnswer, HostSliceFullOneAnswer, HostMoveOneAnswer, HostConvertOneAnswer, HostRefusalsWriteNothing}
+use Rattle.host.specs.AdmissionTheorems.{HostAdmitOneAnswer, HostAdmitBetweenOneAnswer, HostAdmissionsWriteNothing}
 use Rattle.claims.specs.Theorems.{TestTimesOneAnswer, TestChainOneAnswer}
 use Rattle.solver.specs.Solving.{SolvesWith}
 use Rattle.solver.specs.Theorems.{SolveOneAnswer}
@@ -52,6 +53,8 @@ pub record OneAnswerEach : Type 0 where
   pub host-move : HostMoveOneAnswer
   pub read-first : ReadFirstOneAnswer
   pub host-convert : HostConvertOneAnswer
+  pub host-admit : HostAdmitOneAnswer
+  pub host-admit-between : HostAdmitBetweenOneAnswer
   pub solve : SolveOneAnswer
   pub test-times : TestTimesOneAnswer
   pub test-chain : TestChainOneAnswer
@@ -73,6 +76,7 @@ pub record RefusalsLoseNothing : Type 0 where
   pub admit : (t : List ℕ) (w : Wanted) (route out out′ : List ℕ) (k p : ℕ) → Admits t w route out (admission.Refused k p) out′ → out′ ≡ out
   pub admit-between : (t : List ℕ) (w : Wanted) (route : List ℕ) (from until : ℕ) (out out′ : List ℕ) (k p : ℕ) → AdmitsBetween t w route from until out (admission.Refused k p) out′ → out′ ≡ out
   pub host : HostRefusalsWriteNothing
+  pub host-admissions : HostAdmissionsWriteNothing
   pub solve : (n k p : ℕ) (ws times : List ℤ) (b b′ : List ℕ) → SolvesWith n ws b (outcome.Refused k p) times b′ → b′ ≡ b
   pub host-solve : HostSolveRefusalsWriteNothing
 

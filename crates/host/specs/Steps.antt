@@ -1,14 +1,16 @@
 -- What the inner functions of this crate tell.
-use Prim.Native.Nat.{ℕ, _≤_}
+use Prim.Native.Nat.{ℕ, _/_, _≤_}
 use mathlib.Core.List.{List}
 use mathlib.Core.Logic.{_⊎_}
-use Rattle.table.specs.Layout.{Sized}
+use Rattle.table.specs.Layout.{maxTableWords, Sized}
+use Rattle.numbers.specs.Number.{maxNumberBytes}
 use Rattle.shape.specs.OfTables.{maxRefusal}
 use Rattle.files.specs.Reading.{IsFile}
 use Rattle.files.specs.Plan.{PlanFault, InFront}
 use Rattle.files.specs.Cursors.{ReadsCursor}
 use Rattle.files.specs.Theorems.{maxFileBytes}
 use Rattle.files.specs.declared.CursorRead.the-variants as read
+use Rattle.admission.specs.Admits.{cannotAdd}
 use Rattle.host.specs.declared.Opened.{Opened}
 use Rattle.host.specs.declared.Opened.the-variants as opened
 use Rattle.host.specs.Refusals.{CursorUnread}
@@ -22,3 +24,14 @@ pub record Small (k p : ℕ) : Type 0 where
 abbrev pub Opens : List ℕ → List ℕ → Opened → List ℕ → Type 0
 Opens plan cursor (opened.Both n c) words = InFront plan n words × ReadsCursor cursor (read.Saved c)
 Opens plan cursor (opened.Refused k p) words = PlanFault plan k p ⊎ ((t : List ℕ) × IsFile Sized plan t × CursorUnread cursor k p)
+
+-- So are those of an admission, of which 20 is the largest.
+pub record SmallUnadmitted (k p : ℕ) : Type 0 where
+  pub number : k ≤ cannotAdd
+  pub position : p ≤ maxFileBytes
+
+-- r is the lesser of the words that so many bytes have room for, at 5 bytes each, and of the words of the largest table.
+pub record OwnRoom (bytes r : ℕ) : Type 0 where
+  pub in-the-file : r ≤ bytes / maxNumberBytes
+  pub at-most : r ≤ maxTableWords
+  pub enough : (n : ℕ) → n ≤ bytes / maxNumberBytes → n ≤ maxTableWords → n ≤ r

@@ -10,7 +10,7 @@ use files::Cursor;
 use rules::Rule;
 
 // What is added to a refusal's number.
-const REFUSED: u32 = 100;
+pub(crate) const REFUSED: u32 = 100;
 
 // A refusal, with its position.
 pub(crate) fn refused(number: u32, at: usize) -> Answer

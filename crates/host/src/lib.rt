@@ -11,12 +11,13 @@ use files::CursorRead;
 use files::PlanRead;
 use table::Move;
 
+pub mod admit;
 mod answers;
 mod tables;
 
 // What a call's own words hold at first: any word, since none is read before it is taken from the plan. Not 0, for which the compiler calls memset
 // (docs/DECISIONS.md, 51).
-const ANY_WORD: u32 = 1;
+pub(crate) const ANY_WORD: u32 = 1;
 
 // What C gets, laid out as the struct in include/conepalhui.h: a result (0 is nothing violated after a slice, and granted after a start, a move or a conversion), and a
 // number beside it. Refused, that is the position; after a slice the steps, after a start the number of places, after a move or a conversion the size of the new plan file.
