@@ -1,21 +1,18 @@
 -- A stream can be added exactly when no limit is passed, it is in range, and its route is one: the old records of the table with it are right as they were. Assumes nothing.
-use Prim.Native.Nat.{ℕ, zero, suc, _+_, _-_, _*_, _≤_, _<_}
-use mathlib.Core.Path.{_≡_, refl, _∙_, sym, ap, subst}
+use Prim.Native.Nat.{ℕ, zero, suc, _+_, _-_, _≤_, _<_}
+use mathlib.Core.Path.{_≡_, _∙_, sym, ap, subst}
 use mathlib.Core.List.{List}
-use mathlib.Core.Logic.{⊎-elim}
-use lib.ListN.{length, getD}
+use lib.ListN.{length}
 use native.Mathlib.Nat.{add-zero}
-use native.Mathlib.Numerals.{add-one}
 use native.Mathlib.Omega.{arith}
-use Rattle.basics.proofs.Splits.{lt-or-ge}
-use Rattle.table.specs.Layout.{linkCount, streamCount, legCount, Sized}
-use Rattle.table.specs.Records.{linkAt, streamAt, legAt}
+use Rattle.table.specs.Layout.{streamCount, legCount, Sized}
+use Rattle.table.specs.Records.{streamAt, legAt}
 use Rattle.table.specs.declared.Link.{Link}
 use Rattle.table.specs.declared.Stream.{Stream}
 use Rattle.table.specs.declared.Leg.{Leg}
 use Rattle.shape.specs.Links.{LinkInRange}
-use Rattle.shape.specs.Streams.{StreamInRange, StreamFits, legsBefore, StreamRight}
-use Rattle.shape.specs.Legs.{linkOf, firstOf, endOf, LegRight}
+use Rattle.shape.specs.Streams.{StreamInRange, legsBefore, StreamRight}
+use Rattle.shape.specs.Legs.{linkOf, firstOf, LegRight}
 use Rattle.shape.specs.Guarantees.{Guarantees}
 use Rattle.shape.specs.Shape.{WellFormedTable}
 use Rattle.shape.proofs.StreamLaws.{legs-none, legs-more}

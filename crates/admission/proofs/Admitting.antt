@@ -1,8 +1,8 @@
 -- From what was found to the answer. Assumes nothing.
-use Prim.Native.Nat.{ℕ, _+_, _*_, _≤_, _<_}
-use mathlib.Core.Path.{_≡_, refl, _∙_, sym, ap, subst}
+use Prim.Native.Nat.{ℕ, _≤_, _<_}
+use mathlib.Core.Path.{_≡_, refl, subst}
 use mathlib.Core.List.{List}
-use mathlib.Core.Logic.{_⊎_, inl, inr, ⊎-elim}
+use mathlib.Core.Logic.{inl, inr, ⊎-elim}
 use lib.ListN.{length}
 use native.Mathlib.Omega.{arith}
 use Rattle.basics.specs.Refusals.{Told}
@@ -10,18 +10,17 @@ use Rattle.basics.specs.declared.Checked.{Checked}
 use Rattle.basics.specs.declared.Checked.the-variants as checked
 use Rattle.table.specs.Layout.{maxLegs}
 use Rattle.shape.proofs.Placed.{well-formed-guarantees}
-use Rattle.offsets.specs.Search.{NoneFrom, LeastFrom, Searches}
+use Rattle.offsets.specs.Search.{LeastFrom, Searches}
 use Rattle.offsets.specs.declared.Searched.{Searched}
 use Rattle.offsets.specs.declared.Searched.the-variants.{At, Nothing}
-use Rattle.enlarge.specs.Enlarged.{enlargedWords}
 use Rattle.enlarge.specs.Steps.{Addable, Sends}
 use Rattle.enlarge.specs.declared.Wanted.{Wanted}
 use Rattle.enlarge.proofs.NewLegs.{start-shift}
 use Rattle.enlarge.proofs.Ranges.{wanted-in-range, addable, wanted-sends}
-use Rattle.admission.specs.Admits.{MayAdmit, noOffset, earlyRefusals, Fits, SomeFits, PieceTold, wordsAfter, Admits, AdmitsBetween}
+use Rattle.admission.specs.Admits.{MayAdmit, noOffset, earlyRefusals, Fits, SomeFits, PieceTold, Admits, AdmitsBetween}
 use Rattle.admission.specs.Steps.{Ready, Lesser}
 use Rattle.admission.specs.declared.Admission.{Admission}
-use Rattle.admission.specs.declared.Admission.the-variants.{Admitted, NoneYet, Refused}
+use Rattle.admission.specs.declared.Admission.the-variants.{NoneYet, Refused}
 use Rattle.admission.proofs.Fitting.{fits-by-legs}
 use Rattle.admission.proofs.OneAnswer.{pieces-make-the-whole}
 

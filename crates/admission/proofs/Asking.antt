@@ -9,14 +9,12 @@ use Rattle.basics.proofs.Splits.{lt-or-ge}
 use Rattle.numbers.specs.Number.{maxWord}
 use Rattle.table.specs.Layout.{legCount}
 use Rattle.table.specs.Records.{linkAt, legAt}
-use Rattle.shape.specs.Streams.{maxPeriod}
 use Rattle.overlap.specs.Meeting.{NeverMeet}
 use Rattle.overlap.specs.declared.Slot.{Slot}
 use Rattle.rules.specs.Times.{holdTime, slotOf}
-use Rattle.rules.specs.Steps.{Timed, LegIn, FrameOf, SlotOf, SharerOf}
+use Rattle.rules.specs.Steps.{Timed, LegIn, FrameOf, SlotOf}
 use Rattle.rules.specs.declared.Frame.{Frame}
-use Rattle.rules.specs.declared.Sharer.{Sharer}
-use Rattle.offsets.specs.Conditions.{AllowsAll, ClearOf, EndsWithin, Keeps, Says, Sound, Holding, Starts, slotFrom}
+use Rattle.offsets.specs.Conditions.{AllowsAll, ClearOf, EndsWithin, Keeps, Says, Holding, Starts, slotFrom}
 use Rattle.offsets.specs.declared.Condition.{Condition}
 use Rattle.offsets.proofs.Saying.{free-says, says-in-words}
 use Rattle.offsets.proofs.Keeping.{holding-none, holding-more}

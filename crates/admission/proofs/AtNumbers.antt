@@ -1,18 +1,17 @@
 -- Admissions at numbers: where two slots share an instant the offset does not fit, and where they do not, by the divisor, it fits. Assumes nothing.
-use Prim.Native.Nat.{ℕ, zero, suc, _+_, _-_, _*_, _/_, _%_, _≤_, _<_}
+use Prim.Native.Nat.{ℕ, zero, suc, _+_, _*_, _%_, _≤_, _<_}
 use mathlib.Core.Path.{_≡_, refl, _∙_, sym, ap, subst}
 use mathlib.Core.List.{List}
 use mathlib.Core.Logic.{inl, inr, ⊎-elim}
-use lib.ListN.{length, getD}
+use lib.ListN.{getD}
 use native.Mathlib.Nat.{dvd-sub, mod-eq-of-lt}
 use native.Mathlib.Omega.{arith}
 use Rattle.basics.proofs.Splits.{lt-or-ge}
-use Rattle.table.specs.Layout.{legCount}
 use Rattle.table.specs.Records.{linkAt, streamAt, legAt}
 use Rattle.table.specs.declared.Link.{Link}
 use Rattle.table.specs.declared.Stream.{Stream}
 use Rattle.table.specs.declared.Leg.{Leg}
-use Rattle.table.specs.PlanA.{PlanReadsSo, planWith, revisedA, planA, planAOf, holdA}
+use Rattle.table.specs.PlanA.{PlanReadsSo, planWith, revisedA, planA, holdA}
 use Rattle.table.proofs.PartLaws.{plans-read-so}
 use Rattle.shape.specs.Shape.{WellFormedTable}
 use Rattle.shape.specs.Legs.{linkOf, streamOf}
@@ -30,12 +29,11 @@ use Rattle.rules.proofs.AtNumbers.{accepted-plan-exists, gap-cases, starred-cas
 use Rattle.offsets.specs.Conditions.{slotFrom}
 use Rattle.enlarge.specs.Enlarged.{enlarged}
 use Rattle.enlarge.specs.Reads.{startAt}
-use Rattle.enlarge.specs.declared.Wanted.{Wanted}
 use Rattle.enlarge.proofs.NewLegs.{start-first, start-next, sent-on-is}
 use Rattle.admission.specs.Admits.{CanAdd, MayAdmit, Fits, SomeFits, AdmittedAt}
 use Rattle.admission.specs.AtNumbers.{acceptedA, third, overLink0, shortFrame, AdmissionsAtNumbers}
 use Rattle.enlarge.proofs.Ranges.{wanted-in-range}
-use Rattle.admission.specs.Steps.{Ready, afterOf, newHold, Asks, FitsByLegs}
+use Rattle.admission.specs.Steps.{Ready, afterOf, newHold, Asks}
 use Rattle.admission.proofs.Adding.{can-add-in-words}
 use Rattle.admission.proofs.Asking.{same-slot}
 use Rattle.admission.proofs.Fitting.{new-beside, legs-fit, fits-by-legs}

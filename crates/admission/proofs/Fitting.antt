@@ -1,19 +1,18 @@
 -- When a first offset fits, leg by leg of the enlarged table: its shape by the table without times, its rules by the old legs' rules, and what each leg asks. Assumes nothing.
-use Prim.Native.Nat.{ℕ, zero, suc, _+_, _-_, _*_, _/_, _%_, _≤_, _<_}
+use Prim.Native.Nat.{ℕ, _+_, _-_, _*_, _/_, _≤_, _<_}
 use mathlib.Core.Path.{_≡_, refl, _∙_, sym, ap, subst}
 use mathlib.Core.List.{List}
-use mathlib.Core.Logic.{_⊎_, inl, inr, ⊎-elim}
+use mathlib.Core.Logic.{⊎-elim}
 use lib.ListN.{length, getD}
 use native.Mathlib.Nat.{add-zero, div-lt-iff-lt-mul}
 use native.Mathlib.Omega.{arith}
 use Rattle.basics.proofs.Splits.{lt-or-ge}
 use Rattle.table.specs.Layout.{streamCount, legCount, Sized}
-use Rattle.table.specs.Records.{linkAt, streamAt, legAt}
+use Rattle.table.specs.Records.{streamAt, legAt}
 use Rattle.table.specs.declared.Leg.{Leg}
-use Rattle.shape.specs.Shape.{WellFormedTable}
 use Rattle.shape.specs.Guarantees.{Guarantees}
 use Rattle.shape.specs.Streams.{maxPeriods, maxPeriodsDue}
-use Rattle.shape.specs.Legs.{streamOf, firstOf, endOf}
+use Rattle.shape.specs.Legs.{firstOf}
 use Rattle.shape.specs.Moves.{SameButMoved}
 use Rattle.shape.proofs.Moved.{moves-keep-shape}
 use Rattle.shape.proofs.Placed.{well-formed-guarantees}
@@ -21,7 +20,7 @@ use Rattle.overlap.specs.Meeting.{NeverMeet}
 use Rattle.overlap.specs.declared.Slot.{Slot}
 use Rattle.overlap.proofs.Law.{meeting-is-symmetric}
 use Rattle.rules.specs.Times.{slotOf, startOf, readyOf}
-use Rattle.rules.specs.Rules.{Window, Hop, Deadline, Overlap, RulesHold}
+use Rattle.rules.specs.Rules.{Window, Hop, Deadline, Overlap}
 use Rattle.rules.proofs.Said.{window-says, hop-says, deadline-says, overlap-says}
 use Rattle.offsets.specs.Conditions.{slotFrom, EndsWithin}
 use Rattle.enlarge.specs.Enlarged.{enlarged, withoutTimes, legsFrom}
@@ -31,7 +30,7 @@ use Rattle.enlarge.proofs.Ranges.{wanted-in-range}
 use Rattle.enlarge.proofs.NewLegs.{zero-length, from-length, start-first, start-shift}
 use Rattle.enlarge.proofs.Grown.{grown-long}
 use Rattle.admission.specs.Admits.{Fits}
-use Rattle.admission.specs.Steps.{Ready, afterOf, newHold, Asks, FitsByLegs}
+use Rattle.admission.specs.Steps.{Ready, afterOf, newHold, FitsByLegs}
 use Rattle.admission.proofs.OldLegs.{old-link, old-slot, old-window, old-hop, old-deadline, old-overlap}
 use Rattle.admission.proofs.NewLegs.{reads, new-leg, new-link, new-first, new-end, new-deadline, new-period, new-offset, new-periods, new-hold, new-slot, new-start, new-ready}
 use Rattle.admission.proofs.Wanting.{zero-reads, leg-at-zero, route-new}

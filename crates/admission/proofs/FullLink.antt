@@ -2,12 +2,12 @@
 use Prim.Native.Nat.{ℕ, zero, suc, _+_, _*_, _/_, _%_, _≤_, _<_}
 use mathlib.Core.Path.{_≡_, refl, _∙_, sym, ap, subst}
 use mathlib.Core.List.{List, []}
-use mathlib.Core.Logic.{inl, inr}
-use lib.ListN.{length, getD}
-use native.Mathlib.Nat.{mod-lt, div-add-mod', mod-eq-of-lt}
+use mathlib.Core.Logic.{inr}
+use lib.ListN.{getD}
+use native.Mathlib.Nat.{mod-lt, div-add-mod'}
 use native.Mathlib.Omega.{arith}
 use Rattle.table.specs.Layout.{linkCount, streamCount, legCount}
-use Rattle.table.specs.Records.{linkAt, streamAt, legAt}
+use Rattle.table.specs.Records.{linkAt}
 use Rattle.table.specs.declared.Link.{Link}
 use Rattle.table.proofs.PartLaws.{link-of-part}
 use Rattle.shape.specs.Links.{LinkInRange}
@@ -16,7 +16,6 @@ use Rattle.shape.specs.Shape.{WellFormedTable}
 use Rattle.shape.proofs.Rates.{gigabit}
 use Rattle.shape.proofs.StreamLaws.{legs-none}
 use Rattle.overlap.specs.Meeting.{NeverMeet}
-use Rattle.overlap.specs.declared.Slot.{Slot}
 use Rattle.overlap.proofs.Law.{shared-instant}
 use Rattle.rules.specs.Times.{wireTime, holdTime, slotOf}
 use Rattle.rules.specs.Rules.{RulesHold}
@@ -25,10 +24,8 @@ use Rattle.offsets.specs.Conditions.{slotFrom}
 use Rattle.checker.specs.Accepted.{Accepted}
 use Rattle.enlarge.specs.Enlarged.{legsFrom}
 use Rattle.enlarge.specs.Reads.{Grown, startAt}
-use Rattle.enlarge.specs.declared.Wanted.{Wanted}
 use Rattle.enlarge.proofs.NewLegs.{start-first, start-next, sent-on-is}
-use Rattle.admission.specs.Admits.{CanAdd, MayAdmit, Fits, SomeFits}
-use Rattle.admission.specs.Adding.{Addition}
+use Rattle.admission.specs.Admits.{CanAdd, MayAdmit, SomeFits}
 use Rattle.admission.specs.AtNumbers.{third, overLink0, emptyLink, fullLink, FullLinkAtNumbers}
 use Rattle.admission.specs.Steps.{Ready, afterOf, newHold, Asks}
 use Rattle.admission.proofs.Adding.{can-add-in-words}

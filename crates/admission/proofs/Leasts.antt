@@ -1,14 +1,13 @@
 -- The least number that all conditions allow, below the end, is the least first offset that fits, below the limit. Assumes nothing.
 use Prim.Native.Nat.{ℕ, zero, suc, _+_, _-_, _*_, _≤_, _<_}
-use mathlib.Core.Path.{_≡_, refl, _∙_, sym, ap, subst}
+use mathlib.Core.Path.{_≡_, ap, subst}
 use mathlib.Core.List.{List}
 use lib.ListN.{length, getD}
 use native.Mathlib.Omega.{arith}
-use Rattle.numbers.specs.Number.{maxWord}
 use Rattle.table.specs.Layout.{maxLegs, legCount}
 use Rattle.shape.specs.Streams.{maxPeriodsDue}
 use Rattle.offsets.specs.Conditions.{Allow, Holding}
-use Rattle.offsets.specs.Search.{NoneFrom, LeastFrom, Searches}
+use Rattle.offsets.specs.Search.{NoneFrom, Searches}
 use Rattle.offsets.specs.declared.Searched.{Searched}
 use Rattle.offsets.specs.declared.Searched.the-variants.{At, Nothing}
 use Rattle.offsets.proofs.Keeping.{holding-to, holding-from}
@@ -17,7 +16,7 @@ use Rattle.enlarge.specs.Reads.{startAt}
 use Rattle.enlarge.specs.declared.Wanted.{Wanted}
 use Rattle.enlarge.proofs.NewLegs.{start-next, sent-on-is}
 use Rattle.admission.specs.Admits.{Fits}
-use Rattle.admission.specs.Steps.{Ready, afterOf, Asks, FitsByLegs, AfterIs, AllAsked, EndOf}
+use Rattle.admission.specs.Steps.{Ready, afterOf, Asks, AfterIs, AllAsked, EndOf}
 use Rattle.admission.proofs.Fitting.{legs-fit, fits-by-legs}
 use Rattle.admission.proofs.Walking.{in-range}
 

@@ -1,11 +1,11 @@
 -- What the new legs of an enlarged table read as: their links, their slots, and when each starts and is ready. Assumes nothing.
-use Prim.Native.Nat.{ℕ, _+_, _*_, _/_, _%_, _≤_, _<_}
-use mathlib.Core.Path.{_≡_, refl, _∙_, sym, ap}
+use Prim.Native.Nat.{ℕ, _+_, _*_, _/_, _%_, _<_}
+use mathlib.Core.Path.{_≡_, _∙_, ap}
 use mathlib.Core.List.{List}
 use lib.ListN.{length, getD}
-use native.Mathlib.Nat.{add-zero, div-add-mod'}
+use native.Mathlib.Nat.{div-add-mod'}
 use native.Mathlib.Omega.{arith}
-use Rattle.table.specs.Layout.{legCount, streamCount, precisionOf, Sized}
+use Rattle.table.specs.Layout.{legCount, Sized}
 use Rattle.table.specs.Records.{linkAt, streamAt, legAt}
 use Rattle.table.specs.declared.Link.{Link}
 use Rattle.table.specs.declared.Stream.{Stream}
@@ -18,7 +18,7 @@ use Rattle.enlarge.specs.Enlarged.{legsFrom, enlarged}
 use Rattle.enlarge.specs.Reads.{streamWanted, Grown, startAt}
 use Rattle.enlarge.specs.declared.Wanted.{Wanted}
 use Rattle.enlarge.proofs.Grown.{grown-reads}
-use Rattle.enlarge.proofs.NewLegs.{legStarting, from-length, from-leg, start-first, start-next, start-shift, sent-on-is}
+use Rattle.enlarge.proofs.NewLegs.{legStarting, from-length, from-leg, start-next, start-shift, sent-on-is}
 use Rattle.admission.specs.Steps.{afterOf, newHold}
 
 module _ (t : List ℕ) (w : Wanted) (route : List ℕ) (x : ℕ) (sized : Sized t) where

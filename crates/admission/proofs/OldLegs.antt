@@ -1,9 +1,9 @@
 -- In a grown table each old leg reads as before, and so its rules say what they said. Assumes nothing.
-use Prim.Native.Nat.{ℕ, _+_, _≤_, _<_}
+use Prim.Native.Nat.{ℕ, _+_, _<_}
 use mathlib.Core.Path.{_≡_, _∙_, sym, ap}
 use mathlib.Core.List.{List}
 use native.Mathlib.Omega.{arith}
-use Rattle.table.specs.Layout.{legCount, precisionOf}
+use Rattle.table.specs.Layout.{legCount}
 use Rattle.table.specs.Records.{linkAt, streamAt, legAt}
 use Rattle.table.specs.declared.Link.{Link}
 use Rattle.table.specs.declared.Stream.{Stream}

@@ -13,7 +13,7 @@ use Rattle.shape.proofs.OneShape.{shape-one}
 use Rattle.checker.specs.Moves.{cannotRise}
 use Rattle.offsets.specs.Search.{NoneFrom, LeastFrom}
 use Rattle.enlarge.specs.declared.Wanted.{Wanted}
-use Rattle.admission.specs.Admits.{noOffset, notAccepted, cannotAdd, MayAdmit, earlyRefusals, Fits, SomeFits, AdmittedAt, WholeTold, NoneBetween, PieceTold, wordsAfter, Admits, AdmitsBetween}
+use Rattle.admission.specs.Admits.{noOffset, notAccepted, cannotAdd, earlyRefusals, Fits, SomeFits, AdmittedAt, WholeTold, NoneBetween, PieceTold, wordsAfter}
 use Rattle.admission.specs.Theorems.{ToldOneAnswer, PieceToldOneAnswer, AdmitOneAnswer, AdmitBetweenOneAnswer, PiecesMakeTheWhole}
 use Rattle.admission.specs.declared.Admission.{Admission}
 use Rattle.admission.specs.declared.Admission.the-variants.{Admitted, NoneYet, Refused}

@@ -14,7 +14,7 @@ use Rattle.basics.specs.declared.Checked.the-variants.{Clear, Refused}
 use Rattle.numbers.specs.Number.{maxWord, noRoom}
 use Rattle.numbers.specs.Series.{overlaid}
 use Rattle.numbers.proofs.Overlay.{overlaid-taken}
-use Rattle.table.specs.Layout.{maxStreams, maxLegs, maxTableWords, streamWords, legWords, revisionOf, streamCount, legCount, tableWords, Sized}
+use Rattle.table.specs.Layout.{maxStreams, maxLegs, streamWords, legWords, revisionOf, streamCount, legCount, tableWords}
 use Rattle.shape.specs.Shape.{WellFormedTable, ShapeFault, ShapeTold}
 use Rattle.shape.proofs.OneShape.{well-no-fault}
 use Rattle.rules.specs.Rules.{RulesHold}

@@ -1,6 +1,5 @@
 -- Admissions at numbers: Plan A with leg 2 at 672, which is accepted, and a third stream over link 0; the order of the refusals; and streams for which nothing fits.
 use Prim.Native.Nat.{ℕ, _*_, _≤_}
-use mathlib.Core.Path.{_≡_}
 use mathlib.Core.List.{List, [], _∷_}
 use Rattle.table.specs.PlanA.{planWith, revisedA, planA, planAOf, holdA}
 use Rattle.shape.specs.Streams.{maxPeriod, maxPeriodsDue}

@@ -1,5 +1,5 @@
 -- What the inner functions of this crate tell: when a first offset fits, leg by leg of the enlarged table.
-use Prim.Native.Nat.{ℕ, _+_, _*_, _%_, _≤_, _<_}
+use Prim.Native.Nat.{ℕ, _+_, _*_, _≤_, _<_}
 use mathlib.Core.Path.{_≡_}
 use mathlib.Core.List.{List}
 use lib.ListN.{length, getD}
@@ -9,7 +9,6 @@ use Rattle.table.specs.Records.{linkAt, legAt}
 use Rattle.shape.specs.Shape.{WellFormedTable}
 use Rattle.shape.specs.Streams.{maxRoute, maxPeriodsDue}
 use Rattle.overlap.specs.Meeting.{NeverMeet}
-use Rattle.overlap.specs.declared.Slot.{Slot}
 use Rattle.rules.specs.Times.{holdTime, slotOf}
 use Rattle.rules.specs.Rules.{RulesHold}
 use Rattle.offsets.specs.Conditions.{slotFrom, EndsWithin}

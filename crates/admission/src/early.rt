@@ -1,7 +1,6 @@
 // The refusals that come before a first offset is looked for: 1 to 7, 11, 20, 15 and 19.
 ghost use mathlib.Core.Path.{_≡_};
 ghost use Prim.Native.Nat.{_+_, _*_, _≤_};
-ghost use lib.ListN.{length};
 ghost use Rattle.basics.specs.Refusals.{Told};
 ghost use Rattle.basics.specs.Tells.{Tells};
 ghost use Rattle.table.specs.Layout.{legWords, maxLegs, Sized, streamWords, tableWords};

@@ -3,7 +3,7 @@ ghost use Prim.Native.Nat.{_≤_};
 ghost use Rattle.numbers.specs.Number.{maxWord};
 ghost use Rattle.offsets.specs.Search.{Searches};
 ghost use Rattle.admission.specs.Admits.{Fits};
-ghost use Rattle.admission.specs.Steps.{AfterIs, AllAsked, EndOf, Ready};
+ghost use Rattle.admission.specs.Steps.{AllAsked, EndOf, Ready};
 use crate::conditions;
 use enlarge::Wanted;
 use offsets::Searched;

@@ -1,5 +1,5 @@
 // A slot for a new stream: the least first offset at which the table with one stream more is accepted. No old leg moves.
-ghost use Prim.Native.Nat.{_≤_, _<_};
+ghost use Prim.Native.Nat.{_<_};
 ghost use lib.ListN.{length};
 ghost use Rattle.offsets.specs.Search.{LeastFrom};
 ghost use Rattle.admission.specs.Admits.{Admits, AdmitsBetween, Fits, MayAdmit};

@@ -1,20 +1,19 @@
 -- Admissions in demand 2's words: a table passes a whole check exactly when it is accepted. Assumes nothing.
-use Prim.Native.Nat.{ℕ, _≤_, _<_}
+use Prim.Native.Nat.{ℕ}
 use mathlib.Core.Path.{_≡_, _∙_, sym, ap, subst}
 use mathlib.Core.List.{List}
 use mathlib.Core.Logic.{inl, inr}
 use lib.ListN.{length, take}
 use native.Mathlib.Omega.{arith}
-use Rattle.numbers.specs.Series.{overlaid}
 use Rattle.numbers.proofs.Overlay.{overlaid-taken}
 use Rattle.shape.proofs.Refused.{shape-of-table}
-use Rattle.enlarge.specs.Enlarged.{enlarged, enlargedWords, legsFrom}
+use Rattle.enlarge.specs.Enlarged.{enlarged, legsFrom}
 use Rattle.enlarge.specs.declared.Wanted.{Wanted}
 use Rattle.enlarge.proofs.Grown.{grown-long}
 use Rattle.enlarge.proofs.NewLegs.{from-length}
 use Rattle.checker.specs.Accepted.{Accepted}
 use Rattle.checker.specs.declared.SliceAnswer.{SliceAnswer}
-use Rattle.admission.specs.Admits.{noOffset, earlyRefusals, AdmittedAt, SomeFits, WholeTold, Admits}
+use Rattle.admission.specs.Admits.{noOffset, SomeFits, WholeTold, Admits}
 use Rattle.admission.specs.declared.Admission.the-variants.{Admitted, Refused}
 use Rattle.demands.specs.Verdicts.{nothing-violated, Gives}
 use Rattle.demands.specs.DemandTwo.{WholeCheck}

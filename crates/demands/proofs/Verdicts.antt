@@ -6,8 +6,8 @@ use native.Mathlib.Omega.{arith}
 use Rattle.basics.proofs.Splits.{lt-or-ge}
 use Rattle.rules.specs.Rules.{RulesHold}
 use Rattle.rules.specs.declared.Rule.{Rule}
-use Rattle.places.specs.Order.{rank, placeCount, HoldFrom}
-use Rattle.places.proofs.Ranks.{place-rank, end-rank, order-is-by-leg}
+use Rattle.places.specs.Order.{rank, HoldFrom}
+use Rattle.places.proofs.Ranks.{end-rank, order-is-by-leg}
 use Rattle.files.specs.declared.Cursor.{Cursor}
 use Rattle.checker.specs.Cursors.{cursorRank}
 use Rattle.checker.specs.Slices.{Went, Violates, Ends, Slices}

@@ -2,11 +2,10 @@
 use Prim.Native.Nat.{ℕ, zero, suc, _+_, _<_}
 use mathlib.Core.Path.{_≡_}
 use mathlib.Core.List.{List, [], _∷_}
-use lib.ListN.{length}
 use Rattle.table.specs.Layout.{revisionOf, linkCount, streamCount, legCount, precisionOf}
 use Rattle.table.specs.Records.{legIn, linkAt, streamAt, legAt}
 use Rattle.table.specs.declared.Stream.{Stream}
-use Rattle.enlarge.specs.Enlarged.{grown, sentOn}
+use Rattle.enlarge.specs.Enlarged.{sentOn}
 use Rattle.enlarge.specs.declared.Wanted.{Wanted}
 
 -- The new stream.

@@ -1,6 +1,6 @@
 -- `admission::looked` meets its contract: found below both the period and the end of the piece, or not. Assumes nothing.
 use borrow.Author.Needs.{needs}
-use Rattle.admission.proofs.Admitting.{found-least, found-below, none-yet, none-at-all, may-look}
+use Rattle.admission.proofs.Admitting.{found-least, found-below, none-yet, none-at-all}
 use Rattle.admission.proofs.looked.Statement.{statement}
 use Rattle.admission.proofs.looked.Tie as tie
 

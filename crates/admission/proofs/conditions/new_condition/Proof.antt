@@ -1,5 +1,4 @@
 -- `admission::conditions::new_condition` meets its contract: a new leg asks that it ends within its period. Assumes nothing.
-use mathlib.Core.Path.{refl}
 use borrow.Author.Needs.{needs}
 use Rattle.admission.proofs.Asking.{sends, leg-starts, new-asks}
 use Rattle.admission.proofs.conditions.new_condition.Statement.{statement}

@@ -1,5 +1,5 @@
 -- `admission::conditions::new_conditions` meets its contract: the conditions of the legs before the present one are kept. Assumes nothing.
-use Prim.Native.Nat.{_+_, _-_}
+use Prim.Native.Nat.{_-_}
 use lib.ListN.{length}
 use borrow.Author.Needs.{needs}
 use Rattle.admission.proofs.Asking.{KeptNew, kept-new-none, kept-new-room, kept-new-on, kept-new-all}
