@@ -1,7 +1,7 @@
 -- A link that is held all the time: at every instant the leg that fills it holds it, so whatever begins there meets it. Assumes nothing.
 use Prim.Native.Nat.{ℕ, zero, suc, _+_, _*_, _/_, _%_, _≤_, _<_}
 use mathlib.Core.Path.{_≡_, refl, _∙_, sym, ap, subst}
-use mathlib.Core.List.{List, []}
+use mathlib.Core.List.{List}
 use mathlib.Core.Logic.{inr}
 use lib.ListN.{getD}
 use native.Mathlib.Nat.{mod-lt, div-add-mod'}

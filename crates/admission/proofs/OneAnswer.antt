@@ -11,22 +11,13 @@ use Rattle.basics.proofs.Splits.{lt-or-ge}
 use Rattle.numbers.specs.Number.{noRoom}
 use Rattle.shape.proofs.OneShape.{shape-one}
 use Rattle.checker.specs.Moves.{cannotRise}
-use Rattle.offsets.specs.Search.{NoneFrom, LeastFrom}
+use Rattle.offsets.proofs.Stepping.{none-joined}
+use Rattle.offsets.proofs.Answers.{least-is-one}
 use Rattle.enlarge.specs.declared.Wanted.{Wanted}
 use Rattle.admission.specs.Admits.{noOffset, notAccepted, cannotAdd, earlyRefusals, Fits, SomeFits, AdmittedAt, WholeTold, NoneBetween, PieceTold, wordsAfter}
 use Rattle.admission.specs.Theorems.{ToldOneAnswer, PieceToldOneAnswer, AdmitOneAnswer, AdmitBetweenOneAnswer, PiecesMakeTheWhole}
 use Rattle.admission.specs.declared.Admission.{Admission}
 use Rattle.admission.specs.declared.Admission.the-variants.{Admitted, NoneYet, Refused}
-
-pub least-one : {P : ℕ → Type 0} {limit from a b : ℕ} → LeastFrom P limit from a → LeastFrom P limit from b → a ≡ b
-least-one {a = a} {b = b} p q =
-    ⊎-elim
-    (λ (l : a < b). absurd (q .least a (p .above) l (p .has)))
-    (λ (l : b ≤ a). ⊎-elim (λ (m : b < a). absurd (p .least b (q .above) m (q .has))) (λ (m : a ≤ b). omega arith) (lt-or-ge b a))
-    (lt-or-ge a b)
-
-none-joined : (P : ℕ → Type 0) {x y z : ℕ} → NoneFrom P x y → NoneFrom P y z → NoneFrom P x z
-none-joined P {x} {y} {z} a b n from below h = ⊎-elim (λ (l : n < y). a n from l h) (λ (l : y ≤ n). b n l below h) (lt-or-ge n y)
 
 module _ (t : List ℕ) (w : Wanted) (route : List ℕ) (room : ℕ) where
   early-one : OneFault (earlyRefusals t w route room)
@@ -50,7 +41,7 @@ module _ (t : List ℕ) (w : Wanted) (route : List ℕ) (room : ℕ) where
 
   admitted-one : (from x y m n : ℕ) → AdmittedAt t w route room from x m → AdmittedAt t w route room from y n → Admitted x m ≡ Admitted y n
   admitted-one from x y m n a b =
-      let e : x ≡ y = least-one (a .found) (b .found) in
+      let e : x ≡ y = least-is-one (Fits t w route) (w .period) from x y (a .found) (b .found) in
       let c : m ≡ n = a .count ∙ sym (b .count) in
       cc
 
@@ -121,14 +112,14 @@ join t w route room from m until (Admitted x n) h none a = (
       above = omega (arith, a .0 .found .above);
       below = a .0 .found .below;
       has = a .0 .found .has;
-      least = none-joined (Fits t w route) (none .none) (a .0 .found .least);
+      least = none-joined (Fits t w route) from m x (none .none) (a .0 .found .least);
     };
     count = a .0 .count;
   },
   a .1,
 )
 join t w route room from m until NoneYet h none a =
-    record { may = a .may; none = none-joined (Fits t w route) (none .none) (a .none); not-the-end = a .not-the-end }
+    record { may = a .may; none = none-joined (Fits t w route) from m until (none .none) (a .none); not-the-end = a .not-the-end }
 join t w route room from m until (Refused k p) h none f =
     other-words (earlyRefusals t w route room) (More t w route m until) (More t w route from until) k p
     (λ more.

@@ -1,6 +1,5 @@
--- One answer, also in other words. Assumes nothing.
+-- The least number is one, and a search in other words. Assumes nothing.
 use Prim.Native.Nat.{ℕ, _≤_, _<_}
-use mathlib.Core.Path.{_≡_, ap, refl}
 use mathlib.Core.Logic.{⊎-elim}
 use native.Mathlib.Omega.{arith}
 use Rattle.basics.proofs.Splits.{lt-or-ge}
@@ -10,16 +9,11 @@ use Rattle.offsets.specs.Search.{Searches}
 use Rattle.offsets.specs.Theorems.{LeastIsOne}
 
 pub least-is-one : LeastIsOne
-least-is-one P limit from (At a) (At b) p q =
-    let h : a ≡ b =
+least-is-one P limit from a b p q =
     ⊎-elim
     (λ (l : a < b). absurd (q .least a (p .above) l (p .has)))
     (λ (l : b ≤ a). ⊎-elim (λ (m : b < a). absurd (p .least b (q .above) m (q .has))) (λ (m : a ≤ b). omega arith) (lt-or-ge b a))
-    (lt-or-ge a b) in
-    ap At h
-least-is-one P limit from (At a) Nothing p q = absurd (q a (p .above) (p .below) (p .has))
-least-is-one P limit from Nothing (At b) p q = absurd (p b (q .above) (q .below) (q .has))
-least-is-one P limit from Nothing Nothing p q = refl
+    (lt-or-ge a b)
 
 -- The same search in other words.
 pub searches-in-words : (P Q : ℕ → Type 0) (limit from : ℕ) → ((x : ℕ) → P x → Q x) → ((x : ℕ) → Q x → P x) → (r : Searched)

@@ -13,7 +13,7 @@ use Rattle.offsets.specs.Search.{LeastFrom, NoneFrom}
 use Rattle.offsets.specs.Steps.{Passes, Skips}
 
 -- What has P neither up to y nor from there on.
-none-joined : (P : ℕ → Type 0) (x y z : ℕ) → NoneFrom P x y → NoneFrom P y z → NoneFrom P x z
+pub none-joined : (P : ℕ → Type 0) (x y z : ℕ) → NoneFrom P x y → NoneFrom P y z → NoneFrom P x z
 none-joined P x y z a b n from below h = ⊎-elim (λ (l : n < y). a n from l h) (λ (l : y ≤ n). b n l below h) (lt-or-ge n y)
 
 module _ {P : ℕ → Type 0} {limit : ℕ} where

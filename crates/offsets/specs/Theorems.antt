@@ -1,9 +1,8 @@
 -- What is proved of the search.
 use Prim.Native.Nat.{ℕ}
 use mathlib.Core.Path.{_≡_}
-use Rattle.offsets.specs.declared.Searched.{Searched}
-use Rattle.offsets.specs.Search.{Searches}
+use Rattle.offsets.specs.Search.{LeastFrom}
 
--- There is one answer.
+-- The least number is one.
 abbrev pub LeastIsOne : Type 1
-LeastIsOne = (P : ℕ → Type 0) (limit from : ℕ) (a b : Searched) → Searches P limit from a → Searches P limit from b → a ≡ b
+LeastIsOne = (P : ℕ → Type 0) (limit from a b : ℕ) → LeastFrom P limit from a → LeastFrom P limit from b → a ≡ b
