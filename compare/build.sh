@@ -1,6 +1,6 @@
 # Builds the drivers of the comparisons, and the benchmarks, in .built/compare. The command conepalhui reads this file and gives it
 # its own functions. They need the archives of the calls for C, which are for x86-64: so is what is linked with them. The judge,
-# which the comparison asks, is for this processor; compare/judge builds it. So is the comparison of networks.
+# which the comparison asks, is for this processor; compare/judge builds it. So are the comparisons of networks and admissions.
 
 rust_target=x86_64-unknown-linux-gnu
 
@@ -40,23 +40,28 @@ make_if_old() { # NAME SOURCES... -- COMMAND...
     mkdir -p .built/compare && "$@" "$made.new" && mv -f "$made.new" "$made" || stop "$made cannot be built (see above)"
 }
 
-build_comparison() {
+# Builds a driver, which makes calls for C, and the library that it takes.
+build_driver() { # NAME SOURCE LIBRARY
     build_library
     need rustc rustc
     find_c
-    make_if_old driver .built/libconepalhui.a include/conepalhui.h compare/driver.c compare/lent.h -- \
-        "$c_compiler" -O2 -static -Iinclude compare/driver.c .built/libconepalhui.a -o
+    make_if_old "$1" ".built/lib$3.a" "include/$3.h" "$2" compare/lent.h -- \
+        "$c_compiler" -O2 -static -Iinclude "$2" ".built/lib$3.a" -o
 }
+
+build_comparison() { build_driver driver compare/driver.c conepalhui; }
 
 # The comparison of networks, and its driver.
 build_network_comparison() {
-    build_library
-    need rustc rustc
-    find_c
-    make_if_old network-driver .built/libconepalhui-network.a include/conepalhui-network.h compare/network_driver.c compare/lent.h -- \
-        "$c_compiler" -O2 -static -Iinclude compare/network_driver.c .built/libconepalhui-network.a -o
+    build_driver network-driver compare/network_driver.c conepalhui-network
     make_if_old network compare/network*.rs compare/chance.rs compare/driver.rs compare/fail.rs -- \
         rustc --edition 2021 -O compare/network_compare.rs -o
+}
+
+# The comparison of admissions, and its driver.
+build_admit_comparison() {
+    build_driver admit-driver compare/admit_driver.c conepalhui
+    make_if_old admit compare/*.rs plans/*.plan -- rustc --edition 2021 -O compare/admit_compare.rs -o
 }
 
 # Prints a compiler of Rust that has the library of x86-64.
@@ -70,7 +75,7 @@ rust_for_x86_64() {
 }
 
 make_benchmark() { # NAME LIBRARY SOURCE
-    make_if_old "$1" ".built/lib$2.a" compare/*.rs -- "$rust" --edition 2021 -C opt-level=3 --target "$rust_target" \
+    make_if_old "$1" ".built/lib$2.a" compare/*.rs plans/*.plan -- "$rust" --edition 2021 -C opt-level=3 --target "$rust_target" \
         -C linker="$c_compiler" -L native=.built -l "static=$2" "$3" -o
 }
 
@@ -85,6 +90,7 @@ build_benchmark() {
     fi
     rust=$(rust_for_x86_64) || stop "there is no compiler of Rust for x86-64: apt-get install rustc"
     make_benchmark bench conepalhui compare/bench.rs
+    make_benchmark admit-bench conepalhui compare/admit_bench.rs
     make_benchmark network-bench conepalhui-network compare/network_bench.rs
     ((${#emulator[@]} == 0)) || emulator=(qemu-x86_64)
 }

@@ -1,6 +1,7 @@
 //! A call for C with all that it is lent, and what it gives.
 
 use crate::check::{host_convert, host_move, host_slice, host_start, Checker};
+use crate::driver::{buffer, kept};
 use crate::format::Move;
 use std::io::{self, Read, Write};
 use std::sync::Arc;
@@ -17,8 +18,6 @@ pub enum Kind {
 
 /// The driver writes out all its answers where it meets this in place of a call.
 const FLUSH: u32 = 5;
-/// What the driver lays before each buffer, and sends back with it.
-const MARGIN: [u8; 32] = [0xA5; 32];
 
 #[derive(Clone)]
 pub struct Call {
@@ -86,29 +85,13 @@ pub fn send_flush(to: &mut impl Write) -> io::Result<()> {
     to.flush()
 }
 
-/// Reads one buffer back, and adds its name to the faults where the margin before it is not what it was.
-fn buffer(from: &mut impl Read, length: usize, name: &str, faults: &mut Vec<String>) -> io::Result<Vec<u8>> {
-    let mut margin = [0; MARGIN.len()];
-    from.read_exact(&mut margin)?;
-    if margin != MARGIN {
-        faults.push(format!("bytes before the buffer {} changed", name));
-    }
-    let mut bytes = vec![0; length];
-    from.read_exact(&mut bytes)?;
-    Ok(bytes)
-}
-
 /// Reads what the driver answered, and what it changed that no call may change.
 pub fn receive(from: &mut impl Read, call: &Call) -> io::Result<(Answer, Vec<String>)> {
     let (mut result, mut faults) = ([0; 8], Vec::new());
     from.read_exact(&mut result)?;
-    if buffer(from, call.plan.len(), "plan", &mut faults)? != call.plan[..] {
-        faults.push("the plan changed".to_string());
-    }
-    if buffer(from, call.cursor.len(), "cursor", &mut faults)? != call.cursor {
-        faults.push("the cursor changed".to_string());
-    }
+    kept(from, &call.plan, "plan", &mut faults)?;
+    kept(from, &call.cursor, "cursor", &mut faults)?;
     let new_plan = buffer(from, call.new_plan.len(), "new plan", &mut faults)?;
-    let out = buffer(from, call.out.len(), "out", &mut faults)?;
+    let out = buffer(from, call.out.len(), "lent cursor", &mut faults)?;
     Ok((Answer { result: u64::from_le_bytes(result), new_plan, out }, faults))
 }

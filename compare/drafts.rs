@@ -194,7 +194,7 @@ fn add_links(chance: &mut Chance, plan: &mut Plan, size: &Size) {
 }
 
 /// A way over links that meets no node twice, with at most so many hops.
-fn some_route(chance: &mut Chance, links: &[Link], hops: usize) -> Vec<u32> {
+pub fn some_route(chance: &mut Chance, links: &[Link], hops: usize) -> Vec<u32> {
     // Every second route begins on one of the first links, so that these are shared by many streams.
     let choices = if chance.one_in(2) { links.len().min(2) } else { links.len() };
     let first = chance.below(choices);

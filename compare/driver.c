@@ -50,10 +50,6 @@ static void spoil(int what, uint8_t *const *at, const uint32_t *length) {
         at[buffer][length[buffer] - 1] ^= 1;
 }
 
-static void put(const void *bytes, size_t length) {
-    if (fwrite(bytes, 1, length, stdout) != length) fail("cannot write");
-}
-
 int main(int count, char **arguments) {
     uint8_t *end[BUFFERS], *at[BUFFERS];
     uint32_t head[NUMBERS + BUFFERS];
@@ -61,7 +57,7 @@ int main(int count, char **arguments) {
     for (int i = 0; i < BUFFERS; i++) end[i] = lent_end();
     while (fread(head, sizeof head, 1, stdin) == 1) {
         if (head[KIND] == FLUSH) {
-            if (fflush(stdout) != 0) fail("cannot write");
+            flush();
             continue;
         }
         for (int i = 0; i < BUFFERS; i++) {

@@ -1,12 +1,15 @@
 //! A driver at work: a program that makes the calls which come on its standard input, and answers on its standard output.
 
-use std::io::{self, BufReader, BufWriter};
+use std::io::{self, BufReader, BufWriter, Read};
 use std::process::{Child, ChildStdin, ChildStdout, Command, Stdio};
 use std::sync::atomic::{AtomicU64, Ordering};
 use std::thread;
 
 pub type Input = BufWriter<ChildStdin>;
 pub type Output = BufReader<ChildStdout>;
+
+/// What a driver lays before each buffer, and sends back with it.
+const MARGIN: [u8; 32] = [0xA5; 32];
 
 pub struct Driver {
     child: Child,
@@ -75,4 +78,24 @@ pub fn in_batches(command: &[String], batches: u64, work: impl Fn(&mut Driver, u
             });
         }
     });
+}
+
+/// Reads one buffer back, and adds its name to the faults where the margin before it is not what it was.
+pub fn buffer(from: &mut impl Read, length: usize, name: &str, faults: &mut Vec<String>) -> io::Result<Vec<u8>> {
+    let mut margin = [0; MARGIN.len()];
+    from.read_exact(&mut margin)?;
+    if margin != MARGIN {
+        faults.push(format!("bytes before the {} changed", name));
+    }
+    let mut bytes = vec![0; length];
+    from.read_exact(&mut bytes)?;
+    Ok(bytes)
+}
+
+/// Reads back a buffer that no call may change, and adds its name to the faults where it is not what it was.
+pub fn kept(from: &mut impl Read, before: &[u8], name: &str, faults: &mut Vec<String>) -> io::Result<()> {
+    if buffer(from, before.len(), name, faults)? != before {
+        faults.push(format!("the {} changed", name));
+    }
+    Ok(())
 }

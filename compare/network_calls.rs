@@ -1,12 +1,11 @@
 //! The calls on networks as driver and comparison send them to each other (network_driver.c says how).
 
+use crate::driver::{buffer, kept};
 use crate::network::{Answer, Call, ALL_TIMES};
 use std::io::{self, Read, Write};
 
 /// The driver writes out all its answers where it meets this in place of a call.
 const FLUSH: u32 = 3;
-/// What the driver lays before each buffer, and sends back with it.
-const MARGIN: [u8; 32] = [0xA5; 32];
 
 fn bytes_of_words(words: &[i64]) -> Vec<u8> {
     words.iter().flat_map(|word| word.to_le_bytes()).collect()
@@ -41,18 +40,6 @@ fn number(from: &mut impl Read) -> io::Result<u32> {
     Ok(u32::from_le_bytes(bytes))
 }
 
-/// Reads one buffer back, and adds its name to the faults where the margin before it is not what it was.
-fn buffer(from: &mut impl Read, length: usize, name: &str, faults: &mut Vec<String>) -> io::Result<Vec<u8>> {
-    let mut margin = [0; MARGIN.len()];
-    from.read_exact(&mut margin)?;
-    if margin != MARGIN {
-        faults.push(format!("bytes before the {} changed", name));
-    }
-    let mut bytes = vec![0; length];
-    from.read_exact(&mut bytes)?;
-    Ok(bytes)
-}
-
 /// Reads what the driver answered, and what it changed that no call may change.
 pub fn receive(from: &mut impl Read, call: &Call) -> io::Result<(Answer, Vec<String>)> {
     let (result, count) = (number(from)?, number(from)?);
@@ -64,10 +51,7 @@ pub fn receive(from: &mut impl Read, call: &Call) -> io::Result<(Answer, Vec<Str
     }
     let mut faults = Vec::new();
     for (words, name) in [(&call.network.words, "constraints"), (&call.times, "times")] {
-        let before = bytes_of_words(words);
-        if buffer(from, before.len(), name, &mut faults)? != before {
-            faults.push(format!("the {} changed", name));
-        }
+        kept(from, &bytes_of_words(words), name, &mut faults)?;
     }
     let lent = buffer(from, 4 * call.chain.len(), "chain", &mut faults)?;
     let chain = lent.chunks_exact(4).map(|b| u32::from_le_bytes([b[0], b[1], b[2], b[3]])).collect();

@@ -29,12 +29,6 @@ struct head {
 
 static const size_t width[BUFFERS] = {sizeof(int64_t), sizeof(int64_t), sizeof(uint32_t)};
 
-/* Leaves no zeros on the stack, so that an answer which is not written whole is seen. */
-static __attribute__((noinline)) void soil_the_stack(void) {
-    volatile uint8_t bytes[1 << 14];
-    for (size_t i = 0; i < sizeof bytes; i++) bytes[i] = 0xA5;
-}
-
 static __attribute__((noinline)) void make(const struct head *call, uint8_t *const *at, conepalhui_network_answer *to) {
     const int64_t *words = (const int64_t *)at[WORDS], *times = (const int64_t *)at[GIVEN];
     conepalhui_network_verdict verdict;
@@ -59,24 +53,16 @@ static __attribute__((noinline)) void make(const struct head *call, uint8_t *con
     to->number = verdict.number;
 }
 
-/* Changes the answer, a byte of a buffer or one before it. An empty buffer has no last byte. */
+/* Changes the answer, a byte of a buffer or one before it. */
 static void spoil(int what, uint8_t *const *end, const struct head *call, conepalhui_network_answer *answer) {
-    int buffer = what % BUFFERS;
-    size_t bytes = call->length[buffer] * width[buffer];
     if (what == SPOIL_RESULT)
         answer->result ^= 1;
     else if (what == SPOIL_NUMBER)
         answer->number ^= 1;
     else if (what == SPOIL_TIME)
         answer->times[EVENTS - 1] ^= 1;
-    else if (what >= BUFFERS)
-        end[buffer][-(ptrdiff_t)bytes - 1] ^= 1;
-    else if (bytes > 0)
-        end[buffer][-1] ^= 1;
-}
-
-static void put(const void *bytes, size_t length) {
-    if (fwrite(bytes, 1, length, stdout) != length) fail("cannot write");
+    else
+        spoil_buffer(what, end, call->length, width, BUFFERS);
 }
 
 int main(int count, char **arguments) {
@@ -86,27 +72,17 @@ int main(int count, char **arguments) {
     for (int i = 0; i < BUFFERS; i++) end[i] = lent_end();
     for (int odd = 0; fread(&call, sizeof call, 1, stdin) == 1; odd ^= 1) {
         if (call.kind == FLUSH) {
-            if (fflush(stdout) != 0) fail("cannot write");
+            flush();
             continue;
         }
-        for (int i = 0; i < BUFFERS; i++) {
-            size_t bytes = call.length[i] * width[i];
-            if (bytes > MOST - MARGIN) fail("a buffer is too long");
-            at[i] = end[i] - bytes;
-            memset(at[i] - MARGIN, 0xA5, MARGIN);
-            if (fread(at[i], 1, bytes, stdin) != bytes) fail("the input ends in a call");
-            if (bytes == 0 && odd) at[i] = NULL;
-        }
+        take(at, end, call.length, width, BUFFERS, odd);
         soil_the_stack();
         make(&call, at, &answer);
         if (count > 1) spoil(atoi(arguments[1]), end, &call, &answer);
         put(&answer.result, sizeof answer.result);
         put(&answer.number, sizeof answer.number);
         put(answer.times, sizeof answer.times);
-        for (int i = 0; i < BUFFERS; i++) {
-            size_t bytes = call.length[i] * width[i] + MARGIN;
-            put(end[i] - bytes, bytes);
-        }
+        put_back(end, call.length, width, BUFFERS);
     }
     if (ferror(stdin) || fflush(stdout) != 0) fail("cannot read or write");
     return 0;

@@ -180,17 +180,21 @@ Makes calls for C on plans, cursors and buffers taken by chance, and compares ea
 with a plain checker in Rust. Each wrong checker of compare/wrong.rs has to be caught. --calls N says how many calls
 are made (200,000), and --seed N gives other ones (1). Exit status: 0 only where nothing differs and all are caught.
 With --networks N it compares the calls on so many networks instead, with a plain solver (compare/network.rs), and
-catches the wrong ones of compare/network_wrong.rs.
+catches the wrong ones of compare/network_wrong.rs. With --admissions N it compares the admissions of so many streams,
+with a search that tries each offset (compare/admit.rs) and one that jumps, and catches those of compare/admit_wrong.rs.
 END
 }
 
 do_compare() {
-    local calls=200000 networks=0 seed=1 emulator c_compiler
-    numbers_from 'calls networks seed' "$@"
+    local calls=200000 networks=0 admissions=0 seed=1 emulator c_compiler
+    numbers_from 'calls networks admissions seed' "$@"
     . compare/build.sh
     if ((networks > 0)); then
         build_network_comparison
         .built/compare/network "$seed" "$networks" "${emulator[@]}" .built/compare/network-driver
+    elif ((admissions > 0)); then
+        build_admit_comparison
+        .built/compare/admit "$seed" "$admissions" "${emulator[@]}" .built/compare/admit-driver
     else
         build_comparison
         compare/judge compare "$seed" "$calls" "${emulator[@]}" .built/compare/driver
@@ -211,6 +215,10 @@ pair that shares a link is what a whole check takes beyond a call with budget 0,
 Then come the greatest common divisors of a whole check: how many it takes, the time of one by each method of
 compare/divisors.rs, and for the method in use which part of the proved check they take.
 
+Then it times admissions beside two plain ones, which check by these two checkers and find the offset by jumps: to each
+accepted plan, without its last streams, the last of these again, with the longest frame, and with a deadline that no
+offset keeps; and to two plans on which the search goes on for long, in three rounds at the most.
+
 At last it times the solver of networks beside a plain one, on three networks of the largest size. --rounds N says how
 many rounds are made (21); medians are given. On Arm all sides run under Debian's emulator.
 END
@@ -223,5 +231,6 @@ do_bench() {
     . compare/build.sh
     build_benchmark
     "${emulator[@]}" .built/compare/bench "$rounds" plans/*.plan &&
+        "${emulator[@]}" .built/compare/admit-bench "$rounds" plans/*.plan &&
         "${emulator[@]}" .built/compare/network-bench "$rounds"
 }

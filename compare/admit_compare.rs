@@ -1,0 +1,361 @@
+//! Holds the proved admissions against the plain admitter, and shows that wrong ones are caught.
+//! Usage: admit SEED STREAMS DRIVER...
+//!
+//! The driver is that of admit_driver.c. The calls are for so many streams, or a few more.
+
+// Of the checker and of the drafts, not all is used here.
+#![allow(dead_code)]
+
+mod admit;
+mod admit_calls;
+mod admit_cases;
+mod admit_drafts;
+mod admit_jump;
+mod admit_seen;
+mod admit_wrong;
+mod chance;
+mod check;
+mod damage;
+mod drafts;
+mod driver;
+mod fail;
+mod format;
+mod paper;
+mod reasons;
+mod rules;
+mod shape;
+
+use admit::{
+    answer, each, enlarge, lay, newest, Answer, Call, Wanted, ADMITTED, BAD_STREAM, JUMPING, MOST_TRIED, NONE_YET,
+    NOT_ACCEPTED, NO_SLOT, RIGHT, WHOLE_LEGS,
+};
+use admit_calls::{receive, send, send_flush};
+use admit_cases::{batch, is_admission, Case, BATCH};
+use admit_seen::{causes, edges, seen};
+use admit_wrong::{all, Wrong};
+use chance::Chance;
+use check::{whole, Checker, Plain};
+use driver::{in_batches, Driver};
+use fail::{fail_silently, given};
+use format::{plan_bytes, Plan};
+use paper::{
+    ABOVE_LIMIT, BAD_FORM, ENDS_EARLY, LAST_REVISION, LEFT_OVER, LEG_WRONG, LINK_RANGE, LINK_TWICE, NOTHING_VIOLATED,
+    NO_ROOM, REFUSED, STREAM_WRONG,
+};
+use std::collections::BTreeMap;
+use std::sync::{Arc, Mutex};
+
+const SHOWN: usize = 5;
+/// Where offsets are too many to be tried, so many of those below the least one are, and of those where none fits.
+const SAMPLES: usize = 12;
+/// A new plan of so many legs is checked whole.
+const CHECKED_LEGS: usize = 200;
+/// What a spoiled driver does, by the number that tells it to.
+const SPOILED: [&str; 9] = [
+    "changes the last byte of the plan",
+    "changes the last byte of the route",
+    "changes the last byte lent for the new plan",
+    "changes the byte before the plan",
+    "changes the byte before the route",
+    "changes the byte before the new plan",
+    "changes the result",
+    "changes the number",
+    "changes the offset",
+];
+
+/// What a run has found so far.
+#[derive(Default)]
+struct Found {
+    calls: u64,
+    differences: u64,
+    shown: Vec<String>,
+    /// The number of the batch that catches each wrong admitter first, and of the call in it.
+    caught: Vec<Option<(u64, usize)>>,
+    /// Admissions of all offsets: with each offset tried, how many of these by whole checks, and by jumps.
+    tried: u64,
+    whole: u64,
+    by_jumps: u64,
+    /// Admissions in pieces.
+    pieces: u64,
+    /// How often each call gave each result, and met each edge.
+    results: BTreeMap<(&'static str, u32), u64>,
+    edges: BTreeMap<&'static str, u64>,
+}
+
+fn kind(call: &Call) -> &'static str {
+    if call.between.is_some() {
+        "between"
+    } else {
+        "whole"
+    }
+}
+
+fn hex(bytes: &[u8]) -> String {
+    bytes.iter().take(600).map(|byte| format!("{:02X}", byte)).collect::<Vec<_>>().join(" ")
+}
+
+fn told(Answer { result, number, offset, new_plan }: &Answer) -> String {
+    format!("result {} number {} offset {} new plan [{}]", result, number, offset, hex(new_plan))
+}
+
+fn described(call: &Call) -> String {
+    let lent = call.new_plan.len();
+    format!("{:?}, {:?}, {} bytes lent, plan [{}]", call.wanted, call.between, lent, hex(&call.plan))
+}
+
+/// Makes all calls, and gives each answer with what no call may change and yet was changed.
+fn answers(driver: &mut Driver, cases: &[Case]) -> Vec<(Answer, Vec<String>)> {
+    driver.answers(cases, |input, case| send(input, &case.call), send_flush, |output, case| receive(output, &case.call))
+}
+
+/// Says how the proved call differs from the plain one, if it does.
+fn difference(case: &Case, answered: &Answer, changed: &[String]) -> Option<String> {
+    let Case { call, expected, .. } = case;
+    if answered == expected && changed.is_empty() {
+        return None;
+    }
+    Some(format!(
+        "DIFFERENCE: {}\n    proved: {}\n    plain:  {}\n    {}",
+        described(call),
+        told(answered),
+        told(expected),
+        changed.join(", ")
+    ))
+}
+
+/// Says where pieces, one after the other, give something else than the whole: the first that gives more than 'none yet'.
+fn difference_of_pieces(cases: &[Case], answers: &[(Answer, Vec<String>)]) -> Vec<String> {
+    let gives_more = |at: &usize| cases[*at].piece_of.is_some() && answers[*at].0.result != NONE_YET;
+    let differs = |at: &usize| cases[*at].piece_of.map_or(false, |whole| answers[whole].0 != answers[*at].0);
+    let told = |at: usize| format!("DIFFERENCE of a piece from the whole: {}", described(&cases[at].call));
+    (0..cases.len()).filter(gives_more).filter(differs).map(told).collect()
+}
+
+fn is_tried(call: &Call) -> bool {
+    call.wanted.period <= MOST_TRIED
+}
+
+fn is_checked_whole(call: &Call) -> bool {
+    let plan = Plain.read_plan(&call.plan).expect("the plan was read");
+    plan.legs.len() + call.wanted.route.len() <= WHOLE_LEGS
+}
+
+/// Says how other opinions differ from the plain admitter, if they do.
+fn other_opinion(chance: &mut Chance, case: &Case) -> Option<String> {
+    let Case { call, expected, .. } = case;
+    let other = match expected.result.checked_sub(REFUSED) {
+        None | Some(NO_SLOT) => opinion_of_search(chance, case),
+        Some(NO_ROOM | NOT_ACCEPTED | BAD_STREAM) => opinion_of_causes(case),
+        _ => None,
+    }?;
+    Some(format!("DIFFERENCE of {}: {}: {}", other, described(call), told(expected)))
+}
+
+/// The causes of refusal 20, told one by one.
+fn opinion_of_causes(Case { call, expected, .. }: &Case) -> Option<&'static str> {
+    let plan = Plain.read_plan(&call.plan).expect("the plan was read");
+    let is_due = !causes(&plan, &call.wanted).is_empty();
+    Some("the causes of 20").filter(|_| is_due != (expected.result == REFUSED + BAD_STREAM))
+}
+
+/// The search by jumps where each offset was tried, the rules at some offsets where none was, and a check of the new plan.
+fn opinion_of_search(chance: &mut Chance, Case { call, expected, .. }: &Case) -> Option<&'static str> {
+    if is_tried(call) && answer(&JUMPING, call) != *expected {
+        return Some("the admitter by jumps");
+    }
+    let plan = Plain.read_plan(&call.plan).expect("the plan was read");
+    let (mut enlarged, is_admitted) = (enlarge(&plan, &call.wanted), expected.result == ADMITTED);
+    let (from, until) = call.asked();
+    let end = if is_admitted { expected.offset } else { until.min(newest(&enlarged).period) };
+    let samples = if is_tried(call) || end <= from { 0 } else { SAMPLES };
+    for _ in 0..samples {
+        let offset = u64::from(chance.from_to(from, end - 1));
+        if each(&RIGHT, &mut enlarged, offset..offset + 1).is_some() {
+            return Some("an offset that was passed over");
+        }
+    }
+    let is_checked = is_admitted && enlarged.legs.len() <= CHECKED_LEGS;
+    let is_accepted = |mut plan| {
+        lay(&RIGHT, &mut plan, expected.offset.into());
+        whole(&Plain, &plan).result == NOTHING_VIOLATED
+    };
+    Some("a whole check of the new plan").filter(|_| is_checked && !is_accepted(enlarged))
+}
+
+/// Compares one batch of this number.
+fn compare(number: u64, wrong: &[Wrong], cases: &[Case], answers: &[(Answer, Vec<String>)], found: &Mutex<Found>) {
+    let mut at_large: Vec<usize> = {
+        let found = found.lock().expect("no thread failed");
+        (0..wrong.len()).filter(|&at| found.caught[at].map_or(true, |(batch, _)| batch > number)).collect()
+    };
+    let mut chance = Chance::new(number, 1);
+    let (mut faults, mut caught) = (difference_of_pieces(cases, answers), Vec::new());
+    for (at_call, (case, (answered, changed))) in cases.iter().zip(answers).enumerate() {
+        faults.extend(difference(case, answered, changed));
+        faults.extend(other_opinion(&mut chance, case));
+        at_large.retain(|&at| {
+            let escapes = given(|| answer(&wrong[at].admitter, &case.call)).as_ref() == Some(&case.expected);
+            if !escapes {
+                caught.push((at, at_call));
+            }
+            escapes
+        });
+    }
+    let met: Vec<&'static str> = cases.iter().flat_map(|case| seen(&case.call, &case.expected)).collect();
+    let mut found = found.lock().expect("no thread failed");
+    found.calls += cases.len() as u64;
+    found.differences += faults.len() as u64;
+    let room = SHOWN.saturating_sub(found.shown.len());
+    found.shown.extend(faults.into_iter().take(room));
+    for (at, at_call) in caught {
+        let known = found.caught[at];
+        found.caught[at] = known.into_iter().chain(Some((number, at_call))).min();
+    }
+    count(&mut found, cases, &met);
+}
+
+fn count(found: &mut Found, cases: &[Case], met: &[&'static str]) {
+    let admissions = || cases.iter().filter(|case| is_admission(case));
+    found.tried += admissions().filter(|case| is_tried(&case.call)).count() as u64;
+    found.whole += admissions().filter(|case| is_tried(&case.call) && is_checked_whole(&case.call)).count() as u64;
+    found.by_jumps += admissions().filter(|case| !is_tried(&case.call)).count() as u64;
+    let is_first_piece = |case: &&Case| case.piece_of.is_some() && case.call.asked().0 == 0;
+    found.pieces += cases.iter().filter(is_first_piece).count() as u64;
+    for case in cases {
+        *found.results.entry((kind(&case.call), case.expected.result)).or_default() += 1;
+    }
+    for edge in met {
+        *found.edges.entry(edge).or_default() += 1;
+    }
+}
+
+/// Runs drivers that spoil something. Gives those that the comparison does not catch.
+fn spoilers_at_large(command: &[String]) -> Vec<&'static str> {
+    let cases = batch(1, 0);
+    let mut uncaught = Vec::new();
+    for (what, name) in SPOILED.iter().enumerate() {
+        let mut driver = Driver::new(&[command, &[what.to_string()]].concat());
+        let answers = answers(&mut driver, &cases);
+        driver.end();
+        let mut pairs = cases.iter().zip(&answers);
+        if !pairs.any(|(case, (answered, changed))| difference(case, answered, changed).is_some()) {
+            uncaught.push(*name);
+        }
+    }
+    uncaught
+}
+
+/// Each result that a call can have. From a file, refusals 1 and 3 cannot come.
+fn results() -> Vec<(&'static str, u32)> {
+    let of_files = [ENDS_EARLY, BAD_FORM, ABOVE_LIMIT, LEFT_OVER, LINK_RANGE, LINK_TWICE, STREAM_WRONG, LEG_WRONG];
+    let others = [LAST_REVISION, BAD_STREAM, NO_ROOM, NOT_ACCEPTED, NO_SLOT];
+    let refusals: Vec<u32> = of_files.iter().chain(&others).map(|number| REFUSED + number).collect();
+    let of = |kind: &'static str, given: &[u32]| -> Vec<(&'static str, u32)> {
+        given.iter().chain(&refusals).map(|&result| (kind, result)).collect()
+    };
+    [of("whole", &[ADMITTED]), of("between", &[ADMITTED, NONE_YET])].concat()
+}
+
+/// Makes the calls for so many streams, or a few more, with the command of a driver. Says whether all is well.
+fn run(seed: u64, wanted: u64, driver: &[String]) -> bool {
+    let batches = (wanted + BATCH as u64 - 1) / BATCH as u64;
+    println!("seed {}, {} streams in batches of {}", seed, batches * BATCH as u64, BATCH);
+    let wrong = all();
+    let found = Mutex::new(Found { caught: vec![None; wrong.len()], ..Found::default() });
+    in_batches(driver, batches, |driver, number| {
+        let cases = batch(seed, number);
+        let answers = answers(driver, &cases);
+        compare(number, &wrong, &cases, &answers, &found);
+    });
+    let found = found.into_inner().expect("no thread failed");
+    report(&wrong, &found, batches * BATCH as u64, &spoilers_at_large(driver))
+}
+
+/// Whether the plain admitter gives what one counts by hand on Plan A. It is not accepted; its leg 2 at 672 is. Then the
+/// first link is taken from 0 to 672 of each 100,000 ns and from there to 1,344 of each 50,000, and the second one from 1,176
+/// to 1,848 of each 100,000.
+fn keeps_the_examples() -> bool {
+    let accepted = || {
+        let mut plan = drafts::plan_a();
+        plan.legs[2].offset = 672;
+        plan
+    };
+    let given = |plan: Plan, period: u32, deadline: u32| {
+        let wanted = Arc::new(Wanted { route: vec![0, 1], period, deadline, octets: 64 });
+        let call = Call { plan: plan_bytes(&plan).into(), wanted, between: None, new_plan: vec![0; 300] };
+        let Answer { result, number, offset, new_plan } = answer(&RIGHT, &call);
+        let new = Plain.read_plan(&new_plan[..number as usize]).ok();
+        let legs = new.map(|plan| plan.legs[3..].iter().map(|leg| [leg.link, leg.offset, leg.periods]).collect());
+        (result, offset, legs.unwrap_or_else(Vec::new))
+    };
+    given(drafts::plan_a(), 100_000, 2_352).0 == REFUSED + NOT_ACCEPTED
+        && given(accepted(), 100_000, 2_352) == (ADMITTED, 1_344, vec![[0, 1_344, 0], [1, 2_520, 0]])
+        && given(accepted(), 100_000, 2_351).0 == REFUSED + NO_SLOT
+        && given(accepted(), 100_001, 2_352).0 == REFUSED + NO_SLOT
+        && given(accepted(), 2_000, 2_352).0 == REFUSED + NO_SLOT
+        && given(accepted(), 2_500, 2_352) == (ADMITTED, 1_344, vec![[0, 1_344, 0], [1, 20, 1]])
+}
+
+/// Prints what a run found, and says whether all is well.
+fn report(wrong: &[Wrong], found: &Found, streams: u64, spoilers: &[&str]) -> bool {
+    for fault in &found.shown {
+        println!("{}", fault);
+    }
+    let mut faults = Vec::new();
+    if !keeps_the_examples() {
+        faults.push("DIFFERENCE of the plain admitter from what is counted by hand".to_string());
+    }
+    for (at, Wrong { name, .. }) in wrong.iter().enumerate() {
+        match found.caught[at] {
+            Some((batch, call)) => println!("caught in call {} of batch {}: {}", call + 1, batch + 1, name),
+            None => faults.push(format!("NOT CAUGHT: {}", name)),
+        }
+    }
+    faults.extend(spoilers.iter().map(|name| format!("NOT CAUGHT: a driver that {}", name)));
+    let unseen = results().into_iter().filter(|result| !found.results.contains_key(result));
+    faults.extend(unseen.map(|(kind, result)| format!("NEVER SEEN: {} with the result {}", kind, result)));
+    let unmet = edges().into_iter().filter(|edge| !found.edges.contains_key(edge));
+    faults.extend(unmet.map(|edge| format!("NEVER SEEN: {}", edge)));
+    for fault in &faults {
+        println!("{}", fault);
+    }
+    let results = found.results.iter().map(|((kind, result), times)| format!("{} {}: {}", kind, result, times));
+    println!("seen: {}", results.collect::<Vec<_>>().join(", "));
+    for (edge, times) in &found.edges {
+        println!("met {} times: {}", times, edge);
+    }
+    let had = |result: u32| found.results.get(&("whole", result)).copied().unwrap_or(0);
+    println!(
+        "{} streams, {} calls, {} differences, {} of {} wrong admitters and {} of {} spoiled drivers caught, \
+         {} with each offset tried, {} of them by whole checks, {} by jumps, {} in pieces, {} admitted, {} refused 18",
+        streams,
+        found.calls,
+        found.differences,
+        found.caught.iter().flatten().count(),
+        wrong.len(),
+        SPOILED.len() - spoilers.len(),
+        SPOILED.len(),
+        found.tried,
+        found.whole,
+        found.by_jumps,
+        found.pieces,
+        had(ADMITTED),
+        had(REFUSED + NO_SLOT)
+    );
+    found.differences == 0 && faults.is_empty()
+}
+
+fn main() {
+    fail_silently();
+    let arguments: Vec<String> = std::env::args().skip(1).collect();
+    let number = |at: usize| arguments.get(at).and_then(|text| text.parse().ok());
+    match (number(0), number(1)) {
+        (Some(seed), Some(streams)) if arguments.len() > 2 => {
+            std::process::exit(if run(seed, streams, &arguments[2..]) { 0 } else { 1 })
+        }
+        _ => {
+            eprintln!("usage: admit SEED STREAMS DRIVER...");
+            std::process::exit(4)
+        }
+    }
+}
