@@ -1,5 +1,6 @@
 //! What the program of cases prints for a list that is spelled out, a call in each line.
 
+use crate::admit_list;
 use crate::check::{begin, host_convert, host_move, host_slice, host_start, Checker, Plain};
 use crate::format::{
     encoded, table, table_words, write_cursor, write_plan, Cursor, Layout, Move, Outcome, Plan, Refusal,
@@ -198,6 +199,7 @@ impl Calls {
                 self.cursor = Cursor::of(words[..].try_into().map_err(|_| "a cursor has three words")?);
             }
             _ if network_list::is_call(verb) => return network_list::told(verb, rest),
+            _ if admit_list::is_call(verb) => return admit_list::told(verb, rest, &self.table),
             _ => return self.call(verb, &numbers(rest)?),
         }
         Ok(String::new())

@@ -31,6 +31,10 @@
 //!   judge answers                                 what the program of cases has to print for what list made
 //!   judge compare SEED CALLS DRIVER...            holds the calls for C against the checker; the driver is that of driver.c
 
+#[allow(dead_code)] // It also serves the comparison of admissions.
+mod admit;
+mod admit_jump;
+mod admit_list;
 mod answers;
 mod calls;
 mod cases;

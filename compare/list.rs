@@ -7,8 +7,10 @@
 //! PLAN is a name, or words, with | between records, and changes, each after a comma: revision 7, link 1 ns_per_octet 80, words 31 (so many
 //! alone). A call on bytes takes the file of such words, or bytes as they stand, =80 00 or "text"; its changes may be bytes 40 (so many
 //! alone), and 00 (so much more), leg 1 offset as 98 00. CURSOR is three words, for a call on bytes their file or bytes as they stand.
-//! A call without them goes on with those of the call before it, and with what that call made of them. network_list.rs has the calls on networks.
+//! A call without them goes on with those of the call before it, and with what that call made of them. network_list.rs has the calls on networks,
+//! admit_list.rs those that admit a stream.
 
+use crate::admit_list;
 use crate::check::Plain;
 use crate::format::{encoded, index_of, table, Plan, HEADER};
 use crate::network_list;
@@ -127,7 +129,10 @@ impl List {
             None if base.starts_with('=') || base.starts_with('"') => {
                 Written { words: Vec::new(), after: bytes(base.trim_start_matches('='))?, cut: None }
             }
-            None => Written::of(&numbers(&base.replace('|', " "))?),
+            None => match base.strip_prefix("row ") {
+                Some(row) => Written::of(&admit_list::row_of_links(row)?),
+                None => Written::of(&numbers(&base.replace('|', " "))?),
+            },
         };
         let before = plan.table();
         for change in parts {
@@ -192,13 +197,19 @@ impl List {
                 self.set.remove("table");
             }
         }
-        self.say(line);
+        if admit_list::is_call(verb) {
+            let spelled = admit_list::spelled(line)?;
+            self.say(&spelled);
+        } else {
+            self.say(line);
+        }
         Ok(())
     }
 
     fn line(&mut self, line: &str) -> Spelled<()> {
         if line.starts_with("# ") {
             self.network = None;
+            self.set.remove("table");
             self.say(line);
             return Ok(());
         }

@@ -18,7 +18,7 @@ LIST = re.compile(r"<!-- reading list -->\n.*?<!-- end -->", re.S)
 LEGEND = re.compile(r"<!-- signs -->\n(.*?)<!-- end -->", re.S)
 
 # Where reading begins besides the public calls.
-DEMANDS = [("demands", demand, demand) for demand in ("DemandOne", "DemandTwo", "DemandThree", "DemandThreeForC")]
+DEMANDS = [("demands", demand, demand) for demand in ("DemandOne", "DemandTwo", "DemandThree", "DemandThreeForC")] + [("demands", "Admissions", "AdmissionsPass")]
 
 # What the language has of its own, what every contract may say, and the constructors of the kit.
 WORDS = {"→", "×", "⊥", ":", "=", "Type", "Unit", "record", "data", "where", "pub", "abbrev", "unfoldable"}

@@ -3,6 +3,7 @@
 use files::Cursor;
 use table::Move;
 
+mod admit_calls;
 mod files_calls;
 mod host_calls;
 mod integers;
@@ -12,7 +13,7 @@ mod text;
 mod tool_calls;
 
 // Room for a list.
-const MAX_LIST: usize = 131072;
+const MAX_LIST: usize = 262144;
 
 // Room for the bytes of a plan and of a saved cursor in a list.
 const MAX_PLAN: usize = 256;
@@ -79,6 +80,9 @@ fn asked(verb: &[u8], rest: &[u8], table: &[u32], plan: &[u8], saved: &[u8], cur
         return;
     }
     if tool_calls::asked(verb, numbers, plan, saved) {
+        return;
+    }
+    if admit_calls::asked(verb, rest, table) {
         return;
     }
     if network_calls::asked(verb, rest) {
