@@ -208,6 +208,7 @@ impl List {
 
     fn line(&mut self, line: &str) -> Spelled<()> {
         if line.starts_with("# ") {
+            // What stands below a heading can be run alone (tests/edits.test).
             self.network = None;
             self.set.remove("table");
             self.say(line);

@@ -104,21 +104,48 @@ static int write_new(int folder, const char *name, const uint8_t *bytes, size_t 
     return close(fd) == -1 && errno != EINTR ? -1 : 0;
 }
 
+enum { BESIDE = 76 };
+
+/* Gives the name of the file that is written beside another before it takes its name. */
+static int name_beside(char *beside, const char *name)
+{
+    int size = snprintf(beside, BESIDE, "%s.conepalhui-new", name);
+    if (size >= 0 && size < BESIDE)
+        return 0;
+    errno = ENAMETOOLONG;
+    return -1;
+}
+
+/* Removes a file that is written beside another after a failure, which errno goes on to tell. */
+static int give_up(int folder, const char *beside)
+{
+    int error = errno;
+    unlinkat(folder, beside, 0); /* On a full disk its room is wanted. */
+    errno = error;
+    return -1;
+}
+
 int durable_replace(int folder, const char *name, const uint8_t *bytes, size_t length)
 {
-    char beside[76];
-    int size = snprintf(beside, sizeof beside, "%s.conepalhui-new", name);
-    if (size < 0 || (size_t)size >= sizeof beside) {
-        errno = ENAMETOOLONG;
+    char beside[BESIDE];
+    if (name_beside(beside, name) == -1)
         return -1;
-    }
-    if (write_new(folder, beside, bytes, length) == -1 || renameat(folder, beside, folder, name) == -1) {
-        int error = errno;
-        unlinkat(folder, beside, 0); /* On a full disk its room is wanted. */
-        errno = error;
-        return -1;
-    }
+    if (write_new(folder, beside, bytes, length) == -1 || renameat(folder, beside, folder, name) == -1)
+        return give_up(folder, beside);
     return sync_whole(folder); /* The new name is in the folder, and is to stay there. */
+}
+
+int durable_create(int folder, const char *name, const uint8_t *bytes, size_t length)
+{
+    char beside[BESIDE];
+    if (name_beside(beside, name) == -1)
+        return -1;
+    /* A second name is given only where it is free: unlike a new name it takes no other file's place. */
+    if (write_new(folder, beside, bytes, length) == -1 || linkat(folder, beside, folder, name, 0) == -1)
+        return give_up(folder, beside);
+    if (unlinkat(folder, beside, 0) == -1)
+        return -1;
+    return sync_whole(folder);
 }
 
 int durable_remove(int folder, const char *name)

@@ -31,6 +31,12 @@ ssize_t durable_read(int folder, const char *name, uint8_t *bytes, size_t room);
 int durable_replace(int folder, const char *name, const uint8_t *bytes, size_t length);
 
 /*
+ * The same for a file name that is not there yet, and never takes another file's place: where there is one, or anything
+ * else of that name, it gives -1 with EEXIST. After any other failure the new file may be there, whole, or not.
+ */
+int durable_create(int folder, const char *name, const uint8_t *bytes, size_t length);
+
+/*
  * Removes the file name, which need not be there. Gives 0 once a power cut would not bring it back. Gives -1 with errno
  * otherwise: the file may then be there or not.
  */

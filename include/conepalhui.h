@@ -282,8 +282,8 @@ conepalhui_answer conepalhui_convert_first(const uint8_t *old_plan, size_t old_p
  *        comes too late at any offset, and where a leg would lie more than 7 periods late
  *
  * With the periods of most plants this takes milliseconds on the fullest plan. With periods that have little in common
- * it can be long: seconds or minutes where they are near 1,000,000,000 ns. The call cannot be stopped; the next one
- * looks in pieces.
+ * the search can be long, many seconds where the new one is near 1,000,000,000 ns. The call cannot be stopped; the next
+ * one looks in pieces.
  */
 conepalhui_admission conepalhui_admit(const uint8_t *plan, size_t plan_len, const uint32_t *route, size_t route_len,
                                       uint32_t period, uint32_t deadline, uint32_t octets,

@@ -11,6 +11,7 @@
 #include "conepalhui.h"
 
 #include <inttypes.h>
+#include <stdbool.h>
 #include <stdio.h>
 #include <stdlib.h>
 #include <string.h>
@@ -33,7 +34,7 @@ static void fault(const char *name, const char *what)
 
 /* ---- Lent buffers */
 
-enum { PLAN, CURSOR, NEW_PLAN, OUT, BUFFERS };
+enum { PLAN, CURSOR, ROUTE, NEW_PLAN, OUT, BUFFERS };
 
 static struct {
     uint8_t *memory; /* ROOM bytes, and then a page that may not be touched */
@@ -74,6 +75,15 @@ static void lend(int which, size_t length, const char *text)
     lent[which].length = length;
     put_hex(lent[which].bytes, text);
     memcpy(lent[which].before, lent[which].memory, ROOM);
+}
+
+/* Lends the numbers of so many links, at an address that a number may have. */
+static void lend_route(const uint32_t *links, size_t count)
+{
+    lend(ROUTE, count * sizeof *links, "");
+    if (count != 0)
+        memcpy(lent[ROUTE].bytes, links, count * sizeof *links);
+    memcpy(lent[ROUTE].before, lent[ROUTE].memory, ROOM);
 }
 
 /* Says that the buffer is to begin with these bytes now, and to be for the rest what it was. */
@@ -120,6 +130,7 @@ static void compare(const char *name, conepalhui_answer answer, struct due due)
     }
     expect_bytes(name, PLAN, "");
     expect_bytes(name, CURSOR, "");
+    expect_bytes(name, ROUTE, "");
     expect_bytes(name, NEW_PLAN, due.new_plan);
     expect_bytes(name, OUT, due.out);
     if (*due.out != '\0' && conepalhui_cursor_length(lent[OUT].bytes) != hex_length(due.out))
@@ -164,6 +175,7 @@ static void lend_all(const char *plan, const char *cursor, size_t new_plan_len, 
 {
     lend(PLAN, hex_length(plan), plan);
     lend(CURSOR, hex_length(cursor), cursor);
+    lend_route(NULL, 0);
     lend(NEW_PLAN, new_plan_len, "");
     lend(OUT, out_len, "");
 }
@@ -196,6 +208,82 @@ static void convert(const char *name, const char *old_plan, size_t new_plan_len,
 {
     lend_all(old_plan, "", new_plan_len, 0);
     compare(name, call_convert(), due);
+}
+
+/* What is wanted of a new stream: its route, as so many numbers of links, and its numbers. */
+struct wanted {
+    uint32_t links[9];
+    size_t count;
+    uint32_t period, deadline, octets;
+};
+
+/* What an admission has to give, and to write. */
+struct due_admission {
+    uint32_t result, number, offset;
+    const char *new_plan;
+};
+
+static struct due_admission admits(uint32_t offset, const char *new_plan)
+{
+    return (struct due_admission){0, (uint32_t)hex_length(new_plan), offset, new_plan};
+}
+
+static struct due_admission none_yet(uint32_t until)
+{
+    return (struct due_admission){1, 0, until, ""};
+}
+
+static struct due_admission not_admitted(uint32_t result, uint32_t at)
+{
+    return (struct due_admission){result, at, 0, ""};
+}
+
+static conepalhui_admission call_admit(struct wanted wanted)
+{
+    return conepalhui_admit(lent[PLAN].bytes, lent[PLAN].length, (const uint32_t *)(const void *)lent[ROUTE].bytes,
+                            wanted.count, wanted.period, wanted.deadline, wanted.octets, lent[NEW_PLAN].bytes,
+                            lent[NEW_PLAN].length);
+}
+
+static conepalhui_admission call_between(struct wanted wanted, uint32_t from, uint32_t until)
+{
+    return conepalhui_admit_between(lent[PLAN].bytes, lent[PLAN].length,
+                                    (const uint32_t *)(const void *)lent[ROUTE].bytes, wanted.count, wanted.period,
+                                    wanted.deadline, wanted.octets, from, until, lent[NEW_PLAN].bytes,
+                                    lent[NEW_PLAN].length);
+}
+
+static void compare_admission(const char *name, conepalhui_admission given, struct due_admission due)
+{
+    if (given.offset != due.offset) {
+        fault(name, "another offset");
+        printf("    it is %" PRIu32 ", and %" PRIu32 " is due\n", given.offset, due.offset);
+    }
+    compare(name, (conepalhui_answer){given.result, given.number},
+            (struct due){due.result, due.number, "", due.new_plan});
+}
+
+static void lend_to_admit(const char *plan, struct wanted wanted, size_t new_plan_len)
+{
+    lend_all(plan, "", new_plan_len, 0);
+    lend_route(wanted.links, wanted.count);
+}
+
+static void between(const char *name, const char *plan, struct wanted wanted, uint32_t from, uint32_t until,
+                    size_t new_plan_len, struct due_admission due)
+{
+    lend_to_admit(plan, wanted, new_plan_len);
+    compare_admission(name, call_between(wanted, from, until), due);
+}
+
+/* The whole admission, and the same as a piece of all first offsets, and of more than there are. */
+static void admit(const char *name, const char *plan, struct wanted wanted, size_t new_plan_len,
+                  struct due_admission due)
+{
+    lend_to_admit(plan, wanted, new_plan_len);
+    compare_admission(name, call_admit(wanted), due);
+    between(name, plan, wanted, 0, wanted.period, new_plan_len, due);
+    between(name, plan, wanted, 0, TOP, new_plan_len, due);
 }
 
 /* ---- Plan A, with another revision and with other offsets of the legs 0 and 2 */
@@ -383,7 +471,146 @@ static void conversions(void)
     move("nor for a move", first_a, "00 00 00", (struct moved){0, 0, 0}, ROOM, 15, refused(112, 41));
 }
 
-/* Each plan here is refused in the same way by all three calls, with the position of its refusal. */
+/* ---- Admissions */
+
+/* Plan A mended, with a third stream of this period over link 0, whose one leg begins at this offset. */
+#define PLAN_A_AND(period, offset) \
+    "01 02 03 04 64 " \
+    "01 02 08 F4 03 " \
+    "02 03 08 F4 03 " \
+    "A0 8D 06 B0 12 40 00 02 " \
+    "F0 93 09 D0 0F 40 02 01 " \
+    period " D0 0F 40 03 01 " \
+    "00 00 00 00 " \
+    "00 01 98 09 00 " \
+    "01 00 A0 05 00 " \
+    "02 00 " offset " 00"
+
+#define MENDED PLAN_A("00", "00", "A0 05") /* Plan A without its overlap: accepted */
+#define NUMBERS 44                         /* so many has Plan A with a third stream of one leg */
+#define THIRD(period) ((struct wanted){{0}, 1, period, 2000, 64})
+
+/* Two links in a row, and no stream. A frame is at the next node 1,176 ns after it was sent, by every clock. */
+static const char no_streams[] = "00 02 00 00 64 01 02 08 F4 03 02 03 08 F4 03";
+
+/*
+ * The legs on link 0 hold it from 0 to 672 and from 672 to 1,344 ns, and the new stream's leg comes right after them.
+ * With a period of 50,000 ns it comes there too; with one of 2,016 ns it would meet them sooner or later.
+ */
+static void admissions(void)
+{
+    const char *carried = "01 02 01 02 64 01 02 08 F4 03 02 03 08 F4 03 98 09 B0 12 40 00 02 00 00 00 00 00 01 00 01";
+    const char *later = "01 02 01 02 64 01 02 08 F4 03 02 03 08 F4 03 99 09 B0 12 40 00 02 00 00 01 00 00 01 00 01";
+    const char *one_leg = ONE_LEG("E8 07", "E8 07", "00"); /* a stream of 1,000 ns on the only link */
+    admit("after leg 2", MENDED, THIRD(100000), 5 * NUMBERS, admits(1344, PLAN_A_AND("A0 8D 06", "C0 0A")));
+    admit("rest of the new plan", MENDED, THIRD(100000), ROOM, admits(1344, PLAN_A_AND("A0 8D 06", "C0 0A")));
+    admit("period 50,000", MENDED, THIRD(50000), ROOM, admits(1344, PLAN_A_AND("D0 86 03", "C0 0A")));
+    admit("no slot, period 2,016", MENDED, THIRD(2016), ROOM, not_admitted(118, 0));
+    admit("a link that is full", one_leg, (struct wanted){{0}, 1, 1000, 1000, 64}, ROOM, not_admitted(118, 0));
+    admit("deadline 1,176", MENDED, (struct wanted){{1}, 1, 100000, 1176, 64}, ROOM,
+          admits(0, "01 02 03 04 64 01 02 08 F4 03 02 03 08 F4 03 A0 8D 06 B0 12 40 00 02 F0 93 09 D0 0F 40 02 01 "
+                    "A0 8D 06 98 09 40 03 01 00 00 00 00 00 01 98 09 00 01 00 A0 05 00 02 01 00 00"));
+    admit("deadline 1,175", MENDED, (struct wanted){{1}, 1, 100000, 1175, 64}, ROOM, not_admitted(118, 0));
+    admit("a start of a period", no_streams, (struct wanted){{0, 1}, 2, 1176, 2352, 64}, ROOM, admits(0, carried));
+    admit("1 ns less", no_streams, (struct wanted){{0, 1}, 2, 1177, 2352, 64}, ROOM, admits(1, later));
+    admit("a window of its own", no_streams, (struct wanted){{0}, 1, 671, 671, 64}, ROOM, not_admitted(118, 0));
+    start("the new plan", PLAN_A_AND("A0 8D 06", "C0 0A"), 15, gives(0, 18, "01 00 00"));
+    slice("the new plan", PLAN_A_AND("A0 8D 06", "C0 0A"), "01 00 00", TOP, 15, gives(0, 18, "01 04 00"));
+    slice("1 ns sooner", PLAN_A_AND("A0 8D 06", "BF 0A"), "01 00 00", TOP, 15, gives(5, 18, "01 03 05"));
+    slice("believed: a cursor of Plan A, moved once", PLAN_A_AND("A0 8D 06", "C0 0A"), "01 03 00", TOP, 15,
+          gives(0, 6, "01 04 00"));
+}
+
+/* Pieces: each admits at its own least offset, or tells where to look on. */
+static void pieces(void)
+{
+    const char *at_1344 = PLAN_A_AND("A0 8D 06", "C0 0A"), *at_1345 = PLAN_A_AND("A0 8D 06", "C1 0A");
+    between("up to 1,344", MENDED, THIRD(100000), 0, 1344, ROOM, none_yet(1344));
+    between("from 1,344", MENDED, THIRD(100000), 1344, 1345, ROOM, admits(1344, at_1344));
+    between("from 1,345", MENDED, THIRD(100000), 1345, 1346, ROOM, admits(1345, at_1345));
+    between("up to 1,345", MENDED, THIRD(100000), 0, 1345, 5 * NUMBERS, admits(1344, at_1344));
+    between("one byte too few", MENDED, THIRD(100000), 0, 1344, 5 * NUMBERS - 1, not_admitted(115, 0));
+    between("nothing to look at", MENDED, THIRD(100000), 0, 0, ROOM, none_yet(0));
+    between("the end before the start", MENDED, THIRD(100000), 5000, 4000, ROOM, none_yet(4000));
+    between("the last ns of the window", MENDED, THIRD(100000), 99328, 100000, ROOM,
+            admits(99328, PLAN_A_AND("A0 8D 06", "80 88 06")));
+    between("after it", MENDED, THIRD(100000), 99329, 99999, ROOM, none_yet(99999));
+    between("after it, to the end", MENDED, THIRD(100000), 99329, 100000, ROOM, not_admitted(118, 0));
+    between("past the period", MENDED, THIRD(100000), 100000, TOP, ROOM, not_admitted(118, 0));
+    between("nothing at the end", MENDED, THIRD(100000), TOP, TOP, ROOM, not_admitted(118, 0));
+    between("20 before none yet", MENDED, THIRD(0), 0, 0, ROOM, not_admitted(120, 0));
+    between("19 before none yet", plan_a, THIRD(100000), 0, 1, ROOM, not_admitted(119, 0));
+}
+
+/* Goes through the first offsets in pieces of this length, as the header does. The last answer is that of the whole. */
+static void in_pieces(const char *name, const char *plan, struct wanted wanted, uint32_t step, struct due_admission due)
+{
+    uint32_t from = 0, end = 0;
+    for (;;) {
+        end = wanted.period - from > step ? from + step : wanted.period;
+        bool last = due.result == 0 ? from <= due.offset && due.offset < end : end == wanted.period;
+        between(name, plan, wanted, from, end, ROOM, last ? due : none_yet(end));
+        if (last || faults > 20)
+            return;
+        from = end;
+    }
+}
+
+/* A route of more links than a table may have legs. */
+static void admit_long_route(void)
+{
+    const struct wanted wanted = {{0}, ROOM / 4, 100000, 2000, 64};
+    lend_all(MENDED, "", ROOM, 0);
+    lend(ROUTE, ROOM, "");
+    compare_admission("a route of 16,384 links", call_admit(wanted), not_admitted(120, 0));
+    compare_admission("a route of 16,384 links", call_between(wanted, 0, TOP), not_admitted(120, 0));
+}
+
+static void refused_admissions(void)
+{
+    const char *ring = "00 02 00 00 00 01 02 08 00 02 01 08 00";
+    static const struct {
+        const char *name;
+        struct wanted wanted;
+    } tried[] = {
+        {"no link", {{0}, 0, 100000, 2000, 64}},
+        {"a link that is not there", {{2}, 1, 100000, 2000, 64}},
+        {"link 2^32 - 1", {{TOP}, 1, 100000, 2000, 64}},
+        {"a broken route", {{1, 0}, 2, 100000, 4000, 64}},
+        {"a link twice", {{0, 0}, 2, 100000, 4000, 64}},
+        {"period 0", {{0}, 1, 0, 2000, 64}},
+        {"a period of more than 1 s", {{0}, 1, 1000000001, 2000, 64}},
+        {"period 2^32 - 1", {{0}, 1, TOP, 2000, 64}},
+        {"deadline 0", {{0}, 1, 100000, 0, 64}},
+        {"more than 8 periods", {{0}, 1, 1000, 8001, 64}},
+        {"63 octets", {{0}, 1, 100000, 2000, 63}},
+        {"1,523 octets", {{0}, 1, 100000, 2000, 1523}},
+    };
+    for (size_t i = 0; i < sizeof tried / sizeof *tried; i++) {
+        admit(tried[i].name, MENDED, tried[i].wanted, ROOM, not_admitted(120, 0));
+        admit(tried[i].name, MENDED, tried[i].wanted, 0, not_admitted(120, 0));
+    }
+    admit("back to node 1", ring, (struct wanted){{0, 1}, 2, 100000, 4000, 64}, ROOM, not_admitted(120, 0));
+    admit("nine links", ring, (struct wanted){{0, 1, 0, 1, 0, 1, 0, 1, 0}, 9, 100000, 9000, 64}, ROOM,
+          not_admitted(120, 0));
+    admit("one byte too few", MENDED, THIRD(100000), 5 * NUMBERS - 1, not_admitted(115, 0));
+    admit("room for its bytes alone", MENDED, THIRD(100000), 58, not_admitted(115, 0));
+    admit("no room", MENDED, THIRD(100000), 0, not_admitted(115, 0));
+    admit("not accepted", plan_a, THIRD(100000), 5 * NUMBERS, not_admitted(119, 0));
+    admit("15 before 19", plan_a, THIRD(100000), 5 * NUMBERS - 1, not_admitted(115, 0));
+    admit("19 before 18", plan_a, (struct wanted){{0}, 1, 100000, 1, 64}, ROOM, not_admitted(119, 0));
+    admit("15 before 18", MENDED, (struct wanted){{0}, 1, 100000, 1, 64}, 0, not_admitted(115, 0));
+    admit("20 before 19", plan_a, THIRD(0), ROOM, not_admitted(120, 0));
+    admit("at the last revision", PLAN_A("FF FF FF FF 0F", "00", "A0 05"), THIRD(100000), ROOM, not_admitted(111, 0));
+    admit("11 before 20", plan_last, THIRD(0), 0, not_admitted(111, 0));
+    admit("to the last revision", "FE FF FF FF 0F 01 00 00 00 01 02 08 00", (struct wanted){{0}, 1, 1000, 1000, 64},
+          ROOM, admits(0, "FF FF FF FF 0F 01 01 01 00 01 02 08 00 E8 07 E8 07 40 00 01 00 00 00 00"));
+    admit_long_route();
+    admit("a file of the first layout", first_a, THIRD(100000), ROOM, not_admitted(112, 41));
+    admit("all null", "", (struct wanted){{0}, 0, 0, 0, 0}, 0, not_admitted(112, 0));
+}
+
+/* Each plan here is refused in the same way by all calls, with the position of its refusal. */
 static void refused_plans(void)
 {
     static const struct {
@@ -409,6 +636,8 @@ static void refused_plans(void)
         start(name, name, 15, due);
         slice(name, name, "00 00 00", 5, 15, due);
         move(name, name, "00 00 00", (struct moved){0, 0, 0}, ROOM, 15, due);
+        admit(name, name, THIRD(100000), ROOM, not_admitted(tried[i].result, tried[i].at));
+        admit(name, name, THIRD(0), 0, not_admitted(tried[i].result, tried[i].at));
     }
 }
 
@@ -495,6 +724,11 @@ static void shared_memory(void)
     compare("the cursor in the plan",
             conepalhui_slice_full(lent[PLAN].bytes, 5, lent[PLAN].bytes + 1, 3, 7, lent[OUT].bytes, 15),
             gives(0, 0, "00 00 00"));
+    lend_all("00 00 00 00 00 A5 A5 A5", "", ROOM, 0);
+    compare_admission("the route in the plan",
+                      conepalhui_admit(lent[PLAN].bytes, 5, (const uint32_t *)(const void *)lent[PLAN].bytes, 1, 1000,
+                                       1000, 64, lent[NEW_PLAN].bytes, ROOM),
+                      not_admitted(120, 0));
 }
 
 static void helpers(void)
@@ -550,11 +784,26 @@ static void stack_convert(void)
     call_convert();
 }
 
+/* A stream that is like those of the largest plan, and over the first link alone. */
+static const struct wanted like_all = {{0, 1, 2, 3}, 4, 1000000000, 1000000000, 64};
+static const struct wanted like_one = {{0}, 1, 1000000000, 1000000000, 64};
+
+static void stack_admit(void)
+{
+    call_admit(lent[PLAN].length > 100 ? like_all : like_one);
+}
+
+static void stack_between(void)
+{
+    call_between(lent[PLAN].length > 100 ? like_all : like_one, 0, TOP);
+}
+
 /*
- * The largest plan: 512 streams of four legs over four links in a row, and 252 links that no stream takes. The other
- * is the same in the first layout.
+ * The largest plan: 512 streams of four legs over four links in a row, and 252 links that no stream takes. The second
+ * is the same in the first layout, and the third has one stream less.
  */
 static char largest[3 * CONEPALHUI_PLAN_BYTES], first_largest[3 * CONEPALHUI_PLAN_BYTES];
+static char all_but_one[3 * CONEPALHUI_PLAN_BYTES];
 
 /* Adds a number at the end of a text. Gives the new end. */
 static char *add_number(char *end, uint32_t number)
@@ -564,19 +813,32 @@ static char *add_number(char *end, uint32_t number)
     return end + sprintf(end, "%02X ", (unsigned)number);
 }
 
-static void make_largest(char *end, int leg_numbers)
+static void make_largest(char *end, uint32_t revision, uint32_t streams, int leg_numbers)
 {
     for (int i = 0; i < 5; i++)
-        end = add_number(end, (const uint32_t[]){7, 256, 512, 2048, 100}[i]);
+        end = add_number(end, (const uint32_t[]){revision, 256, streams, 4 * streams, 100}[i]);
     for (uint32_t link = 0; link < 256; link++)
         for (int i = 0; i < 4; i++)
             end = add_number(end, (const uint32_t[]){link, link + 1, 8, 500}[i]);
-    for (uint32_t stream = 0; stream < 512; stream++)
+    for (uint32_t stream = 0; stream < streams; stream++)
         for (int i = 0; i < 5; i++)
             end = add_number(end, (const uint32_t[]){1000000000, 1000000000, 64, 4 * stream, 4}[i]);
-    for (uint32_t leg = 0; leg < 2048; leg++)
+    for (uint32_t leg = 0; leg < 4 * streams; leg++)
         for (int i = 0; i < leg_numbers; i++)
             end = add_number(end, (const uint32_t[]){leg / 4, leg % 4, leg / 4 * 672 + leg % 4 * 1176, 0}[i]);
+}
+
+/* The largest plan without its last stream: the same stream is admitted again, where it was, and nothing more. */
+static void full_plans(void)
+{
+    struct wanted five = {{0, 1, 2, 3, 4}, 5, 1000000000, 1000000000, 64};
+    make_largest(all_but_one, 6, 511, 4);
+    admit("the last stream of the largest plan", all_but_one, like_all, CONEPALHUI_PLAN_BYTES,
+          admits(511 * 672, largest));
+    admit("one byte too few for it", all_but_one, like_all, CONEPALHUI_PLAN_BYTES - 1, not_admitted(115, 0));
+    admit("one leg too many", all_but_one, five, CONEPALHUI_PLAN_BYTES, not_admitted(120, 0));
+    admit("one stream too many", largest, like_all, CONEPALHUI_PLAN_BYTES, not_admitted(120, 0));
+    between("the last stream, up to its place", all_but_one, like_all, 0, 511 * 672, ROOM, none_yet(511 * 672));
 }
 
 static void stacks(void)
@@ -585,15 +847,19 @@ static void stacks(void)
         const char *name;
         void (*call)(void);
         const char *plans[2];
+        size_t most;
     } calls[] = {
-        {"start", stack_start, {largest, plan_a}},
-        {"slice_full", stack_slice, {largest, plan_a}},
-        {"slice", stack_short_slice, {largest, plan_a}},
-        {"move", stack_move, {largest, plan_a}},
-        {"convert_first", stack_convert, {first_largest, first_a}},
+        {"start", stack_start, {largest, plan_a}, CONEPALHUI_STACK_BYTES},
+        {"slice_full", stack_slice, {largest, plan_a}, CONEPALHUI_STACK_BYTES},
+        {"slice", stack_short_slice, {largest, plan_a}, CONEPALHUI_STACK_BYTES},
+        {"move", stack_move, {largest, plan_a}, CONEPALHUI_STACK_BYTES},
+        {"convert_first", stack_convert, {first_largest, first_a}, CONEPALHUI_STACK_BYTES},
+        {"admit", stack_admit, {all_but_one, MENDED}, CONEPALHUI_ADMIT_STACK_BYTES},
+        {"admit_between", stack_between, {all_but_one, MENDED}, CONEPALHUI_ADMIT_STACK_BYTES},
     };
-    make_largest(largest, 4);
-    make_largest(first_largest, 3);
+    make_largest(largest, 7, 512, 4);
+    make_largest(first_largest, 7, 512, 3);
+    full_plans();
     start("largest plan", largest, 15, gives(0, 2102272, "07 00 00"));
     slice("largest plan", largest, "07 00 00", TOP, 15, gives(0, 2102272, "07 80 10 00"));
     slice("largest plan, paused", largest, "07 FF 0F 80 10", 1, 15, gives(1, 1, "07 FF 0F 81 10"));
@@ -603,11 +869,12 @@ static void stacks(void)
         size_t most = 0;
         for (int which = 0; which < 2; which++) {
             lend_all(calls[i].plans[which], which == 0 ? "07 00 00" : "00 00 00", CONEPALHUI_PLAN_BYTES, 15);
+            lend_route(like_all.links, which == 0 ? like_all.count : like_one.count);
             size_t used = stack_of(calls[i].call);
             most = used > most ? used : most;
         }
         cases++;
-        if (most > CONEPALHUI_STACK_BYTES)
+        if (most > calls[i].most)
             fault(calls[i].name, "it uses more of the stack than the header says");
         printf("stack of %s: %zu bytes\n", calls[i].name, most);
     }
@@ -625,6 +892,13 @@ int main(void)
     moves();
     moves_by_periods();
     conversions();
+    admissions();
+    pieces();
+    in_pieces("pieces of 1 ns", no_streams, (struct wanted){{0, 1}, 2, 1177, 2352, 64}, 1,
+              admits(1, "01 02 01 02 64 01 02 08 F4 03 02 03 08 F4 03 99 09 B0 12 40 00 02 00 00 01 00 00 01 00 01"));
+    in_pieces("pieces of 100 ns", MENDED, THIRD(100000), 100, admits(1344, PLAN_A_AND("A0 8D 06", "C0 0A")));
+    in_pieces("pieces of 7 ns, and none fits", MENDED, THIRD(2016), 7, not_admitted(118, 0));
+    refused_admissions();
     rooms_and_orders();
     nulls();
     shared_memory();

@@ -3,10 +3,11 @@
  *
  *     host_threads ROUNDS PLAN...
  *
- * For each plan file there is a fixed row of calls: starts, slices, moves, conversions and refused calls, each given
- * what the calls before it wrote. One thread alone makes the row first, and keeps each answer and every byte of the lent
- * memory. Then all threads make their rows at the same time and compare, again and again until each has done so ROUNDS
- * times. The exit status is 0 only where nothing differs. tests/host.test builds and runs it.
+ * For each plan file there is a fixed row of calls: starts, slices, moves, conversions, admissions and refused calls,
+ * each given what the calls before it wrote; conversions and admissions are given the plan file as it was read. One
+ * thread alone makes the row first, and keeps each answer and every byte of the lent memory. Then all threads make
+ * their rows at the same time and compare, again and again until each has done so ROUNDS times. The exit status is 0
+ * only where nothing differs. tests/host.test builds and runs it.
  */
 #define _GNU_SOURCE
 
@@ -19,11 +20,12 @@
 #include <stdlib.h>
 #include <string.h>
 
-enum { THREADS = 8, CALLS = 42, OUT = 24, MOVES = CALLS / 6, ROOM = CONEPALHUI_PLAN_BYTES };
+enum { THREADS = 8, KINDS = 8, CALLS = 7 * KINDS, OUT = 24, MOVES = CALLS / KINDS, ROOM = CONEPALHUI_PLAN_BYTES };
 
 /* All that one call gives: its answer, and what the memory is that it was lent to write to. */
 struct given {
     conepalhui_answer answer;
+    uint32_t offset; /* of an admission; otherwise 0 */
     uint8_t out[OUT], new_plan[ROOM];
 };
 
@@ -32,7 +34,7 @@ struct row {
     const char *name;
     uint8_t file[ROOM], first[ROOM], plan[ROOM], cursor[OUT]; /* first is the file in the first layout */
     size_t file_len, first_len, plan_len, cursor_len;
-    size_t new_plan_len; /* so much is lent for a new plan: enough after all moves */
+    uint32_t link; /* the last one of the file, which new streams take */
     struct given alone[CALLS], now;
     unsigned made, faults;
 };
@@ -48,13 +50,30 @@ static void stop(const char *what)
     exit(2);
 }
 
+/* Admits a stream to the file as it was read, whole or a piece of 1 ms. */
+static void make_admission(struct row *row, unsigned which)
+{
+    struct given *now = &row->now;
+    conepalhui_admission given;
+    if (which % KINDS == 5)
+        given = conepalhui_admit(row->file, row->file_len, &row->link, 1, 1000000, 1000000, 64 + which, now->new_plan,
+                                 ROOM);
+    else
+        given = conepalhui_admit_between(row->file, row->file_len, &row->link, 1, 4000000, 4000000, 64, 1000 * which,
+                                         1000 * which + 1000000, now->new_plan, ROOM);
+    now->answer.result = given.result;
+    now->answer.number = given.number;
+    now->offset = given.offset;
+}
+
 /* Makes one call of the row, with lent memory that is the same each time, and goes on from what it wrote. */
 static void make_call(struct row *row, unsigned which)
 {
     struct given *now = &row->now;
     memset(now->out, 0xA5, sizeof now->out);
-    memset(now->new_plan, 0xA5, row->new_plan_len);
-    switch (which % 6) {
+    memset(now->new_plan, 0xA5, ROOM);
+    now->offset = 0;
+    switch (which % KINDS) {
     case 0: /* a start, at first of the file as it was read */
         now->answer = conepalhui_start(row->plan, row->plan_len, now->out, sizeof now->out);
         break;
@@ -64,7 +83,7 @@ static void make_call(struct row *row, unsigned which)
         break;
     case 2:
         now->answer = conepalhui_move(row->plan, row->plan_len, row->cursor, row->cursor_len, which % 3, 1000 * which,
-                                      which % 8, now->new_plan, row->new_plan_len, now->out, sizeof now->out);
+                                      which % 7, now->new_plan, ROOM, now->out, sizeof now->out);
         break;
     case 3:
         now->answer.number = 0;
@@ -72,7 +91,11 @@ static void make_call(struct row *row, unsigned which)
                                               now->out, sizeof now->out);
         break;
     case 4:
-        now->answer = conepalhui_convert_first(row->first, row->first_len, now->new_plan, row->new_plan_len);
+        now->answer = conepalhui_convert_first(row->first, row->first_len, now->new_plan, ROOM);
+        return;
+    case 5:
+    case 6:
+        make_admission(row, which);
         return;
     default: /* refused: a byte is missing at the end of the plan */
         now->answer = conepalhui_slice_full(row->plan, row->plan_len - 1, row->cursor, row->cursor_len, which,
@@ -82,13 +105,13 @@ static void make_call(struct row *row, unsigned which)
         return;
     row->cursor_len = conepalhui_cursor_length(now->out);
     memcpy(row->cursor, now->out, row->cursor_len);
-    if (which % 6 == 2) {
+    if (which % KINDS == 2) {
         row->plan_len = now->answer.number;
         memcpy(row->plan, now->new_plan, row->plan_len);
     }
 }
 
-/* Makes the file that the plan has in the first layout: all but the last number of each leg. */
+/* Makes the file that the plan has in the first layout: all but the last number of each leg. Finds the last link. */
 static void make_first(struct row *row)
 {
     uint32_t head[5] = {0}, count = 0, shift = 0;
@@ -102,6 +125,7 @@ static void make_first(struct row *row)
         shift = byte < 0x80 ? 0 : shift + 7;
         count += byte < 0x80;
     }
+    row->link = head[1] - 1;
 }
 
 static void begin_row(struct row *row)
@@ -115,8 +139,8 @@ static bool is_same(const struct row *row, unsigned which)
 {
     const struct given *now = &row->now, *alone = &row->alone[which];
     return now->answer.result == alone->answer.result && now->answer.number == alone->answer.number &&
-           memcmp(now->out, alone->out, sizeof now->out) == 0 &&
-           memcmp(now->new_plan, alone->new_plan, row->new_plan_len) == 0;
+           now->offset == alone->offset && memcmp(now->out, alone->out, sizeof now->out) == 0 &&
+           memcmp(now->new_plan, alone->new_plan, ROOM) == 0;
 }
 
 static void make_row(struct row *row)
@@ -148,9 +172,8 @@ static void read_plan(struct row *row, const char *name)
         stop("a plan cannot be opened");
     row->name = name;
     row->file_len = fread(row->file, 1, sizeof row->file, file);
-    row->new_plan_len = row->file_len + MOVES * CONEPALHUI_MOVE_BYTES;
     fclose(file);
-    if (row->new_plan_len > ROOM)
+    if (row->file_len + MOVES * CONEPALHUI_MOVE_BYTES > ROOM)
         stop("a plan is too long");
     make_first(row);
 }
@@ -162,26 +185,33 @@ static bool is_converted(const struct row *row)
            memcmp(row->now.new_plan, row->file, row->file_len) == 0;
 }
 
-/* Makes the row alone. Moves have to be granted, slices to look at places, and the cut plan to be refused. */
-static void run_alone(struct row *row)
+/*
+ * Makes the row alone. Moves have to be granted, slices to look at places, the cut plan to be refused, and streams to
+ * be admitted, unless the plan is not accepted. Gives how many were.
+ */
+static unsigned run_alone(struct row *row)
 {
-    unsigned seen[4] = {0, 0, 0, 0};
+    unsigned seen[6] = {0, 0, 0, 0, 0, 0};
     begin_row(row);
     for (unsigned which = 0; which < CALLS; which++) {
         make_call(row, which);
         row->alone[which] = row->now;
-        seen[0] += which % 6 == 2 && row->now.answer.result == CONEPALHUI_GRANTED;
-        seen[1] += which % 6 == 1 && row->now.answer.number > 0;
-        seen[2] += which % 6 == 5 && conepalhui_refusal(row->now.answer.result) == 12;
-        seen[3] += which % 6 == 4 && is_converted(row);
+        bool admits = which % KINDS == 5 || which % KINDS == 6;
+        seen[0] += which % KINDS == 2 && row->now.answer.result == CONEPALHUI_GRANTED;
+        seen[1] += which % KINDS == 1 && row->now.answer.number > 0;
+        seen[2] += which % KINDS == 7 && conepalhui_refusal(row->now.answer.result) == 12;
+        seen[3] += which % KINDS == 4 && is_converted(row);
+        seen[4] += admits && row->now.answer.result == CONEPALHUI_GRANTED;
+        seen[5] += admits && conepalhui_refusal(row->now.answer.result) == 19;
     }
-    if (seen[0] != MOVES || seen[1] == 0 || seen[2] != CALLS / 6 || seen[3] != CALLS / 6)
+    if (seen[0] != MOVES || seen[1] == 0 || seen[2] != MOVES || seen[3] != MOVES || seen[4] + seen[5] != 2 * MOVES)
         stop("a row of calls does not try what it is there for");
+    return seen[4];
 }
 
 int main(int count, char **words)
 {
-    unsigned calls = 0, faults = 0;
+    unsigned calls = 0, faults = 0, admitted = 0;
     if (count < 4 || count - 2 > THREADS)
         stop("usage: host_threads ROUNDS PLAN PLAN...");
     rounds = (unsigned)strtoul(words[1], NULL, 10);
@@ -190,8 +220,10 @@ int main(int count, char **words)
     pthread_barrier_init(&gate, NULL, row_count);
     for (unsigned i = 0; i < row_count; i++) {
         read_plan(&rows[i], words[i + 2]);
-        run_alone(&rows[i]);
+        admitted += run_alone(&rows[i]);
     }
+    if (admitted < 4 * MOVES)
+        stop("too few streams are admitted");
     for (unsigned i = 0; i < row_count; i++)
         if (pthread_create(&rows[i].thread, NULL, run_rows, &rows[i]) != 0)
             stop("a thread cannot be made");
