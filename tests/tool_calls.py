@@ -111,7 +111,8 @@ class Desk:
 
 def build():
     """Makes first calls, which prove and build the programs, however long that takes."""
-    for words in (["start", "missing", "missing"], ["check", "/dev/null"]):
+    wanted = ["--route", "0", "--period", "1", "--deadline", "1", "--octets", "64"]
+    for words in (["start", "missing", "missing"], ["check", "/dev/null"], ["admit", "missing", "missing", *wanted]):
         subprocess.run([COMMAND, *words], capture_output=True)
 
 

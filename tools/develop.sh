@@ -150,7 +150,7 @@ do_test() {
     try format rt fmt --check
     prove
     # Two tests may want a program at once. Where one cannot be built, the tests that run it fail.
-    ((failed > 0)) || (build timetable && build operator && build temporal) >/dev/null 2>&1
+    ((failed > 0)) || (build timetable && build operator && build temporal && build slots) >/dev/null 2>&1
     for file in tests/*.test; do
         # Where there is no test the pattern stands for itself.
         [[ ! -e $file && ! -L $file ]] || files+=("$file")

@@ -11,6 +11,7 @@ commands=(
     'words|[PLAN]|print the numbers of a plan, one record per line'
     'shape|[PLAN]|say whether a plan is well-formed'
     'convert|OLD NEW [first]|write a plan file of versions 1 and 2 anew, for this version'
+    'admit|PLAN NEW OPTION...|find slots for new streams, and write the plan with them to NEW'
     'network|[NETWORK [CLAIM]]|find times that keep all constraints, or test a claim'
 )
 is_installed || commands+=(
@@ -60,9 +61,9 @@ list_commands() {
         printf '  %s %-38s %s\n' "$called" "$name $arguments" "$summary"
     done
     printf '\n%s\n' "'$called help answers' explains what start, slice, move and run print."
-    printf '%s\n%s\n%s\n' 'Exit status: 0 done, accepted, granted or nothing violated; 1 a violated plan, a network without times, a false claim' \
-        'or a failed test; 2 the input was refused; 3 paused; 4 bad arguments, a file that cannot be read or written, or a program' \
-        'that cannot be built or run.'
+    printf '%s\n%s\n%s\n' 'Exit status: 0 done, accepted, granted, admitted or nothing violated; 1 a violated plan, a stream left out, a network without' \
+        'times, a false claim or a failed test; 2 the input was refused; 3 paused; 4 bad arguments, a file that cannot be read or' \
+        'written, or a program that cannot be built or run.'
 }
 
 # Prints what one command does, or what answers there are.
@@ -208,6 +209,37 @@ standard error says why. Links, streams and legs are not judged: check NEW, and 
 
 Exit status: 0 converted, 2 refused, 4 bad arguments, or a file that cannot be read or written or is there already. Cut off,
 it leaves no NEW, the whole one, or an empty file of that name, which you may remove.
+END
+}
+
+about_admit() {
+    cat <<'END'
+Looks for a slot for a new stream in the accepted plan PLAN, and writes the plan with that stream to NEW. No old leg moves,
+and the frame never waits on its way: each leg starts when the one before it has arrived. The answer is the least first
+offset with which the new plan is accepted. docs/ADMISSIONS.md says what this means and what it does not.
+
+  --period T --deadline D --octets N    the stream: T and D in ns. And its route, in one of three ways:
+  --route L,L,...                       the numbers of its links
+  --from A --to B                       the shortest way from node A to node B, by the lowest links
+  --from A --to B --via N,N,...         the way along these nodes
+
+  --streams FILE    several streams, one after the other, and nothing else: a text with a stream to a line, the same names
+                    without dashes, in any order, and perhaps 'name WORD'. What follows a '#' is a comment. For example:
+                    name press route 0,1 period 100000 deadline 5000 octets 64
+
+It prints 'admitted stream S offset X', a line for each leg with its start and arrival, and 'written streams S legs G
+revision R bytes N'; NEW is on the disk then. PLAN stays as it is, and a file that is there already is never replaced.
+Answers about a streams file begin with 'line N:', or 'line N NAME:'. A stream that is refused is left out, and NEW has the
+others; where none is admitted, nothing is written.
+
+'refused NUMBER AT' says that a stream, or the plan, is refused, and standard error says why: 18 no first offset fits; 19
+the plan is not accepted, and a second line has its first violated place; 20 the stream is out of range, its route is
+wrong, or the plan is full; 11 the revision cannot rise; others as 'check' says them. A streams file with a bad line gives
+'refused line N', one that is too long 'refused long', one without a stream 'refused streams', and nothing is written.
+
+A long search says on standard error how far it is. It can be stopped at any time, and writes nothing then; the folders of
+PLAN and NEW are locked meanwhile. Exit status: 0 all admitted, 1 some were left out, 2 refused, and nothing is written,
+4 bad arguments, or a file that cannot be read or written or is there already.
 END
 }
 

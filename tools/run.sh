@@ -191,11 +191,17 @@ release() {
     for file in "${held[@]}"; do exec {file}<&-; done
 }
 
-# Asks the program operator. Its answer is $wrote, the exit status that goes with it $status, and $why says what this command does next. What it makes is as
-# private as the plan, and its owner may read and write it. What it says on standard error is passed on, on lines of its own.
-consult() { # VERB WORD...
-    local mode pipe line ended said=0
+# What a program makes is as private as the plan, and its owner may read and write it.
+keep_private() {
+    local mode
     mode=$(stat -c %a -- "$plan") && umask "$(printf %o $((~(0$mode | 0600) & 0777)))" || stop "cannot read the plan $plan"
+}
+
+# Asks the program operator. Its answer is $wrote, the exit status that goes with it $status, and $why says what this command does next. What it says on
+# standard error is passed on, on lines of its own.
+consult() { # VERB WORD...
+    local pipe line ended said=0
+    keep_private
     exec {pipe}<> <(:) || stop "cannot make a pipe"
     wrote=$(run_program operator "$1" "$plan" "$cursor" "${@:2}" 2>&"$pipe" && printf .)
     ended=$?
@@ -309,12 +315,9 @@ find_new() { # PATH
     [[ $cursor != *.conepalhui-new && $cursor != *.seen ]] || stop "names that end in .conepalhui-new or .seen are kept for files of these commands: give $cursor another name"
 }
 
-# Converts a plan file. The layout of the old one is named, never guessed: there is one older layout so far.
-do_convert() {
-    local plan cursor held wrote status why given=() file
-    (($# == 2 || $# == 3)) || stop "convert takes an old plan file and a name for the new one: $(usage convert)"
-    [[ ${3-first} == first ]] || stop "there is no older layout '$3': the only one is 'first'"
-    prepare operator
+# Finds the plan file that is read, $plan, and the new file, and holds their folders.
+hold_old_and_new() { # PLAN NEW
+    local file
     find_input "plan file" "$1"
     [[ -f $file ]] || stop "$1 is not a file"
     plan=$(real_path "$1") || stop "cannot find the plan file $1"
@@ -322,9 +325,180 @@ do_convert() {
     find_new "$2"
     hold
     find_new "$2"
+}
+
+# Converts a plan file. The layout of the old one is named, never guessed: there is one older layout so far.
+do_convert() {
+    local plan cursor held wrote status why given=()
+    (($# == 2 || $# == 3)) || stop "convert takes an old plan file and a name for the new one: $(usage convert)"
+    [[ ${3-first} == first ]] || stop "there is no older layout '$3': the only one is 'first'"
+    prepare operator
+    hold_old_and_new "$1" "$2"
     consult convert
     release
     printf '%s' "$wrote" || stop "cannot write to standard output"
+    return $status
+}
+
+# ---- New streams
+
+# What a streams file has at most: bytes, and streams, of which no plan has more.
+most_bytes=262144 most_streams=512
+
+# Prints a word that somebody typed, or its beginning, without what a terminal would act on.
+shown_word() { # WORD
+    local more=''
+    ((${#1} <= 60)) || more=...
+    set -- "${1:0:60}"
+    printf "'%s%s'" "${1//[[:cntrl:]]/?}" "$more"
+}
+
+# Reads a number that a plan can have, $number.
+is_word() { # TEXT
+    [[ $1 =~ ^0*([0-9]{1,10})$ ]] && ((10#${BASH_REMATCH[1]} <= 4294967295)) && number=${BASH_REMATCH[1]}
+}
+
+# Adds the number that stands under a name to $numbers.
+add_number() { # NAME
+    local number
+    [[ -n ${of[$1]+given} ]] || { fault="$dashes$1 is missing"; return 1; }
+    is_word "${of[$1]}" || { fault="$dashes$1 is $(shown_word "${of[$1]}"), but it is a number from 0 to 4294967295"; return 1; }
+    numbers+=" $number"
+}
+
+# The same for a list of numbers.
+add_numbers() { # NAME
+    local number word words="${of[$1]//,/ }"
+    [[ ,${of[$1]} =~ ^(,[0-9]+)+$ ]] || { fault="$dashes$1 is $(shown_word "${of[$1]}"), but it is numbers with commas between them, and no blanks"; return 1; }
+    for word in $words; do
+        is_word "$word" || { fault="$dashes$1 has the number $(shown_word "$word"), but numbers are 0 to 4294967295"; return 1; }
+        numbers+=" $number"
+    done
+}
+
+# Adds the way of a stream to $numbers, and says which way it is, $way: 0 by links, 1 by nodes, 2 the shortest between two nodes.
+add_way() {
+    if [[ -n ${of[route]+given} ]]; then
+        [[ -z ${of[from]+given}${of[to]+given}${of[via]+given} ]] || { fault="${dashes}route stands beside ${dashes}from, ${dashes}to or ${dashes}via, and only one of the two may be there"; return 1; }
+        way=0
+        [[ -z ${of[route]} ]] || add_numbers route
+        return
+    fi
+    [[ -n ${of[from]+given} && -n ${of[to]+given} ]] || { fault="there is no ${dashes}route, and not both ${dashes}from and ${dashes}to"; return 1; }
+    way=2
+    add_number from && { [[ -z ${of[via]+given} ]] || { way=1 && add_numbers via; }; } && add_number to
+}
+
+# Reads names and values into $of.
+read_words() { # WORD...
+    while (($# > 0)); do
+        case $1 in
+        route | from | to | via | period | deadline | octets | name) ;;
+        *) fault="$(shown_word "$1") is none of route, from, to, via, period, deadline, octets and name" && return 1 ;;
+        esac
+        (($# > 1)) || { fault="there is nothing after $1"; return 1; }
+        [[ -z ${of[$1]+given} ]] || { fault="$dashes$1 is there twice"; return 1; }
+        of[$1]=$2
+        shift 2
+    done
+}
+
+# Reads what is wanted of a stream, names and values, and adds it to $wanted as the program takes it: a label, a tab and numbers. $fault says what is wrong with it.
+take_stream() { # LABEL DASHES WORD...
+    local label=$1 dashes=$2 numbers='' way head
+    local -A of=()
+    read_words "${@:3}" && add_number period && add_number deadline && add_number octets || return
+    head=$numbers numbers=''
+    add_way || return
+    [[ ${of[name]-} != *[[:cntrl:]]* ]] || { fault="the name $(shown_word "${of[name]}") has a control byte"; return 1; }
+    wanted+="$label${of[name]+ ${of[name]}}"$'\t'"$way$head$numbers"$'\n'
+}
+
+# A streams file that is refused as a whole.
+refuse_list() { # WORD SENTENCE
+    note "$2"
+    printf 'refused %s\n' "$1" || stop "cannot write to standard output"
+    return 2
+}
+
+# Reads the text of a streams file, $text.
+read_list() { # FILE
+    local file
+    find_input "streams file" "$1"
+    IFS= read -r -d '' -n $((most_bytes + 1)) text <"$file" || { text=${text#$'\xef\xbb\xbf'} && return; }
+    ((${#text} <= most_bytes)) || { refuse_list long "the streams file $1 has more than $most_bytes bytes" || return; }
+    refuse_list streams "the streams file $1 has a byte 0, and is no text"
+}
+
+# Reads a streams file into $wanted. Each line that is wrong is told, and the first is the answer.
+take_list() { # FILE
+    local text='' line lines words n=0 streams=0 first=0 fault LC_ALL=C
+    read_list "$1" || return
+    mapfile -t lines <<<"$text"
+    for line in "${lines[@]}"; do
+        n=$((n + 1)) line=${line%$'\r'}
+        read -ra words <<<"${line%%#*}"
+        ((${#words[@]} > 0)) || continue
+        streams=$((streams + 1))
+        if ((streams > most_streams)); then
+            fault="this is stream $streams, and no plan has more than $most_streams"
+        else
+            take_stream "line $n" '' "${words[@]}" && continue
+        fi
+        note "line $n: $fault"
+        ((first > 0)) || first=$n
+    done
+    ((first == 0)) || { printf 'refused line %d\n' "$first" || stop "cannot write to standard output"; return 2; }
+    ((streams > 0)) || refuse_list streams "the streams file $1 has no stream"
+}
+
+# Says what is to be known of the new plan.
+tell_admitted() { # PLAN NEW
+    local left all
+    read -r _ left all <<<"$why"
+    [[ -z $left ]] || note "left out are $left of $all streams, for the reasons above: $2 has the others"
+    note "$2 is a plan of its own, and no cursor of $1 belongs to it. To check it in slices: $(shown_call start "$2" "$2.cursor")"
+}
+
+# Asks the program slots for what is wanted. What it says on standard error is seen at once: a search may be long, and it says how far it is.
+consult_slots() { # NEW
+    local said="nothing was written"
+    keep_private
+    wrote=$(printf '%s' "$wanted" | run_program slots "$plan" "$cursor" && printf .) && take_status && return
+    [[ ! -e $cursor ]] || said="$1 is there, and may not be on the disk yet: check it"
+    stop "the program slots gave no whole answer: $said"
+}
+
+# Ends a call whose arguments say nothing of use.
+stop_admit() { stop "$1: '$called help admit' says what is needed"; } # SENTENCE
+
+# Admits streams to a plan, and writes the enlarged plan to a new file.
+do_admit() {
+    local plan cursor held wrote status why given=() files=() words=() list=() wanted='' fault
+    while (($# > 0)); do
+        case $1 in
+        --route | --from | --to | --via | --period | --deadline | --octets | --streams)
+            (($# > 1)) || stop_admit "there is nothing after $1"
+            if [[ $1 == --streams ]]; then list+=("$2"); else words+=("${1#--}" "$2"); fi
+            shift 2
+            ;;
+        -*) stop_admit "admit has no option $1" ;;
+        *) files+=("$1") && shift ;;
+        esac
+    done
+    ((${#files[@]} == 2)) || stop_admit "admit takes a plan and a name for the new one"
+    if ((${#list[@]} > 0)); then
+        ((${#list[@]} == 1 && ${#words[@]} == 0)) || stop_admit "beside --streams FILE there is no other option"
+        take_list "${list[0]}" || return
+    else
+        take_stream '' -- "${words[@]}" || stop_admit "$fault"
+    fi
+    prepare slots
+    hold_old_and_new "${files[@]}"
+    consult_slots "${files[1]}"
+    release
+    printf '%s' "$wrote" || stop "cannot write to standard output"
+    ((status == 2)) || tell_admitted "${files[@]}"
     return $status
 }
 

@@ -27,8 +27,8 @@ pub fn leg_count(t: &[u32]) -> usize {
     table::wide(header_word(t, table::LEGS_AT))
 }
 
-// Link i, and zeros where there is none.
-fn link_at(t: &[u32], i: u32) -> Link {
+// Internal: link i, and zeros where there is none.
+pub fn link_at(t: &[u32], i: u32) -> Link {
     let at = table::HEAD_WORDS + table::LINK_WORDS * table::wide(i);
     if at + table::LINK_WORDS <= t.len() {
         return table::parts::link_in(&t[at..], 0);
@@ -41,8 +41,8 @@ fn link_at(t: &[u32], i: u32) -> Link {
     }
 }
 
-// Stream i, and zeros where there is none.
-fn stream_at(t: &[u32], i: u32) -> Stream {
+// Internal: stream i, and zeros where there is none.
+pub fn stream_at(t: &[u32], i: u32) -> Stream {
     let links = table::wide(header_word(t, table::LINKS_AT));
     let at = table::HEAD_WORDS + table::LINK_WORDS * links + table::STREAM_WORDS * table::wide(i);
     if at + table::STREAM_WORDS <= t.len() {
@@ -195,8 +195,8 @@ fn bad_legs(t: &[u32], i: u32, s: Stream) {
     past_the_last(t, i, s);
 }
 
-// The latest deadline that a period allows, as far as a word holds it.
-fn latest_deadline(period: u32) -> u32 {
+// Internal: the latest deadline that a period allows, as far as a word holds it.
+pub fn latest_deadline(period: u32) -> u32 {
     let latest = MAX_PERIODS_DUE * (period as u64);
     if latest <= 4294967295 {
         return latest as u32;
