@@ -35,7 +35,7 @@ use admit_seen::{causes, edges, seen};
 use admit_wrong::{all, Wrong};
 use chance::Chance;
 use check::{whole, Checker, Plain};
-use driver::{in_batches, Driver};
+use driver::{in_batches, not_caught, Driver};
 use fail::{fail_silently, given};
 use format::{plan_bytes, Plan};
 use paper::{
@@ -232,17 +232,11 @@ fn count(found: &mut Found, cases: &[Case], met: &[&'static str]) {
 /// Runs drivers that spoil something. Gives those that the comparison does not catch.
 fn spoilers_at_large(command: &[String]) -> Vec<&'static str> {
     let cases = batch(1, 0);
-    let mut uncaught = Vec::new();
-    for (what, name) in SPOILED.iter().enumerate() {
-        let mut driver = Driver::new(&[command, &[what.to_string()]].concat());
-        let answers = answers(&mut driver, &cases);
-        driver.end();
+    not_caught(command, &SPOILED, |driver| {
+        let answers = answers(driver, &cases);
         let mut pairs = cases.iter().zip(&answers);
-        if !pairs.any(|(case, (answered, changed))| difference(case, answered, changed).is_some()) {
-            uncaught.push(*name);
-        }
-    }
-    uncaught
+        pairs.any(|(case, (answered, changed))| difference(case, answered, changed).is_some())
+    })
 }
 
 /// Each result that a call can have. From a file, refusals 1 and 3 cannot come.

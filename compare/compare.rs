@@ -2,7 +2,7 @@
 
 use crate::calls::{answer, receive, send, send_flush, Answer, Call, Kind};
 use crate::cases::{batch, Case, BATCH};
-use crate::driver::{in_batches, Driver};
+use crate::driver::{in_batches, not_caught, Driver};
 use crate::fail::given;
 use crate::paper::{
     ABOVE_LIMIT, BAD_FORM, ENDS_EARLY, GRANTED, LAST_REVISION, LEFT_OVER, LEG_WRONG, LINK_RANGE, LINK_TWICE, NO_LEG,
@@ -160,19 +160,11 @@ fn merge(known: &mut [Option<u64>], new: &[Option<u64>]) {
 /// Runs drivers that spoil memory. Gives those that the comparison does not catch.
 fn spoilers_at_large(command: &[String]) -> Vec<&'static str> {
     let cases = batch(1, 0);
-    let mut uncaught = Vec::new();
-    for (what, name) in SPOILED.iter().enumerate() {
-        let mut driver = Driver::new(&[command, &[what.to_string()]].concat());
-        let answers = answers(&mut driver, &cases);
-        driver.end();
-        let differs = |(case, (answered, changed)): (&Case, &(Answer, Vec<String>))| {
-            difference(0, case, answered, changed).is_some()
-        };
-        if !cases.iter().zip(&answers).any(differs) {
-            uncaught.push(*name);
-        }
-    }
-    uncaught
+    not_caught(command, &SPOILED, |driver| {
+        let answers = answers(driver, &cases);
+        let mut pairs = cases.iter().zip(&answers);
+        pairs.any(|(case, (answered, changed))| difference(0, case, answered, changed).is_some())
+    })
 }
 
 /// Gives each result that a call can have and that was never seen. From a file, refusals 1 and 3 cannot come.

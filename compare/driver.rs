@@ -59,6 +59,19 @@ impl Driver {
     }
 }
 
+/// Runs drivers that spoil something, each told by a number what. Gives those that are not caught.
+pub fn not_caught(command: &[String], spoiled: &[&'static str], is_caught: impl Fn(&mut Driver) -> bool) -> Vec<&'static str> {
+    let mut uncaught = Vec::new();
+    for (what, name) in spoiled.iter().enumerate() {
+        let mut driver = Driver::new(&[command, &[what.to_string()]].concat());
+        if !is_caught(&mut driver) {
+            uncaught.push(*name);
+        }
+        driver.end();
+    }
+    uncaught
+}
+
 /// Does the work of so many batches, each by its number, on every processor with a driver of its own.
 pub fn in_batches(command: &[String], batches: u64, work: impl Fn(&mut Driver, u64) + Sync) {
     let next = AtomicU64::new(0);

@@ -16,7 +16,7 @@ mod network_drafts;
 mod network_pairs;
 mod network_wrong;
 
-use driver::{in_batches, Driver};
+use driver::{in_batches, not_caught, Driver};
 use fail::{fail_silently, given};
 use network::{
     answer, is_right, Answer, Call, Kind, ABOVE_LIMIT, BROKEN, CHAIN, NO_CHAIN, NO_ROOM, OUT_OF_RANGE, REFUSED, RIGHT,
@@ -137,17 +137,11 @@ fn compare(number: u64, wrong: &[Wrong], cases: &[Case], answers: &[(Answer, Vec
 /// Runs drivers that spoil something. Gives those that the comparison does not catch.
 fn spoilers_at_large(command: &[String]) -> Vec<&'static str> {
     let cases = batch(1, 0);
-    let mut uncaught = Vec::new();
-    for (what, name) in SPOILED.iter().enumerate() {
-        let mut driver = Driver::new(&[command, &[what.to_string()]].concat());
-        let answers = answers(&mut driver, &cases);
-        driver.end();
+    not_caught(command, &SPOILED, |driver| {
+        let answers = answers(driver, &cases);
         let mut pairs = cases.iter().zip(&answers);
-        if !pairs.any(|(case, (answered, changed))| difference(case, answered, changed).is_some()) {
-            uncaught.push(*name);
-        }
-    }
-    uncaught
+        pairs.any(|(case, (answered, changed))| difference(case, answered, changed).is_some())
+    })
 }
 
 /// Each result that a call can have.

@@ -301,6 +301,9 @@ conepalhui_admission conepalhui_admit(const uint8_t *plan, size_t plan_len, cons
  * the same, where all are given the same plan and the same numbers. This is proved
  * (crates/host/specs/AdmissionTheorems.antt: HostPiecesMakeTheWhole).
  *
+ * ALL PIECES ARE GIVEN ONE PLAN, THE SAME BYTES. Where a leg was moved between two pieces, an offset that was passed by
+ * may fit now: 18 may then be told though one fits, and an admission need not be at the least. Begin again from 0.
+ *
  *     uint32_t from = 0;
  *     conepalhui_admission given;
  *     do {
