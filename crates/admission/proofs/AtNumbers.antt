@@ -22,19 +22,17 @@ use Rattle.overlap.specs.Theorems.{in100000, in150000}
 use Rattle.overlap.specs.declared.Slot.{Slot}
 use Rattle.overlap.proofs.Law.{divisor-law, meeting-is-symmetric, shared-instant}
 use Rattle.overlap.proofs.AtNumbers.{overlap-at-numbers}
-use Rattle.rules.specs.Times.{holdTime, wireTime, slotOf}
+use Rattle.rules.specs.Times.{holdTime, slotOf}
 use Rattle.rules.specs.Rules.{Overlap, RulesHold}
 use Rattle.rules.proofs.Said.{overlap-says}
-use Rattle.rules.proofs.AtNumbers.{accepted-plan-exists, gap-cases, starred-cases}
+use Rattle.rules.proofs.AtNumbers.{accepted-plan-exists, gap-cases}
 use Rattle.offsets.specs.Conditions.{slotFrom}
 use Rattle.enlarge.specs.Enlarged.{enlarged}
-use Rattle.enlarge.specs.Reads.{startAt}
-use Rattle.enlarge.proofs.NewLegs.{start-first, start-next, sent-on-is}
 use Rattle.admission.specs.Admits.{CanAdd, MayAdmit, Fits, SomeFits, AdmittedAt}
 use Rattle.admission.specs.AtNumbers.{acceptedA, third, overLink0, shortFrame, AdmissionsAtNumbers}
 use Rattle.enlarge.proofs.Ranges.{wanted-in-range}
 use Rattle.admission.specs.Steps.{Ready, afterOf, newHold, Asks}
-use Rattle.admission.proofs.Adding.{can-add-in-words}
+use Rattle.admission.proofs.OverLink.{InRange, HasLink, can-add, starts, holds, arrives}
 use Rattle.admission.proofs.Asking.{same-slot}
 use Rattle.admission.proofs.Fitting.{new-beside, legs-fit, fits-by-legs}
 
@@ -78,37 +76,8 @@ module _ (o : ℕ) where
   link-2 : legAt (plan o) 2 .link ≡ 0
   link-2 = ap (λ (l : Leg). l .link) (reads .leg-2)
 
-  -- A third stream over link 0 can be added.
-  module _ (p d : ℕ) (range : (1 ≤ p) × (p ≤ 1000000000) × (1 ≤ d) × (d ≤ 8 * p)) where
-    links : (j : ℕ) → j < 1 → getD overLink0 j 0 < 2
-    links zero h = omega arith
-    links (suc j) h = absurd (omega arith)
-
-    not-start : (j : ℕ) → j < 1 → linkAt (plan o) (getD overLink0 j 0) .to ≡ linkAt (plan o) 0 .from → ⊥
-    not-start zero h e = omega (arith, e, ap (λ (l : Link). l .to) (reads .link-0), ap (λ (l : Link). l .from) (reads .link-0))
-    not-start (suc j) h e = omega arith
-
-    can-add : CanAdd (plan o) (third p d) overLink0
-    can-add =
-        can-add-in-words (plan o) (third p d) overLink0 (plan-a-is-well-formed 0 1176 o) .1
-        (record {
-          streams = omega arith;
-          legs = omega arith;
-          stream = record {
-            period-from = range .0;
-            period-to = range .1;
-            deadline-from = range .2;
-            deadline-to = range .3;
-            octets-from = omega arith;
-            octets-to = omega arith;
-            count-from = omega arith;
-            count-to = omega arith;
-          };
-          links = links;
-          joined = λ j h. absurd (omega arith);
-          not-start = not-start;
-          new-node = λ i j l h e. omega arith;
-        })
+  has-link : HasLink (plan o)
+  has-link = record { shape = plan-a-is-well-formed 0 1176 o; link = reads .link-0; some = omega arith; few = omega arith }
 
 -- Plan A itself is not accepted: at instant 0 both legs hold link 0.
 not-accepted : RulesHold planA → ⊥
@@ -117,39 +86,21 @@ not-accepted r =
     (subst (λ (z : Slot). NeverMeet z (in100000 0 672)) (slot-2 0)
     (subst (NeverMeet (slotOf planA 2)) (slot-0 0) (overlap-says planA 2 0 .0 (r .overlap 2 0 (omega arith) (omega arith) (λ e. omega (arith, e))) (link-2 0 ∙ sym (link-0 0)))))
 
-module _ (p d : ℕ) (range : (1 ≤ p) × (p ≤ 1000000000) × (1 ≤ d) × (d ≤ 8 * p)) where
+module _ (p d : ℕ) (range : InRange p d) where
   ready : Ready acceptedA (third p d) overLink0
   ready = record {
     shape = accepted-plan-exists .shape;
-    can-add = can-add holdA p d range;
+    can-add = can-add acceptedA (has-link holdA) p d range;
     rules = accepted-plan-exists .rules;
   }
 
   may : MayAdmit acceptedA (third p d) overLink0 44
   may = record { shape = ready .shape; rises = omega arith; can-add = ready .can-add; has-room = omega arith; rules = ready .rules }
 
-  -- The new leg starts at the first offset, holds the link for 672 ns, and has arrived 1,176 ns later.
-  starts : afterOf acceptedA (third p d) overLink0 0 ≡ 0
-  starts = start-first acceptedA (third p d) 0 overLink0
-
-  holds : newHold acceptedA (third p d) overLink0 0 ≡ 672
-  holds = ap (λ (l : Link). holdTime 64 (l .rate)) (reads holdA .link-0) ∙ held
-
-  arrives : startAt acceptedA (third p d) 0 overLink0 1 ≡ 1176
-  arrives =
-      omega (
-        arith,
-        start-next acceptedA (third p d) 0 overLink0 0 (omega arith),
-        sent-on-is acceptedA (third p d) (afterOf acceptedA (third p d) overLink0 0) 0,
-        starts,
-        ap (λ (l : Link). wireTime 64 (l .rate)) (reads holdA .link-0) ∙ starred-cases .case-1 .0,
-        ap (λ (l : Link). l .propagation) (reads holdA .link-0),
-      )
-
   new-slot : (x : ℕ) → x < p → slotFrom (afterOf acceptedA (third p d) overLink0 0) p (newHold acceptedA (third p d) overLink0 0) x ≡ record { offset = x; period = p; hold = 672 }
   new-slot x h =
-      let s = starts in
-      let k = holds in
+      let s = starts acceptedA (has-link holdA) p d range in
+      let k = holds acceptedA (has-link holdA) p d range in
       let o : (x + afterOf acceptedA (third p d) overLink0 0) % p ≡ x = ap (λ (n : ℕ). n % p) (let e : x + afterOf acceptedA (third p d) overLink0 0 ≡ x = omega arith in e) ∙ mod-eq-of-lt h in
       same-slot _ _ o refl k
 
@@ -165,15 +116,15 @@ module _ (p d : ℕ) (range : (1 ≤ p) × (p ≤ 1000000000) × (1 ≤ d) × (d
       omega (
         arith,
         fits-by-legs acceptedA (third p d) overLink0 ready (f .offset) (f .fits) .asked 3 (omega arith) .window 0 (omega arith) refl,
-        holds,
+        holds acceptedA (has-link holdA) p d range,
       )
 
   -- At no offset does it keep a deadline of less than 1,176 ns.
   none-in-time : d < 1176 → SomeFits acceptedA (third p d) overLink0 0 → ⊥
-  none-in-time late f = omega (arith, fits-by-legs acceptedA (third p d) overLink0 ready (f .offset) (f .fits) .in-time, arrives)
+  none-in-time late f = omega (arith, fits-by-legs acceptedA (third p d) overLink0 ready (f .offset) (f .fits) .in-time, arrives acceptedA (has-link holdA) p d range)
 
 -- Shares an instant with a slot: below 672 with leg 0, from there on and below 1,344 with leg 2.
-module _ (d : ℕ) (range : (1 ≤ 100000) × (100000 ≤ 1000000000) × (1 ≤ d) × (d ≤ 8 * 100000)) where
+module _ (d : ℕ) (range : InRange 100000 d) where
   sooner : (x : ℕ) → x < 1344 → Fits acceptedA (third 100000 d) overLink0 x → ⊥
   sooner x h f =
       ⊎-elim
@@ -221,16 +172,16 @@ module _ (d : ℕ) (range : (1 ≤ 100000) × (100000 ≤ 1000000000) × (1 ≤ 
   asked (suc (suc (suc zero))) h = record { beside = λ l j k link. absurd (omega arith); window = window }
     where
       window : (j : ℕ) → j < 1 → 3 ≡ 3 + j → (1344 + afterOf acceptedA (third 100000 d) overLink0 j) % 100000 + newHold acceptedA (third 100000 d) overLink0 j ≤ 100000
-      window zero k is = omega (arith, ap (λ (s : Slot). s .offset) (new-slot 100000 d range 1344 (omega arith)), holds 100000 d range)
+      window zero k is = omega (arith, ap (λ (s : Slot). s .offset) (new-slot 100000 d range 1344 (omega arith)), holds acceptedA (has-link holdA) 100000 d range)
       window (suc j) k is = absurd (omega arith)
   asked (suc (suc (suc (suc a)))) h = absurd (omega arith)
 
   soon : (j : ℕ) → j < 1 → 1344 + afterOf acceptedA (third 100000 d) overLink0 j < 8 * 100000
-  soon zero h = omega (arith, starts 100000 d range)
+  soon zero h = omega (arith, starts acceptedA (has-link holdA) 100000 d range)
   soon (suc j) h = absurd (omega arith)
 
   fits : 1176 ≤ d → Fits acceptedA (third 100000 d) overLink0 1344
-  fits due = legs-fit acceptedA (third 100000 d) overLink0 (ready 100000 d range) 1344 (record { soon = soon; in-time = omega (arith, arrives 100000 d range); asked = asked })
+  fits due = legs-fit acceptedA (third 100000 d) overLink0 (ready 100000 d range) 1344 (record { soon = soon; in-time = omega (arith, arrives acceptedA (has-link holdA) 100000 d range); asked = asked })
 
   least : 1176 ≤ d → (from : ℕ) → from ≤ 1344 → AdmittedAt acceptedA (third 100000 d) overLink0 44 from 1344 44
   least due from h = record {
@@ -248,17 +199,17 @@ module _ (d : ℕ) (range : (1 ≤ 100000) × (100000 ≤ 1000000000) × (1 ≤ 
 -- With a period of 100,001 it meets leg 0 wherever it begins.
 never-fits : SomeFits acceptedA (third 100001 2000) overLink0 0 → ⊥
 never-fits f =
-    let range : (1 ≤ 100001) × (100001 ≤ 1000000000) × (1 ≤ 2000) × (2000 ≤ 8 * 100001) = (omega arith, omega arith, omega arith, omega arith) in
+    let range : InRange 100001 2000 = (omega arith, omega arith, omega arith, omega arith) in
     overlap-at-numbers .no-offsets (in100000 0 672) (record { offset = f .offset; period = 100001; hold = 672 }) refl refl (omega arith) (omega arith)
     (meeting-is-symmetric _ _ (never 100001 2000 range (f .offset) 0 (in100000 0 672) (f .below) (omega arith) (slot-0 holdA) (link-0 holdA) (f .fits)))
 
 pub admissions-at-numbers : AdmissionsAtNumbers
 admissions-at-numbers =
-    let at2000 : (1 ≤ 100000) × (100000 ≤ 1000000000) × (1 ≤ 2000) × (2000 ≤ 8 * 100000) = (omega arith, omega arith, omega arith, omega arith) in
-    let at1176 : (1 ≤ 100000) × (100000 ≤ 1000000000) × (1 ≤ 1176) × (1176 ≤ 8 * 100000) = (omega arith, omega arith, omega arith, omega arith) in
-    let at1175 : (1 ≤ 100000) × (100000 ≤ 1000000000) × (1 ≤ 1175) × (1175 ≤ 8 * 100000) = (omega arith, omega arith, omega arith, omega arith) in
-    let at600 : (1 ≤ 600) × (600 ≤ 1000000000) × (1 ≤ 2000) × (2000 ≤ 8 * 600) = (omega arith, omega arith, omega arith, omega arith) in
-    let at100001 : (1 ≤ 100001) × (100001 ≤ 1000000000) × (1 ≤ 2000) × (2000 ≤ 8 * 100001) = (omega arith, omega arith, omega arith, omega arith) in
+    let at2000 : InRange 100000 2000 = (omega arith, omega arith, omega arith, omega arith) in
+    let at1176 : InRange 100000 1176 = (omega arith, omega arith, omega arith, omega arith) in
+    let at1175 : InRange 100000 1175 = (omega arith, omega arith, omega arith, omega arith) in
+    let at600 : InRange 600 2000 = (omega arith, omega arith, omega arith, omega arith) in
+    let at100001 : InRange 100001 2000 = (omega arith, omega arith, omega arith, omega arith) in
     let short : (t : List ℕ) → WellFormedTable t → CanAdd t shortFrame overLink0 → ⊥ = λ t s can. omega (arith, wanted-in-range t shortFrame overLink0 (s .sized) can .stream .octets-from) in
     record {
       least = least 2000 at2000 (omega arith) 0 (omega arith);
@@ -272,6 +223,6 @@ admissions-at-numbers =
       piece = (least 2000 at2000 (omega arith) 1000 (omega arith), omega arith);
       eleven = inl (inr (plans-are-well-formed _ (like-a-in-range 4294967295 100000 2352 150000 0 1176 0 (omega arith, omega arith, omega arith, omega arith, omega arith)), inl (refl, refl, λ h. omega arith)));
       twenty = inl (inr (plan-a-is-well-formed 0 1176 0, inr (omega arith, inl (refl, refl, short planA (plan-a-is-well-formed 0 1176 0)))));
-      fifteen = inl (inr (plan-a-is-well-formed 0 1176 0, inr (omega arith, inr (can-add 0 100000 1175 at1175, inl (refl, refl, λ h. omega arith)))));
-      nineteen = inl (inr (plan-a-is-well-formed 0 1176 0, inr (omega arith, inr (can-add 0 100000 1175 at1175, inr (omega arith, (refl, refl, not-accepted))))));
+      fifteen = inl (inr (plan-a-is-well-formed 0 1176 0, inr (omega arith, inr (can-add planA (has-link 0) 100000 1175 at1175, inl (refl, refl, λ h. omega arith)))));
+      nineteen = inl (inr (plan-a-is-well-formed 0 1176 0, inr (omega arith, inr (can-add planA (has-link 0) 100000 1175 at1175, inr (omega arith, (refl, refl, not-accepted))))));
     }

@@ -1,34 +1,29 @@
 -- A link that is held all the time: at every instant the leg that fills it holds it, so whatever begins there meets it. Assumes nothing.
 use Prim.Native.Nat.{ℕ, zero, suc, _+_, _*_, _/_, _%_, _≤_, _<_}
 use mathlib.Core.Path.{_≡_, refl, _∙_, sym, ap, subst}
-use mathlib.Core.List.{List}
 use mathlib.Core.Logic.{inr}
-use lib.ListN.{getD}
 use native.Mathlib.Nat.{mod-lt, div-add-mod'}
 use native.Mathlib.Omega.{arith}
-use Rattle.table.specs.Layout.{linkCount, streamCount, legCount}
+use Rattle.table.specs.Layout.{legCount}
 use Rattle.table.specs.Records.{linkAt}
-use Rattle.table.specs.declared.Link.{Link}
 use Rattle.table.proofs.PartLaws.{link-of-part}
 use Rattle.shape.specs.Links.{LinkInRange}
-use Rattle.shape.specs.Streams.{maxPeriod, maxPeriodsDue}
+use Rattle.shape.specs.Streams.{maxPeriodsDue}
 use Rattle.shape.specs.Shape.{WellFormedTable}
 use Rattle.shape.proofs.Rates.{gigabit}
 use Rattle.shape.proofs.StreamLaws.{legs-none}
 use Rattle.overlap.specs.Meeting.{NeverMeet}
 use Rattle.overlap.proofs.Law.{shared-instant}
-use Rattle.rules.specs.Times.{wireTime, holdTime, slotOf}
+use Rattle.rules.specs.Times.{slotOf}
 use Rattle.rules.specs.Rules.{RulesHold}
-use Rattle.rules.proofs.AtNumbers.{gap-cases, starred-cases}
 use Rattle.offsets.specs.Conditions.{slotFrom}
 use Rattle.checker.specs.Accepted.{Accepted}
 use Rattle.enlarge.specs.Enlarged.{legsFrom}
-use Rattle.enlarge.specs.Reads.{Grown, startAt}
-use Rattle.enlarge.proofs.NewLegs.{start-first, start-next, sent-on-is}
-use Rattle.admission.specs.Admits.{CanAdd, MayAdmit, SomeFits}
+use Rattle.enlarge.specs.Reads.{Grown}
+use Rattle.admission.specs.Admits.{MayAdmit, SomeFits}
 use Rattle.admission.specs.AtNumbers.{third, overLink0, emptyLink, fullLink, FullLinkAtNumbers}
 use Rattle.admission.specs.Steps.{Ready, afterOf, newHold, Asks}
-use Rattle.admission.proofs.Adding.{can-add-in-words}
+use Rattle.admission.proofs.OverLink.{InRange, HasLink, can-add, starts, holds, arrives}
 use Rattle.admission.proofs.Asking.{same-slot}
 use Rattle.admission.proofs.NewLegs as new
 use Rattle.admission.proofs.Fitting.{legs-fit, fits-by-legs}
@@ -64,71 +59,24 @@ empty-rules = record {
   overlap = λ a b h k e. absurd (omega arith);
 }
 
--- A stream over the link of a table whose link 0 is that one.
-module _ (t : List ℕ) (shape : WellFormedTable t) (link : linkAt t 0 ≡ record { from = 1; to = 2; rate = 8; propagation = 500 }) (one : linkCount t ≡ 1) (few : streamCount t + legCount t ≤ 2)
-    (p d : ℕ) (range : (1 ≤ p) × (p ≤ maxPeriod) × (1 ≤ d) × (d ≤ maxPeriodsDue * p)) where
-  can-add : CanAdd t (third p d) overLink0
-  can-add =
-      can-add-in-words t (third p d) overLink0 shape .1
-      (record {
-        streams = omega arith;
-        legs = omega arith;
-        stream = record {
-          period-from = range .0;
-          period-to = range .1;
-          deadline-from = range .2;
-          deadline-to = range .3;
-          octets-from = omega arith;
-          octets-to = omega arith;
-          count-from = omega arith;
-          count-to = omega arith;
-        };
-        links = links;
-        joined = λ j h. absurd (omega arith);
-        not-start = not-start;
-        new-node = λ i j l h e. omega arith;
-      })
-    where
-      links : (j : ℕ) → j < 1 → getD overLink0 j 0 < linkCount t
-      links zero h = omega arith
-      links (suc j) h = absurd (omega arith)
-
-      not-start : (j : ℕ) → j < 1 → linkAt t (getD overLink0 j 0) .to ≡ linkAt t 0 .from → ⊥
-      not-start zero h e = omega (arith, e, ap (λ (l : Link). l .to) link, ap (λ (l : Link). l .from) link)
-      not-start (suc j) h e = omega arith
-
-  starts : afterOf t (third p d) overLink0 0 ≡ 0
-  starts = start-first t (third p d) 0 overLink0
-
-  holds : newHold t (third p d) overLink0 0 ≡ 672
-  holds = ap (λ (l : Link). holdTime 64 (l .rate)) link ∙ gap-cases .held .0
+empty-link : HasLink emptyLink
+empty-link = record { shape = empty-shape; link = link-0; some = omega arith; few = omega arith }
 
 -- The first stream is admitted at 0.
-range-672 : (1 ≤ 672) × (672 ≤ maxPeriod) × (1 ≤ 1076) × (1076 ≤ maxPeriodsDue * 672)
+range-672 : InRange 672 1076
 range-672 = (omega arith, omega arith, omega arith, omega arith)
 
 empty-ready : Ready emptyLink (third 672 1076) overLink0
-empty-ready = record { shape = empty-shape; can-add = can-add emptyLink empty-shape link-0 refl (omega arith) 672 1076 range-672; rules = empty-rules }
+empty-ready = record { shape = empty-shape; can-add = can-add emptyLink empty-link 672 1076 range-672; rules = empty-rules }
 
 after-0 : afterOf emptyLink (third 672 1076) overLink0 0 ≡ 0
-after-0 = starts emptyLink empty-shape link-0 refl (omega arith) 672 1076 range-672
+after-0 = starts emptyLink empty-link 672 1076 range-672
 
 hold-0 : newHold emptyLink (third 672 1076) overLink0 0 ≡ 672
-hold-0 = holds emptyLink empty-shape link-0 refl (omega arith) 672 1076 range-672
-
-arrives : startAt emptyLink (third 672 1076) 0 overLink0 1 ≡ 1076
-arrives =
-    omega (
-      arith,
-      start-next emptyLink (third 672 1076) 0 overLink0 0 (omega arith),
-      sent-on-is emptyLink (third 672 1076) (afterOf emptyLink (third 672 1076) overLink0 0) 0,
-      after-0,
-      ap (λ (l : Link). wireTime 64 (l .rate)) link-0 ∙ starred-cases .case-1 .0,
-      ap (λ (l : Link). l .propagation) link-0,
-    )
+hold-0 = holds emptyLink empty-link 672 1076 range-672
 
 accepted : Accepted fullLink
-accepted = legs-fit emptyLink (third 672 1076) overLink0 empty-ready 0 (record { soon = soon; in-time = omega (arith, arrives); asked = asked })
+accepted = legs-fit emptyLink (third 672 1076) overLink0 empty-ready 0 (record { soon = soon; in-time = omega (arith, arrives emptyLink empty-link 672 1076 range-672); asked = asked })
   where
     soon : (j : ℕ) → j < 1 → 0 + afterOf emptyLink (third 672 1076) overLink0 j < maxPeriodsDue * 672
     soon zero h = omega (arith, after-0)
@@ -150,18 +98,23 @@ filling =
 full-link-0 : linkAt fullLink 0 ≡ record { from = 1; to = 2; rate = 8; propagation = 500 }
 full-link-0 = new.reads emptyLink (third 672 1076) overLink0 0 (empty-shape .sized) .link 0 ∙ link-0
 
-module _ (p d : ℕ) (range : (1 ≤ p) × (p ≤ maxPeriod) × (1 ≤ d) × (d ≤ maxPeriodsDue * p)) where
+module _ (p d : ℕ) (range : InRange p d) where
   read : Grown emptyLink (third 672 1076) 1 (legsFrom emptyLink (third 672 1076) 0 overLink0) fullLink
   read = new.reads emptyLink (third 672 1076) overLink0 0 (empty-shape .sized)
 
-  full-can-add : CanAdd fullLink (third p d) overLink0
-  full-can-add = can-add fullLink (accepted .shape) full-link-0 (read .link-count) (omega (arith, read .stream-count, read .leg-count)) p d range
+  has-link : HasLink fullLink
+  has-link = record {
+    shape = accepted .shape;
+    link = full-link-0;
+    some = omega (arith, read .link-count);
+    few = omega (arith, read .stream-count, read .leg-count);
+  }
 
   full-ready : Ready fullLink (third p d) overLink0
-  full-ready = record { shape = accepted .shape; can-add = full-can-add; rules = accepted .rules }
+  full-ready = record { shape = accepted .shape; can-add = can-add fullLink has-link p d range; rules = accepted .rules }
 
   full-hold : newHold fullLink (third p d) overLink0 0 ≡ 672
-  full-hold = holds fullLink (accepted .shape) full-link-0 (read .link-count) (omega (arith, read .stream-count, read .leg-count)) p d range
+  full-hold = holds fullLink has-link p d range
 
   -- The new leg's first repeat begins at y, and at y the other leg holds the link in its repeat y / 672.
   none : SomeFits fullLink (third p d) overLink0 0 → ⊥
@@ -182,7 +135,7 @@ module _ (p d : ℕ) (range : (1 ≤ p) × (p ≤ maxPeriod) × (1 ≤ d) × (d 
   may = record {
     shape = accepted .shape;
     rises = omega (arith, read .revision);
-    can-add = full-can-add;
+    can-add = can-add fullLink has-link p d range;
     has-room = omega (arith, read .link-count, read .stream-count, read .leg-count);
     rules = accepted .rules;
   }

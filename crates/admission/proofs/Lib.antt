@@ -9,5 +9,6 @@ pub mod Leasts
 pub mod Refusing
 pub mod Admitting
 pub mod Adding
+pub mod OverLink
 pub mod AtNumbers
 pub mod FullLink
