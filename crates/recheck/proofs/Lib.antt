@@ -1,0 +1,3 @@
+pub mod Naming
+pub mod Listing
+pub mod Looking

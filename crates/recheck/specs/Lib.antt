@@ -1,0 +1,5 @@
+pub mod Listed
+pub mod Rechecks
+pub mod Premise
+pub mod Steps
+pub mod Theorems
