@@ -1,3 +1,6 @@
 pub mod Naming
 pub mod Listing
 pub mod Looking
+pub mod Comparing
+pub mod SameRecords
+pub mod Keeping

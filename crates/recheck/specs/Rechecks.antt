@@ -1,4 +1,4 @@
--- What a recheck promises, by the cases of its answer (document 02, L6). It looks at the list of places at which leg m can be read, and at no other.
+-- What a recheck promises, by the cases of its answer (document 02, L6). It answers from the list of places at which leg m can be read alone.
 use Prim.Native.Nat.{ℕ, _+_, _<_}
 use mathlib.Core.Path.{_≡_}
 use mathlib.Core.List.{List, [], _∷_, _++_}
@@ -36,8 +36,8 @@ pub record FirstOf (t : List ℕ) (places : List Place) (q : Place) (n : ℕ) : 
   pub broken : PlaceHolds t (q .leg) (q .place) → ⊥
   pub number : n ≡ length before + 1
 
--- A RECHECK of leg m of table t. Violated: q is the first violated place of the list, r its rule, and n places were looked at, q included. Nothing violated: all n places of the list
--- hold. It says nothing of other places.
+-- A RECHECK of leg m of table t. Violated: q is the first violated place of the list, r its rule, and it is the n-th of the list. Nothing violated: all n places of the list hold. Of other
+-- places it says nothing: see specs/Premise.antt.
 abbrev pub Rechecks : List ℕ → ℕ → RecheckAnswer → Type 0
 Rechecks t m (Violated q r n) = CanRecheck t m × FirstOf t (listed t m) q n × (r ≡ ruleAt (q .place))
 Rechecks t m (NothingViolated n) = CanRecheck t m × AllHold t (listed t m) × (n ≡ length (listed t m))

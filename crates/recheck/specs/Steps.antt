@@ -42,7 +42,7 @@ abbrev pub StepTold : List ℕ → ℕ → ℕ → ℕ → Told → Type 0
 StepTold t m a p (told.Kept n) = LookedTo t m a p n
 StepTold t m a p (told.Broken q r n) = BrokenAt t m a q r n
 
--- A leg a after leg m, the stream of which has its end there.
+-- A leg a after leg m; the stream of m ends before leg `end`.
 pub record Later (t : List ℕ) (m end a : ℕ) (f : Frame) : Type 0 where
   pub moved : LegIn t m
   pub end-is : end ≡ endOf t m

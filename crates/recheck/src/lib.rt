@@ -5,6 +5,7 @@ use basics::Checked;
 use rules::Rule;
 
 pub mod look;
+pub mod same;
 
 // A place of a table: a leg, and a place of that leg.
 pub struct Place {
