@@ -22,22 +22,17 @@ use Rattle.places.proofs.Ranks.{below-none, below-mono, below-more, places-at-m
 use Rattle.recheck.specs.Listed.{canRead, placeAt, listedBelow, listed}
 use Rattle.recheck.specs.Rechecks.{CanRecheck, AllHold, FirstOf, Rechecks}
 use Rattle.recheck.specs.Steps.{listedTo, LookedTo, BrokenAt, StepTold, Later, Words}
-use Rattle.recheck.specs.Theorems.{Named}
 use Rattle.recheck.specs.declared.Place.{Place}
 use Rattle.recheck.specs.declared.RecheckAnswer.{RecheckAnswer}
 use Rattle.recheck.specs.declared.RecheckAnswer.the-variants.{Violated, NothingViolated}
 use Rattle.recheck.specs.declared.look.Told.{Told}
 use Rattle.recheck.specs.declared.look.Told.the-variants as told
-use Rattle.recheck.proofs.Naming.{named-read, unnamed-unread}
-use Rattle.recheck.proofs.Listing.{below-start, below-step, to-start, to-more, to-next, to-short, none-between, to-begins}
+use Rattle.recheck.proofs.Listing.{to-start, to-more, to-next, to-short, to-begins}
+use Rattle.recheck.proofs.Stepping.{none-before-own, next-hop, none-before-hop, no-hop, last-deadline, no-deadline, with-moved, none-before-pair, none-past-pair}
 
 pub all-and : (t : List ℕ) (l k : List Place) → AllHold t l → AllHold t k → AllHold t (l ++ k)
 all-and t [] k h i = i
 all-and t (q ∷ l) k h i = (h .0, all-and t l k (h .1) i)
-
--- The leg's own places.
-pub own-read : (t : List ℕ) (m p : ℕ) → canRead t m m p ≡ true
-own-read t m p = named-read t m m p (inl refl)
 
 module _ {t : List ℕ} {m : ℕ} where
   -- Where the list is the same.
@@ -66,30 +61,10 @@ module _ {t : List ℕ} {m : ℕ} where
   pub broken-told : {a p n : ℕ} {r : Rule} (j : Judged) → LegIn t a → p < placesOf a → canRead t m a p ≡ true → LookedTo t m a p n → j ≡ judged.Broken r → JudgedTold t a p j → BrokenAt t m a p r (n + 1)
   broken-told {a} {p} j l h e k is told = looked-broken l h e k (subst (JudgedTold t a p) is told)
 
-  -- Places that are not listed.
-  skipped : {a p n : ℕ} (q : ℕ) → p ≤ q → ((s : ℕ) → p ≤ s → s < q → Named t m a s → ⊥) → LookedTo t m a p n → LookedTo t m a q n
-  skipped {a} {p} {n} q h none k = same-list {a = a} {p = p} {b = a} {q = q} (none-between t m a p q h (λ s from below. unnamed-unread t m a s (none s from below))) k
-
-  -- No leg below m has one.
-  below-unnamed : LegIn t m → (a s : ℕ) → a < m → s < placesOf a → Named t m a s → ⊥
-  below-unnamed l a s h i (inl e) = omega arith
-  below-unnamed l a s h i (inr (inl e)) = omega (arith, e)
-  below-unnamed l a s h i (inr (inr (inl (e, f)))) = omega (arith, f .0)
-  below-unnamed l a s h i (inr (inr (inr (e, f)))) = omega (arith, f, l .table .leg m (l .leg) .to-last)
-
-  none-below : LegIn t m → (a : ℕ) → a ≤ m → listedBelow t m a ≡ []
-  none-below l zero h = below-start t m
-  none-below l (suc a) h =
-      let e : suc a ≡ a + 1 = omega arith in
-      ap (listedBelow t m) e
-      ∙ below-step t m a
-      ∙ none-between t m a 0 (placesOf a) (omega arith) (λ s from below. unnamed-unread t m a s (below-unnamed l a s (omega arith) below))
-      ∙ to-start t m a
-      ∙ none-below l a (omega arith)
-
+  -- At the first place of leg m.
   pub looked-none : LegIn t m → LookedTo t m m 0 0
   looked-none l =
-      let e = to-start t m m ∙ none-below l m (omega arith) in
+      let e = none-before-own t m l in
       record { held = subst (AllHold t) (sym e) tt; count = omega (arith, ap length e); few = omega arith }
 
   pub own-all : {end p n : ℕ} → end ≡ placesOf m → p ≤ end → end ≤ p → LookedTo t m m p n → LookedTo t m m (placesOf m) n
@@ -98,55 +73,31 @@ module _ {t : List ℕ} {m : ℕ} where
   -- A later leg.
   module _ {end a : ℕ} {f : Frame} (l : Later t m end a f) where
     pub hop-read : a ≡ m + 1 → a < end → canRead t m a 1 ≡ true
-    hop-read e h = named-read t m a 1 (inr (inr (inl (refl, (e, omega (arith, l .end-is))))))
-
-    before-hop : (s : ℕ) → 0 ≤ s → s < 1 → Named t m a s → ⊥
-    before-hop s from below (inl e) = omega (arith, l .above)
-    before-hop s from below (inr (inl e)) = omega (arith, e)
-    before-hop s from below (inr (inr (inl (e, x)))) = omega (arith, e)
-    before-hop s from below (inr (inr (inr (e, x)))) = omega (arith, e)
+    hop-read e h = next-hop t m a e (omega (arith, l .end-is))
 
     pub to-hop : {n : ℕ} → LookedTo t m a 0 n → LookedTo t m a 1 n
-    to-hop k = skipped 1 (omega arith) before-hop k
-
-    no-hop : ((a ≡ m + 1) × (a < end) → ⊥) → (s : ℕ) → 0 ≤ s → s < 2 → Named t m a s → ⊥
-    no-hop unless s from below (inl e) = omega (arith, l .above)
-    no-hop unless s from below (inr (inl e)) = omega (arith, e)
-    no-hop unless s from below (inr (inr (inl (e, x)))) = unless (x .0, omega (arith, x .1, l .end-is))
-    no-hop unless s from below (inr (inr (inr (e, x)))) = omega (arith, e)
+    to-hop k = same-list {p = 0} {q = 1} (none-before-hop t m a (l .above)) k
 
     pub hop-of-end : {n : ℕ} → LookedTo t m a 0 n → end ≤ a → LookedTo t m a 2 n
-    hop-of-end k h = skipped 2 (omega arith) (no-hop (λ x. omega (arith, x .1))) k
+    hop-of-end k h = same-list {p = 0} {q = 2} (no-hop t m a (l .above) (λ x. omega (arith, x .1, l .end-is))) k
 
     pub hop-of-other : {n : ℕ} → LookedTo t m a 0 n → (a ≡ m + 1 → ⊥) → LookedTo t m a 2 n
-    hop-of-other k h = skipped 2 (omega arith) (no-hop (λ x. h (x .0))) k
+    hop-of-other k h = same-list {p = 0} {q = 2} (no-hop t m a (l .above) (λ x. h (x .0))) k
 
     pub deadline-read : a + 1 ≡ end → canRead t m a 2 ≡ true
-    deadline-read e = named-read t m a 2 (inr (inr (inr (refl, omega (arith, e, l .end-is)))))
-
-    no-deadline : (a + 1 ≡ end → ⊥) → (s : ℕ) → 2 ≤ s → s < 3 → Named t m a s → ⊥
-    no-deadline unless s from below (inl e) = omega (arith, l .above)
-    no-deadline unless s from below (inr (inl e)) = omega (arith, e)
-    no-deadline unless s from below (inr (inr (inl (e, x)))) = omega (arith, e)
-    no-deadline unless s from below (inr (inr (inr (e, x)))) = unless (omega (arith, x, l .end-is))
+    deadline-read e = last-deadline t m a (omega (arith, e, l .end-is))
 
     pub deadline-of-other : {n : ℕ} → LookedTo t m a 2 n → (a + 1 ≡ end → ⊥) → LookedTo t m a ownPlaces n
-    deadline-of-other k h = skipped ownPlaces (omega arith) (no-deadline h) k
+    deadline-of-other k h = same-list {p = 2} {q = ownPlaces} (no-deadline t m a (l .above) (λ e. h (omega (arith, e, l .end-is)))) k
 
     pub pair-read : {p : ℕ} → p ≡ pairPlace m → canRead t m a p ≡ true
-    pair-read {p} e = named-read t m a p (inr (inl e))
-
-    other-pair : (s : ℕ) → ownPlaces ≤ s → (s ≡ pairPlace m → ⊥) → Named t m a s → ⊥
-    other-pair s from unless (inl e) = omega (arith, l .above)
-    other-pair s from unless (inr (inl e)) = unless e
-    other-pair s from unless (inr (inr (inl (e, x)))) = omega (arith, e)
-    other-pair s from unless (inr (inr (inr (e, x)))) = omega (arith, e)
+    pair-read {p} e = with-moved t m a p e
 
     pub to-pair : {n p : ℕ} → p ≡ pairPlace m → LookedTo t m a ownPlaces n → LookedTo t m a p n
-    to-pair {p = p} e k = skipped p (omega arith) (λ s from below. other-pair s from (λ h. omega (arith, h))) k
+    to-pair {p = p} e k = same-list {p = ownPlaces} {q = p} (none-before-pair t m a (l .above) p e) k
 
-    pub past-pair : {n p : ℕ} → p ≡ pairPlace m → LookedTo t m a (p + 1) n → LookedTo t m a (placesOf a) n
-    past-pair {p = p} e k = skipped (placesOf a) (omega (arith, l .above)) (λ s from below. other-pair s (omega arith) (λ h. omega (arith, h))) k
+    past-pair : {n p : ℕ} → p ≡ pairPlace m → LookedTo t m a (p + 1) n → LookedTo t m a (placesOf a) n
+    past-pair {p = p} e k = same-list {p = p + 1} {q = placesOf a} (none-past-pair t m a (l .above) p e) k
 
     -- After the look at the place with m.
     pub pair-told : {p : ℕ} (r : Told) → p ≡ pairPlace m → StepTold t m a (p + 1) r → StepTold t m a (placesOf a) r

@@ -1,7 +1,8 @@
 -- `recheck::look::own` meets its contract: each place of the leg is listed. Assumes nothing.
 use Prim.Native.Nat.{_-_, _≤_}
 use Rattle.recheck.specs.Steps.{LookedTo}
-use Rattle.recheck.proofs.Looking.{own-read, looked-none, told-kept, told-broken, own-all}
+use Rattle.recheck.proofs.Looking.{looked-none, told-kept, told-broken, own-all}
+use Rattle.recheck.proofs.Stepping.{own-read}
 use borrow.Author.Needs.{needs}
 use Rattle.recheck.proofs.look.own.Statement.{statement}
 use Rattle.recheck.proofs.look.own.Tie as tie
