@@ -5,3 +5,8 @@ pub mod Looking
 pub mod Comparing
 pub mod SameRecords
 pub mod Keeping
+pub mod Members
+pub mod OneAnswer
+pub mod Counting
+pub mod Readers
+pub mod Speaking

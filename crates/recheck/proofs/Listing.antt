@@ -17,11 +17,11 @@ use Rattle.recheck.specs.declared.Place.{Place}
 
 module _ (t : List ℕ) (m : ℕ) where
   -- Place by place.
-  at-none : (a : ℕ) → listedAt t m a 0 ≡ []
+  pub at-none : (a : ℕ) → listedAt t m a 0 ≡ []
   unfolding listedAt
   at-none a = refl
 
-  at-step : (a p : ℕ) → listedAt t m a (p + 1) ≡ listedAt t m a p ++ pick (canRead t m a p) (placeAt a p ∷ []) []
+  pub at-step : (a p : ℕ) → listedAt t m a (p + 1) ≡ listedAt t m a p ++ pick (canRead t m a p) (placeAt a p ∷ []) []
   unfolding listedAt
   at-step a p = rw (add-one p)
 

@@ -169,7 +169,7 @@ own-violated {t} {m = m} {x = x} r e c is k f = wide-told t x e (told-first (pla
 pub own-looked : {t : List ℕ} {m n : ℕ} (r : Told) → r ≡ told.Kept n → StepTold t m m (placesOf m) r → LookedTo t m (m + 1) 0 n
 own-looked r is k = looked-next (told-kept r is k)
 
-leg-in : {t : List ℕ} {m a : ℕ} → CanRecheck t m → a < legCount t → LegIn t a
+pub leg-in : {t : List ℕ} {m a : ℕ} → CanRecheck t m → a < legCount t → LegIn t a
 leg-in {t} c h = record { table = well-formed-guarantees t (c .shape); leg = h }
 
 -- Leg by leg: all that a turn knows.

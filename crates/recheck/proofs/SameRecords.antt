@@ -59,13 +59,13 @@ moved-twice t u v m n = record {
 pub leg-is : (x y : Leg) → x .stream ≡ y .stream → x .link ≡ y .link → x .offset ≡ y .offset → x .periods ≡ y .periods → x ≡ y
 leg-is x y s l o p =
     let e : _≡_ {A = Leg}
-        (record { stream = x .stream; link = x .link; offset = x .offset; periods = x .periods })
-        (record { stream = y .stream; link = y .link; offset = y .offset; periods = y .periods }) = cc in
+    (record { stream = x .stream; link = x .link; offset = x .offset; periods = x .periods })
+    (record { stream = y .stream; link = y .link; offset = y .offset; periods = y .periods }) = cc in
     e
 
 -- A place reads legs of the table only.
 pub same-rules : (t u : List ℕ) → WellFormedTable t → SameButMoved t u → ((b : ℕ) → b < legCount t → legAt t b ≡ legAt u b) → RulesHold t → RulesHold u
 same-rules t u w m same r =
     places-cover-the-rules u .0 (λ a p k h.
-        let l : a < legCount t = omega (arith, m .leg-count) in
-        read-legs-decide t u a p w m l h (λ b d. same b (omega (arith, no-higher-leg-is-read t a p b w l h d))) .0 (places-cover-the-rules t .1 r a p l h))
+    let l : a < legCount t = omega (arith, m .leg-count) in
+    read-legs-decide t u a p w m l h (λ b d. same b (omega (arith, no-higher-leg-is-read t a p b w l h d))) .0 (places-cover-the-rules t .1 r a p l h))
