@@ -4,6 +4,7 @@ pub mod DemandTwo
 pub mod Admissions
 pub mod Runs
 pub mod DemandThree
+pub mod Rechecks
 pub mod SavedCursors
 pub mod HostCalls
 pub mod HostRuns

@@ -4,6 +4,7 @@ pub mod DemandTwo
 pub mod Admissions
 pub mod Runs
 pub mod DemandThree
+pub mod Rechecks
 pub mod HostRuns
 pub mod DemandThreeForC
 pub mod AtNumbers
