@@ -23,6 +23,7 @@ one-answer-each = record {
   start = start-one-answer;
   slice = slice-one-answer;
   move-leg = move-one-answer;
+  recheck = recheck-one-answer;
   admit = admit-one-answer;
   admit-between = admit-between-one-answer;
   host-start = host-start-one-answer;

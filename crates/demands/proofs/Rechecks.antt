@@ -1,24 +1,23 @@
 -- A recheck gives the verdict of a whole check: a place before the first violated one of the list is listed too and holds, or it is not listed and holds by the premise. Assumes nothing.
-use Prim.Native.Nat.{ℕ, _≤_, _<_}
-use mathlib.Core.Path.{_≡_, refl, _∙_, sym, ap, subst}
+use Prim.Native.Nat.{ℕ}
+use mathlib.Core.Path.{_≡_, refl, sym, ap, subst}
 use mathlib.Core.List.{List, [], _∷_, _++_}
-use mathlib.Core.Logic.{_⊎_, inl, inr, ⊎-elim}
+use mathlib.Core.Logic.{inl, inr, ⊎-elim}
 use native.Mathlib.Omega.{arith}
-use Rattle.table.specs.Records.{moved}
+use Rattle.table.specs.PlanA.{planA}
 use Rattle.table.specs.declared.Move.{Move}
 use Rattle.shape.specs.Shape.{WellFormedTable}
 use Rattle.files.specs.declared.Cursor.{Cursor}
-use Rattle.rules.specs.Places.{PlaceHolds}
-use Rattle.places.specs.Order.{rank, Earlier, IsPlace}
-use Rattle.places.proofs.Ranks.{end-rank, order-is-by-leg}
+use Rattle.rules.specs.declared.Rule.the-variants as rule
+use Rattle.places.specs.Order.{Earlier}
+use Rattle.places.proofs.Ranks.{end-rank}
 use Rattle.checker.specs.Accepted.{Accepted}
 use Rattle.checker.specs.Moves.{Moves}
 use Rattle.checker.specs.declared.Grant.the-variants.{Granted}
-use Rattle.checker.proofs.Moving.{shape-moved}
 use Rattle.checker.proofs.Whole.{all-held}
 use Rattle.recheck.specs.Listed.{placeAt, listed}
 use Rattle.recheck.specs.Premise.{WasAccepted}
-use Rattle.recheck.specs.Rechecks.{CanRecheck, AllHold, FirstOf, Rechecks}
+use Rattle.recheck.specs.Rechecks.{CanRecheck, FirstOf, Rechecks}
 use Rattle.recheck.specs.Theorems.{In, InOrder}
 use Rattle.recheck.specs.declared.Place.{Place}
 use Rattle.recheck.specs.declared.RecheckAnswer.{RecheckAnswer}
@@ -26,9 +25,9 @@ use Rattle.recheck.specs.declared.RecheckAnswer.the-variants.{Violated, Nothing
 use Rattle.recheck.proofs.Readers.{recheck-list-is-right}
 use Rattle.recheck.proofs.Speaking.{listed-or-not, held-in, recheck-speaks-for-all}
 use Rattle.recheck.proofs.Keeping.{premise-is-kept}
+use Rattle.recheck.proofs.AtNumbers.{rechecks-at-numbers}
 use Rattle.demands.specs.Verdicts.{Verdict, violated, nothing-violated, FirstViolated, RightVerdict}
-use Rattle.demands.specs.DemandThree.{Sound}
-use Rattle.demands.specs.Rechecks.{RecheckGives, RechecksAreSound, Late, MayFollow, Evening, EveningsAreSound}
+use Rattle.demands.specs.Rechecks.{RecheckGives, RechecksAreSound, Late, Evening, EveningsAreSound, PremiseIsNeeded}
 use Rattle.demands.proofs.Runs.{run-keeps}
 use Rattle.demands.proofs.DemandThree.{sound-of}
 
@@ -112,4 +111,11 @@ evenings-are-sound = record {
   begins = λ calls t c run out e end.
       let k = run-keeps calls t run in
       record { shape = k .shape; rules = all-held t (λ a p i from below. k .cursors c out .held e a p i from (omega (arith, end-rank end))) };
+}
+
+pub premise-is-needed : PremiseIsNeeded
+premise-is-needed = record {
+  rechecked = rechecks-at-numbers .leg-1;
+  whole = rechecks-are-sound planA 2 (Violated (placeAt 2 3) rule.Overlap 4) (violated 2 3 rule.Overlap) (rechecks-at-numbers .premise) (rechecks-at-numbers .leg-2) refl;
+  no-premise = rechecks-at-numbers .no-premise;
 }

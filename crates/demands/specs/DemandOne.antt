@@ -19,6 +19,7 @@ use Rattle.editions.specs.Theorems.{ReadFirstOneAnswer}
 use Rattle.checker.specs.Slices.{noCursor, Starts, Slices}
 use Rattle.checker.specs.Moves.{Moves}
 use Rattle.checker.specs.Theorems.{StartOneAnswer, SliceOneAnswer, MoveOneAnswer}
+use Rattle.recheck.specs.Theorems.{RecheckOneAnswer}
 use Rattle.enlarge.specs.declared.Wanted.{Wanted}
 use Rattle.admission.specs.Admits.{Admits, AdmitsBetween}
 use Rattle.admission.specs.Theorems.{AdmitOneAnswer, AdmitBetweenOneAnswer}
@@ -45,6 +46,7 @@ pub record OneAnswerEach : Type 0 where
   pub start : StartOneAnswer
   pub slice : SliceOneAnswer
   pub move-leg : MoveOneAnswer
+  pub recheck : RecheckOneAnswer
   pub admit : AdmitOneAnswer
   pub admit-between : AdmitBetweenOneAnswer
   pub host-start : HostStartOneAnswer

@@ -10,7 +10,7 @@ use native.Mathlib.Omega.{arith}
 use Rattle.basics.proofs.Splits.{lt-or-ge, eq-or-ne}
 use Rattle.table.specs.Layout.{legCount}
 use Rattle.shape.specs.Legs.{endOf}
-use Rattle.rules.specs.Places.{ownPlaces, placesOf, pairPlace}
+use Rattle.rules.specs.Places.{placesOf, pairPlace}
 use Rattle.rules.specs.Steps.{LegIn}
 use Rattle.recheck.specs.Listed.{canRead, placeAt, listed}
 use Rattle.recheck.specs.Steps.{listedTo}

@@ -10,3 +10,4 @@ pub mod OneAnswer
 pub mod Counting
 pub mod Readers
 pub mod Speaking
+pub mod AtNumbers

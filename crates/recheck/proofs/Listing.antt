@@ -10,7 +10,7 @@ use native.Mathlib.Omega.{arith}
 use Rattle.basics.specs.Pick.{pick}
 use Rattle.rules.specs.Places.{placesOf}
 use Rattle.places.specs.Order.{placesBelow}
-use Rattle.places.proofs.Ranks.{below-none, below-more}
+use Rattle.places.proofs.Ranks.{below-more}
 use Rattle.recheck.specs.Listed.{canRead, placeAt, listedAt, listedBelow}
 use Rattle.recheck.specs.Steps.{listedTo}
 use Rattle.recheck.specs.declared.Place.{Place}

@@ -1,26 +1,23 @@
 -- What is known after some places of the list: one place more, places that are not listed, the next leg, and the end. Assumes nothing.
-use Prim.Native.Nat.{ℕ, zero, suc, _+_, _≤_, _<_}
+use Prim.Native.Nat.{ℕ, _+_, _≤_, _<_}
 use mathlib.Core.Path.{_≡_, refl, _∙_, sym, ap, subst}
-use mathlib.Core.Bool.{true, false}
+use mathlib.Core.Bool.{true}
 use mathlib.Core.List.{List, [], _∷_, _++_, append-assoc}
-use mathlib.Core.Logic.{inl, inr, ⊎-elim}
 use lib.ListN.{length, length-append}
 use native.Mathlib.Omega.{arith}
 use Rattle.numbers.specs.Number.{maxWord}
 use Rattle.table.specs.Layout.{maxLegs, legCount}
 use Rattle.shape.specs.Legs.{endOf}
 use Rattle.shape.proofs.Placed.{well-formed-guarantees}
-use Rattle.rules.specs.Places.{ownPlaces, placesOf, pairPlace, placeOf, ruleAt, PlaceHolds, JudgedTold}
-use Rattle.rules.specs.Steps.{LegIn, FrameOf}
-use Rattle.rules.specs.declared.Asked.the-variants as asked
+use Rattle.rules.specs.Places.{ownPlaces, placesOf, pairPlace, ruleAt, PlaceHolds, JudgedTold}
+use Rattle.rules.specs.Steps.{LegIn}
 use Rattle.rules.specs.declared.Frame.{Frame}
 use Rattle.rules.specs.declared.Judged.{Judged}
 use Rattle.rules.specs.declared.Judged.the-variants as judged
 use Rattle.rules.specs.declared.Rule.{Rule}
-use Rattle.places.specs.Order.{placesBelow}
-use Rattle.places.proofs.Ranks.{below-none, below-mono, below-more, places-at-most}
+use Rattle.places.proofs.Ranks.{below-mono, below-more, places-at-most}
 use Rattle.recheck.specs.Listed.{canRead, placeAt, listedBelow, listed}
-use Rattle.recheck.specs.Rechecks.{CanRecheck, AllHold, FirstOf, Rechecks}
+use Rattle.recheck.specs.Rechecks.{CanRecheck, AllHold, Rechecks}
 use Rattle.recheck.specs.Steps.{listedTo, LookedTo, BrokenAt, StepTold, Later, Words}
 use Rattle.recheck.specs.declared.Place.{Place}
 use Rattle.recheck.specs.declared.RecheckAnswer.{RecheckAnswer}
@@ -122,7 +119,7 @@ module _ {t : List ℕ} {m : ℕ} where
       record { leg = omega (arith, b .leg .leg); place = omega (arith, b .leg .leg, b .place); number = omega (arith, b .number, b .looked .few) }
 
   -- A broken place is the first violated one of the list.
-  broken-first : {a p n : ℕ} {r : Rule} → CanRecheck t m → BrokenAt t m a p r n → Rechecks t m (Violated (placeAt a p) r n)
+  pub broken-first : {a p n : ℕ} {r : Rule} → CanRecheck t m → BrokenAt t m a p r n → Rechecks t m (Violated (placeAt a p) r n)
   broken-first {a} {p} {n} c b =
       let x = to-begins t m a (p + 1) (legCount t) (omega (arith, b .place)) (b .leg .leg) in (
         c,

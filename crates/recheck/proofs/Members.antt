@@ -1,13 +1,12 @@
 -- Which places the list has, and in which order. Assumes nothing.
 use Prim.Native.Nat.{ℕ, zero, suc, _+_, _≤_, _<_}
 use mathlib.Core.Path.{_≡_, refl, _∙_, sym, ap, subst}
-use mathlib.Core.Bool.{Bool, true, false, true≢false}
+use mathlib.Core.Bool.{Bool, true, false}
 use mathlib.Core.List.{List, [], _∷_, _++_}
 use mathlib.Core.Logic.{_⊎_, inl, inr, ⊎-elim}
 use native.Mathlib.Nat.{eq-or-lt-of-le}
 use native.Mathlib.Omega.{arith}
 use Rattle.basics.specs.Pick.{pick}
-use Rattle.basics.proofs.Splits.{lt-or-ge}
 use Rattle.rules.specs.Places.{placesOf}
 use Rattle.places.specs.Order.{Earlier}
 use Rattle.recheck.specs.Listed.{canRead, placeAt, listedAt, listedBelow}

@@ -1,5 +1,5 @@
 -- A recheck has one answer: two first violated places of one list are one. Assumes nothing.
-use Prim.Native.Nat.{ℕ, _+_}
+use Prim.Native.Nat.{ℕ}
 use mathlib.Core.Path.{_≡_, _∙_, sym, ap, subst}
 use mathlib.Core.List.{List, [], _∷_, _++_}
 use lib.ListN.{length}
@@ -9,7 +9,6 @@ use Rattle.basics.proofs.Refusals.{unless-one, then-one, called-one}
 use Rattle.shape.proofs.OneShape.{shape-one}
 use Rattle.rules.specs.Places.{ruleAt, PlaceHolds}
 use Rattle.checker.specs.Moves.{noLeg}
-use Rattle.recheck.specs.Listed.{listed}
 use Rattle.recheck.specs.Rechecks.{AllHold, FirstOf, recheckRefusals}
 use Rattle.recheck.specs.Theorems.{RecheckOneAnswer}
 use Rattle.recheck.specs.declared.Place.{Place}

@@ -1,7 +1,7 @@
 -- Every place that reads leg m is in its list, and the list is right. Assumes nothing.
 use Prim.Native.Nat.{ℕ, _+_, _≤_, _<_}
 use mathlib.Core.Path.{_≡_, sym, ap}
-use mathlib.Core.List.{List, [], _∷_, _++_}
+use mathlib.Core.List.{List, _∷_}
 use mathlib.Core.Logic.{inl, inr, ⊎-elim}
 use lib.ListN.{length, length-append}
 use native.Mathlib.Omega.{arith}
@@ -9,11 +9,9 @@ use Rattle.basics.proofs.Splits.{eq-or-ne}
 use Rattle.table.specs.Layout.{legCount}
 use Rattle.table.specs.Records.{streamAt}
 use Rattle.shape.specs.Legs.{firstOf, endOf}
-use Rattle.rules.specs.Places.{placesOf}
 use Rattle.rules.specs.Reads.{Reads}
 use Rattle.rules.specs.Steps.{LegIn}
 use Rattle.rules.specs.Theorems.{ReadBy}
-use Rattle.rules.specs.declared.Rule.{Rule}
 use Rattle.rules.proofs.Staying.{who-reads-a-leg}
 use Rattle.places.specs.Order.{IsPlace}
 use Rattle.recheck.specs.Listed.{placeAt, listed}

@@ -1,5 +1,5 @@
 -- With the premise a recheck speaks for the whole table: a place that is not listed reads no leg that differs from what it was when the rules held. Assumes nothing.
-use Prim.Native.Nat.{ℕ, _≤_, _<_}
+use Prim.Native.Nat.{ℕ}
 use mathlib.Core.Path.{_≡_, refl, _∙_, sym, subst}
 use mathlib.Core.Bool.{Bool, true, false, true≢false}
 use mathlib.Core.List.{List, [], _∷_}
@@ -10,7 +10,7 @@ use Rattle.table.specs.Layout.{legCount}
 use Rattle.table.specs.Records.{legAt, moved, moveTo}
 use Rattle.table.proofs.Moved.{moved-legs, moved-other}
 use Rattle.shape.proofs.Moved.{moved-same}
-use Rattle.rules.specs.Places.{placesOf, PlaceHolds}
+use Rattle.rules.specs.Places.{PlaceHolds}
 use Rattle.rules.specs.Reads.{Reads}
 use Rattle.rules.proofs.Covering.{places-cover-the-rules}
 use Rattle.rules.proofs.Staying.{read-legs-decide, no-higher-leg-is-read}

@@ -3,3 +3,4 @@ pub mod Rechecks
 pub mod Premise
 pub mod Steps
 pub mod Theorems
+pub mod AtNumbers
