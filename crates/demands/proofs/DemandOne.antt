@@ -3,6 +3,7 @@ use Rattle.numbers.proofs.OneNumber.{read-number-one-answer, write-number-one-a
 use Rattle.files.proofs.OneAnswer.{read-plan-one-answer, write-plan-one-answer, read-cursor-one-answer, write-cursor-one-answer}
 use Rattle.editions.proofs.Answers.{read-first-one-answer}
 use Rattle.checker.proofs.OneAnswer.{start-one-answer, slice-one-answer, move-one-answer}
+use Rattle.recheck.proofs.OneAnswer.{recheck-one-answer}
 use Rattle.admission.proofs.OneAnswer.{admit-one-answer, admit-between-one-answer}
 use Rattle.host.proofs.OneAnswer.{host-start-one-answer, host-slice-one-answer, host-slice-full-one-answer, host-move-one-answer, host-convert-one-answer}
 use Rattle.host.proofs.Admissions.{host-admit-one-answer, host-admit-between-one-answer, host-admissions-write-nothing}
