@@ -7,9 +7,11 @@ use lib.ListN.{length, length-append}
 use native.Mathlib.Omega.{arith}
 use Rattle.numbers.specs.Number.{maxWord}
 use Rattle.table.specs.Layout.{maxLegs, legCount}
+use Rattle.table.specs.Records.{legAt}
 use Rattle.shape.specs.Legs.{endOf}
 use Rattle.shape.proofs.Placed.{well-formed-guarantees}
-use Rattle.rules.specs.Places.{ownPlaces, placesOf, pairPlace, ruleAt, PlaceHolds, JudgedTold}
+use Rattle.rules.specs.Places.{ownPlaces, placesOf, pairPlace, ruleAt, PlaceHolds, PairHolds, JudgedTold}
+use Rattle.rules.proofs.Pairs.{other-pairs, pairs-hold}
 use Rattle.rules.specs.Steps.{LegIn}
 use Rattle.rules.specs.declared.Frame.{Frame}
 use Rattle.rules.specs.declared.Judged.{Judged}
@@ -101,6 +103,22 @@ module _ {t : List ℕ} {m : ℕ} where
     pair-told (told.Kept n) e k = past-pair e k
     pair-told (told.Broken q r n) e k = k
 
+  -- A leg of a later stream: up to the places with other legs none is listed, and with a leg of another link nothing is broken.
+  pub beyond-own : {end a n : ℕ} → m < a → end ≡ endOf t m → end ≤ a → LookedTo t m a 0 n → LookedTo t m a ownPlaces n
+  beyond-own {end} {a} h e l k =
+      same-list {p = 2} {q = ownPlaces} (no-deadline t m a h (λ x. omega (arith, x)))
+      (same-list {p = 0} {q = 2} (no-hop t m a h (λ x. omega (arith, x .1))) k)
+
+  pub beyond-apart : {end a n link other : ℕ} → LegIn t a → m < a → end ≡ endOf t m → end ≤ a → link ≡ legAt t m .link → other ≡ legAt t a .link → (other ≡ link → ⊥) → LookedTo t m a 0 n
+      → LookedTo t m a (placesOf a) (n + 1)
+  beyond-apart {a = a} l h e k f g apart looked =
+      let p : pairPlace m < placesOf a = omega arith in
+      let x : legAt t m .link ≡ legAt t a .link → ⊥ = λ y. apart (g ∙ sym y ∙ sym f) in
+      same-list {p = pairPlace m + 1} {q = placesOf a} (none-past-pair t m a h (pairPlace m) refl)
+      (looked-more l p (with-moved t m a (pairPlace m) refl)
+      (same-list {p = ownPlaces} {q = pairPlace m} (none-before-pair t m a h (pairPlace m) refl) (beyond-own h e k looked))
+      (pairs-hold t a m (m + 1) (λ b from below. subst (PairHolds t a) (let z : m ≡ b = omega arith in z) (other-pairs t a m x)) (pairPlace m) (omega arith) (omega arith)))
+
   -- The next leg.
   pub looked-next : {a n : ℕ} → LookedTo t m a (placesOf a) n → LookedTo t m (a + 1) 0 n
   looked-next {a} k = same-list {a = a} {p = placesOf a} {b = a + 1} {q = 0} (to-next t m a) k
@@ -170,27 +188,29 @@ pub leg-in : {t : List ℕ} {m a : ℕ} → CanRecheck t m → a < legCount t �
 leg-in {t} c h = record { table = well-formed-guarantees t (c .shape); leg = h }
 
 -- Leg by leg: all that a turn knows.
-pub record Turn (t : List ℕ) (m end legs a n : ℕ) : Type 0 where
+pub record Turn (t : List ℕ) (m link end legs a n : ℕ) : Type 0 where
   pub can : CanRecheck t m
+  pub link-is : link ≡ legAt t m .link
   pub end-is : end ≡ endOf t m
   pub legs-are : legs ≡ legCount t
   pub above : m < a
   pub within : a ≤ legCount t
   pub looked : LookedTo t m a 0 n
 
-module _ {t : List ℕ} {m end legs : ℕ} where
-  pub turn-starts : {n : ℕ} → CanRecheck t m → end ≡ endOf t m → legs ≡ legCount t → LookedTo t m (m + 1) 0 n → Turn t m end legs (m + 1) n
-  turn-starts c e f k = record { can = c; end-is = e; legs-are = f; above = omega arith; within = omega (arith, c .leg); looked = k }
+module _ {t : List ℕ} {m link end legs : ℕ} where
+  pub turn-starts : {n : ℕ} → CanRecheck t m → link ≡ legAt t m .link → end ≡ endOf t m → legs ≡ legCount t → LookedTo t m (m + 1) 0 n → Turn t m link end legs (m + 1) n
+  turn-starts c g e f k = record { can = c; link-is = g; end-is = e; legs-are = f; above = omega arith; within = omega (arith, c .leg); looked = k }
 
-  pub turn-leg : {a n : ℕ} → Turn t m end legs a n → a < legs → LegIn t a
+  pub turn-leg : {a n : ℕ} → Turn t m link end legs a n → a < legs → LegIn t a
   turn-leg i h = leg-in (i .can) (omega (arith, i .legs-are))
 
-  pub turn-moved : {a n : ℕ} → Turn t m end legs a n → LegIn t m
+  pub turn-moved : {a n : ℕ} → Turn t m link end legs a n → LegIn t m
   turn-moved i = leg-in (i .can) (i .can .leg)
 
-  pub turn-goes-on : {a n k : ℕ} (r : Told) → Turn t m end legs a n → a < legs → r ≡ told.Kept k → StepTold t m a (placesOf a) r → Turn t m end legs (a + 1) k
+  pub turn-goes-on : {a n k : ℕ} (r : Told) → Turn t m link end legs a n → a < legs → r ≡ told.Kept k → StepTold t m a (placesOf a) r → Turn t m link end legs (a + 1) k
   turn-goes-on r i h is l = record {
     can = i .can;
+    link-is = i .link-is;
     end-is = i .end-is;
     legs-are = i .legs-are;
     above = omega (arith, i .above);
@@ -198,9 +218,9 @@ module _ {t : List ℕ} {m end legs : ℕ} where
     looked = looked-next (told-kept r is l);
   }
 
-  pub turn-ends : {a n : ℕ} → Turn t m end legs a n → legs ≤ a → Rechecks t m (NothingViolated n)
+  pub turn-ends : {a n : ℕ} → Turn t m link end legs a n → legs ≤ a → Rechecks t m (NothingViolated n)
   turn-ends i h = all-looked (i .can) (omega (arith, i .within, i .legs-are)) (i .looked)
 
-  pub turn-violated : {a n p k : ℕ} {s : Rule} {x : RecheckAnswer} (r : Told) → Turn t m end legs a n → r ≡ told.Broken p s k → StepTold t m a (placesOf a) r → x ≡ Violated (placeAt a p) s k
+  pub turn-violated : {a n p k : ℕ} {s : Rule} {x : RecheckAnswer} (r : Told) → Turn t m link end legs a n → r ≡ told.Broken p s k → StepTold t m a (placesOf a) r → x ≡ Violated (placeAt a p) s k
       → Rechecks t m x
   turn-violated {a} r i is k e = told-first (placesOf a) r (i .can) is k e

@@ -1,7 +1,8 @@
 // The places at which leg m can be read, leg by leg from m on.
 ghost use mathlib.Core.Path.{_≡_};
 ghost use mathlib.Core.Bool.{true};
-ghost use Prim.Native.Nat.{_+_, _<_};
+ghost use Prim.Native.Nat.{_+_, _<_, _≤_};
+ghost use Rattle.table.specs.Records.{legAt};
 ghost use Rattle.shape.specs.Legs.{endOf};
 ghost use Rattle.rules.specs.Places.{ownPlaces, placesOf};
 ghost use Rattle.rules.specs.Steps.{LegIn, FrameOf};
@@ -126,7 +127,22 @@ fn after_hop(t: &[u32], m: usize, end: usize, a: usize, f: Frame, n: usize) -> T
     }
 }
 
-// All places of a later leg a at which leg m can be read.
+// All places of a leg a of a later stream at which leg m, which takes this link, can be read. The links are compared first, before more of leg a is read.
+fn beyond(t: &[u32], m: usize, link: u32, end: usize, a: usize, n: usize) -> Told
+    requires { ⌜ LegIn (now t) m × (link ≡ legAt (now t) m .link) ⌝ }
+    requires { ⌜ (end ≡ endOf (now t) m) × (end ≤ a) ⌝ }
+    requires { ⌜ LegIn (now t) a × (m < a) ⌝ }
+    requires { ⌜ LookedTo (now t) m a 0 n ⌝ }
+    ensures { λ r. ⌜ StepTold (now (t .entry)) m a (placesOf a) r ⌝ }
+{
+    if rules::judge::link(t, a) != link {
+        return Told::Kept(n + 1);
+    }
+    let f = rules::times::frame(t, a);
+    pairs(t, m, end, a, f, n)
+}
+
+// All places of a later leg a of the same stream at which leg m can be read.
 fn later(t: &[u32], m: usize, end: usize, a: usize, n: usize) -> Told
     requires { ⌜ LegIn (now t) m × (end ≡ endOf (now t) m) ⌝ }
     requires { ⌜ LegIn (now t) a × (m < a) ⌝ }
@@ -141,10 +157,24 @@ fn later(t: &[u32], m: usize, end: usize, a: usize, n: usize) -> Told
     }
 }
 
-// Leg by leg after m, once its own places are looked at.
-fn looked_on(t: &[u32], m: usize, end: usize, passed: usize) -> RecheckAnswer
-    requires { ⌜ CanRecheck (now t) m ⌝ }
+// All places of a later leg a at which leg m, which takes this link, can be read.
+fn after_moved(t: &[u32], m: usize, link: u32, end: usize, a: usize, n: usize) -> Told
+    requires { ⌜ LegIn (now t) m × (link ≡ legAt (now t) m .link) ⌝ }
     requires { ⌜ end ≡ endOf (now t) m ⌝ }
+    requires { ⌜ LegIn (now t) a × (m < a) ⌝ }
+    requires { ⌜ LookedTo (now t) m a 0 n ⌝ }
+    ensures { λ r. ⌜ StepTold (now (t .entry)) m a (placesOf a) r ⌝ }
+{
+    if end <= a {
+        return beyond(t, m, link, end, a, n);
+    }
+    later(t, m, end, a, n)
+}
+
+// Leg by leg after m, which takes this link, once its own places are looked at.
+fn looked_on(t: &[u32], m: usize, link: u32, end: usize, passed: usize) -> RecheckAnswer
+    requires { ⌜ CanRecheck (now t) m ⌝ }
+    requires { ⌜ (link ≡ legAt (now t) m .link) × (end ≡ endOf (now t) m) ⌝ }
     requires { ⌜ LookedTo (now t) m (m + 1) 0 passed ⌝ }
     ensures { λ r. ⌜ Rechecks (now (t .entry)) m r ⌝ }
 {
@@ -152,7 +182,7 @@ fn looked_on(t: &[u32], m: usize, end: usize, passed: usize) -> RecheckAnswer
     let mut a = m + 1;
     let mut n = passed;
     while a < legs {
-        let told = later(t, m, end, a, n);
+        let told = after_moved(t, m, link, end, a, n);
         match told {
             Told::Broken(p, rule, k) => {
                 return violated(a, p, rule, k);
@@ -176,6 +206,6 @@ pub fn looked(t: &[u32], leg: u32) -> RecheckAnswer
     let told = own(t, m, f);
     match told {
         Told::Broken(p, rule, n) => violated(m, p, rule, n),
-        Told::Kept(n) => looked_on(t, m, f.end, n),
+        Told::Kept(n) => looked_on(t, m, f.link, f.end, n),
     }
 }

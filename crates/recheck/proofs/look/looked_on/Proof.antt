@@ -6,10 +6,10 @@ use Rattle.recheck.proofs.look.looked_on.Statement.{statement}
 use Rattle.recheck.proofs.look.looked_on.Tie as tie
 
 abbrev Inv-loop : tie.InvT-loop
-Inv-loop t m end passed legs a₀ n₀ a n = Turn t m end legs a n
+Inv-loop t m link end passed legs a₀ n₀ a n = Turn t m link end legs a n
 
 abbrev μ-loop : tie.MeasureT-loop
-μ-loop t m end passed legs a₀ n₀ a n = legs - a
+μ-loop t m link end passed legs a₀ n₀ a n = legs - a
 
 shared-slice-read-wide : tie.Need-shared-slice-read-wide Inv-loop μ-loop
 shared-slice-read-wide c = search needs
@@ -23,14 +23,14 @@ add-a c = search needs
 loop-holds : tie.Need-loop-holds Inv-loop μ-loop
 loop-holds c = search turn-starts
 
-later-requires : tie.Need-later-requires Inv-loop μ-loop
-later-requires c κs = ((search turn-moved, search needs), ((search turn-leg, search needs), search))
+after-moved-requires : tie.Need-after-moved-requires Inv-loop μ-loop
+after-moved-requires c κs = ((search turn-moved, search), (search, ((search turn-leg, search needs), search)))
 
 enum-known-told : tie.Need-enum-known-told Inv-loop μ-loop
 enum-known-told c = search needs
 
 violated-requires : tie.Need-violated-requires Inv-loop μ-loop
-violated-requires c κs = let x : tie.After-later Inv-loop μ-loop = search in told-small _ _ _ (x .later .result) (c .before .told .given .1) (x .later .ensures)
+violated-requires c κs = let x : tie.After-after-moved Inv-loop μ-loop = search in told-small _ _ _ (x .after-moved .result) (c .before .told .given .1) (x .after-moved .ensures)
 
 returns : tie.Need-returns Inv-loop μ-loop
 returns c = search turn-violated
@@ -47,8 +47,8 @@ loop-less c = search needs
 loop-again : tie.Need-loop-again Inv-loop μ-loop
 loop-again c = search turn-goes-on
 
-cast-t14 : tie.Need-cast-t14 Inv-loop μ-loop
-cast-t14 c = search needs
+cast-t15 : tie.Need-cast-t15 Inv-loop μ-loop
+cast-t15 c = search needs
 
 returns-2 : tie.Need-returns-2 Inv-loop μ-loop
 returns-2 c = search turn-ends
@@ -63,7 +63,7 @@ looked-on-spec =
     wide-requires
     add-a
     loop-holds
-    later-requires
+    after-moved-requires
     enum-known-told
     violated-requires
     returns
@@ -71,5 +71,5 @@ looked-on-spec =
     add-a-2
     loop-less
     loop-again
-    cast-t14
+    cast-t15
     returns-2)
