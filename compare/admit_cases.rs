@@ -162,7 +162,7 @@ impl Batch {
 }
 
 /// The file of a plan, its table damaged so many times, and now and then its bytes.
-fn damaged_file(chance: &mut Chance, mut plan: Plan, damaged: u32, misread: bool) -> Vec<u8> {
+pub fn damaged_file(chance: &mut Chance, mut plan: Plan, damaged: u32, misread: bool) -> Vec<u8> {
     let mut words_too = 0;
     for _ in 0..damaged {
         match chance.below(8) {
@@ -192,7 +192,7 @@ fn damaged_file(chance: &mut Chance, mut plan: Plan, damaged: u32, misread: bool
 }
 
 /// Takes a table to the edge of rules until one is violated, or lets two legs on one link start at once.
-fn violate(chance: &mut Chance, plan: &mut Plan) {
+pub fn violate(chance: &mut Chance, plan: &mut Plan) {
     if chance.one_in(2) && !plan.legs.is_empty() {
         let at = chance.below(plan.legs.len());
         let beside: Vec<Leg> = plan.legs[..at].iter().filter(|leg| leg.link == plan.legs[at].link).copied().collect();

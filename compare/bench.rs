@@ -1,7 +1,8 @@
-//! The proved check beside two quick ones, all in this process and on the same plans; and ways to find its divisors.
+//! The proved check beside two quick ones, all in this process and on the same plans; the proved recheck beside a plain one
+//! and beside the whole check; and ways to find divisors.
 //! Usage: bench ROUNDS PLAN...
 
-// Of the checker, the benchmark uses the slice alone.
+// Of the checker, the benchmark uses the slice alone, and of the recheckers the right one.
 #![allow(dead_code)]
 
 mod chance;
@@ -12,6 +13,9 @@ mod format;
 mod paper;
 mod quick;
 mod reasons;
+mod recheck;
+mod recheck_quick;
+mod recheck_times;
 mod rules;
 mod shape;
 
@@ -21,6 +25,7 @@ use divisors::{Pair, IN_USE, METHODS};
 use format::{cursor_bytes, Cursor, Plan};
 use paper::{CURSOR_BYTES, NOTHING_VIOLATED, REFUSED};
 use quick::{asked, Chained, Nested};
+use recheck_times::Rechecks;
 
 /// What a call for C gives.
 #[repr(C)]
@@ -167,18 +172,21 @@ fn bench(name: &str, bytes: &[u8], rounds: u32) {
     let half = Cursor { leg: plan.legs.len() as u32 / 2, ..begin(&plan) };
     let resumed = |what, budget| Timed::new(what, bytes, half, budget, 10);
     let mut kinds = [whole, resumed("resumed, budget 0", 0), resumed("resumed, budget 300", 300)];
+    let mut rechecks = Rechecks::new(bytes, plan.legs.len() as u32);
     let mut divisors = Divisors::new(asked(&plan, begin(&plan)));
     for _ in 0..rounds {
         kinds.iter_mut().for_each(|kind| kind.round(bytes));
+        rechecks.round(bytes);
         divisors.round();
     }
     let (links, legs) = (plan.links.len(), plan.legs.len());
     println!("{}: {} links, {} legs, {} places, {} bytes", name, links, legs, Plain.places(legs as u64), bytes.len());
-    print_found(&kinds, &divisors, pairs_on_links(&plan));
+    print_found(&kinds, &rechecks, &divisors, pairs_on_links(&plan));
 }
 
-fn print_found(kinds: &[Timed; 3], divisors: &Divisors, pairs: u64) {
+fn print_found(kinds: &[Timed; 3], rechecks: &Rechecks, divisors: &Divisors, pairs: u64) {
     kinds.iter().for_each(Timed::print);
+    rechecks.print(kinds[0].medians()[0]);
     let (whole, fixed) = (kinds[0].medians(), kinds[1].medians());
     let [proved, plain, same] = [0, 1, 2].map(|side| (whole[side] - fixed[side]) / pairs as f64);
     let what = "a pair that shares a link";

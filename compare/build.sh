@@ -1,6 +1,7 @@
 # Builds the drivers of the comparisons, and the benchmarks, in .built/compare. The command conepalhui reads this file and gives it
 # its own functions. They need the archives of the calls for C, which are for x86-64: so is what is linked with them. The judge,
-# which the comparison asks, is for this processor; compare/judge builds it. So are the comparisons of networks and admissions.
+# which the comparison asks, is for this processor; compare/judge builds it. So are the comparisons of networks, admissions and
+# rechecks.
 
 rust_target=x86_64-unknown-linux-gnu
 
@@ -62,6 +63,12 @@ build_network_comparison() {
 build_admit_comparison() {
     build_driver admit-driver compare/admit_driver.c conepalhui
     make_if_old admit compare/*.rs plans/*.plan -- rustc --edition 2021 -O compare/admit_compare.rs -o
+}
+
+# The comparison of rechecks, and its driver.
+build_recheck_comparison() {
+    build_driver recheck-driver compare/recheck_driver.c conepalhui
+    make_if_old recheck compare/*.rs plans/*.plan -- rustc --edition 2021 -O compare/recheck_compare.rs -o
 }
 
 # Prints a compiler of Rust that has the library of x86-64.

@@ -278,7 +278,7 @@ pub fn reword(chance: &mut Chance, plan: &mut Plan) {
 }
 
 /// Lets a leg start at a time, in the first period that lies no later, as far as legs may lie late.
-fn start_at(plan: &mut Plan, leg: usize, start: u64) {
+pub fn start_at(plan: &mut Plan, leg: usize, start: u64) {
     let period = u64::from(plan.streams[plan.legs[leg].stream as usize].period);
     let periods = (start / period).min(u64::from(LIMITS.periods));
     let offset = (start - periods * period).min(u64::from(u32::MAX));

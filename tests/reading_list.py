@@ -18,7 +18,11 @@ LIST = re.compile(r"<!-- reading list -->\n.*?<!-- end -->", re.S)
 LEGEND = re.compile(r"<!-- signs -->\n(.*?)<!-- end -->", re.S)
 
 # Where reading begins besides the public calls.
-DEMANDS = [("demands", demand, demand) for demand in ("DemandOne", "DemandTwo", "DemandThree", "DemandThreeForC")] + [("demands", "Admissions", "AdmissionsPass")]
+DEMANDS = [("demands", demand, demand) for demand in ("DemandOne", "DemandTwo", "DemandThree", "DemandThreeForC")] + [
+    ("demands", "Admissions", "AdmissionsPass"),
+    ("demands", "Rechecks", "RechecksAreSound"),
+    ("demands", "Rechecks", "EveningsAreSound"),
+]
 
 # What the language has of its own, what every contract may say, and the constructors of the kit.
 WORDS = {"→", "×", "⊥", ":", "=", "Type", "Unit", "record", "data", "where", "pub", "abbrev", "unfoldable"}
@@ -596,7 +600,7 @@ def legend_signs(page):
     if not legend:
         raise Unknown(f"{TRUST}: no legend between <!-- signs --> and <!-- end -->")
     signs, rust = set(), set()
-    for row in re.findall(r"^\| (`.*?`) \| ", legend.group(1), re.M):
+    for row in re.findall(r"^\| (`.*?`) \| ", legend.group(1).replace(r"\|", "|"), re.M):
         for code in re.findall(r"`([^`]+)`", row):
             rust.update(RUST.findall(code))
             for token in tokens(code):

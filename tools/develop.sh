@@ -182,12 +182,14 @@ are made (200,000), and --seed N gives other ones (1). Exit status: 0 only where
 With --networks N it compares the calls on so many networks instead, with a plain solver (compare/network.rs), and
 catches the wrong ones of compare/network_wrong.rs. With --admissions N it compares the admissions of so many streams,
 with a search that tries each offset (compare/admit.rs) and one that jumps, and catches those of compare/admit_wrong.rs.
+With --rechecks N it moves legs of so many tables and compares each recheck, with a plain one (compare/recheck.rs) and,
+where the table was accepted before, with a whole check of the moved table; it catches those of compare/recheck_wrong.rs.
 END
 }
 
 do_compare() {
-    local calls=200000 networks=0 admissions=0 seed=1 emulator c_compiler
-    numbers_from 'calls networks admissions seed' "$@"
+    local calls=200000 networks=0 admissions=0 rechecks=0 seed=1 emulator c_compiler
+    numbers_from 'calls networks admissions rechecks seed' "$@"
     . compare/build.sh
     if ((networks > 0)); then
         build_network_comparison
@@ -195,6 +197,9 @@ do_compare() {
     elif ((admissions > 0)); then
         build_admit_comparison
         .built/compare/admit "$seed" "$admissions" "${emulator[@]}" .built/compare/admit-driver
+    elif ((rechecks > 0)); then
+        build_recheck_comparison
+        .built/compare/recheck "$seed" "$rechecks" "${emulator[@]}" .built/compare/recheck-driver
     else
         build_comparison
         compare/judge compare "$seed" "$calls" "${emulator[@]}" .built/compare/driver
@@ -212,6 +217,7 @@ whole check, and resumed calls with the budgets 0 and 300. All three have to giv
 
 Both take Euclid's divisor. A ratio above 1 says that the proved code took longer than the side before it. The time of a
 pair that shares a link is what a whole check takes beyond a call with budget 0, divided by the number of these pairs.
+A recheck of the first leg, of a middle one and of the last is timed beside a plain one, and beside the proved whole check.
 Then come the greatest common divisors of a whole check: how many it takes, the time of one by each method of
 compare/divisors.rs, and for the method in use which part of the proved check they take.
 
