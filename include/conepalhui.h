@@ -25,13 +25,17 @@
  * A frame may be given another slot while the check is paused: conepalhui_move gives the new plan file and the cursor
  * to go on with, and the verdict will be that of a whole check of the new plan.
  *
+ * Where a plan was accepted and one of its legs is then moved, there is no need to look at every place again:
+ * conepalhui_recheck looks at those that can read this leg, at most 4 more than there are legs. When its verdict is
+ * that of a whole check, and when it is not, stands there.
+ *
  * A stream may be added to a plan that keeps the rules: conepalhui_admit finds the least first offset with which the
  * plan still keeps them, moves no other frame, and gives the new plan file. Its check begins anew, with a start.
  *
  * ---- WHAT THE CALLER MUST KEEP TO. OTHERWISE 'NOTHING VIOLATED' MAY BE SAID OF A PLAN THAT BREAKS A RULE. ----
  *
  *   1. The run. It begins with a start that is granted. Starts, slices and moves follow, in any order. A refused call
- *      writes nothing and is no part of the run.
+ *      writes nothing and is no part of the run; nor is a recheck.
  *   2. The plan. Until a move of the run is granted, each call is given the plan that the first start was given. After
  *      that it is given the plan that the last granted move wrote: the first bytes of new_plan, as many as the number
  *      beside its result says. Nothing else changes the plan.
@@ -79,11 +83,11 @@
 #include <stdint.h>
 
 /* The version of this header and of the archive that it belongs to. A NUMBER is 10000 MAJOR + 100 MINOR + PATCH. */
-#define CONEPALHUI_VERSION "3.1.0"
+#define CONEPALHUI_VERSION "3.2.0"
 #define CONEPALHUI_VERSION_MAJOR 3
-#define CONEPALHUI_VERSION_MINOR 1
+#define CONEPALHUI_VERSION_MINOR 2
 #define CONEPALHUI_VERSION_PATCH 0
-#define CONEPALHUI_VERSION_NUMBER 30100
+#define CONEPALHUI_VERSION_NUMBER 30200
 
 /*
  * The edition of the rules: what a plan file, a place and a cursor mean, and when a place holds. It is raised whenever
@@ -99,13 +103,14 @@
  * has no edition, and the plan keeps its revision. So whoever saves cursors saves the edition beside them and starts
  * anew where it is another one, be it higher or lower, as examples/host.c does.
  *
- * The number here is the archive's only where header and archive belong together. So start, move and the admissions
- * have the edition in their names there: a program that was compiled with the header of another edition is not linked.
- * Compile it anew.
+ * The number here is the archive's only where header and archive belong together. So start, move, recheck and the
+ * admissions have the edition in their names there: a program that was compiled with the header of another edition is
+ * not linked. Compile it anew.
  */
 #define CONEPALHUI_EDITION 3
 #define conepalhui_start conepalhui_start_3
 #define conepalhui_move conepalhui_move_3
+#define conepalhui_recheck conepalhui_recheck_3
 #define conepalhui_admit conepalhui_admit_3
 #define conepalhui_admit_between conepalhui_admit_between_3
 
@@ -151,7 +156,8 @@
  * accepted.
  */
 enum {
-    CONEPALHUI_NOTHING_VIOLATED = 0, /* a slice: nothing is violated from its cursor on, and the check is done */
+    CONEPALHUI_NOTHING_VIOLATED = 0, /* a slice: nothing is violated from its cursor on, and the check is done; a
+                                        recheck: nothing is violated at the places that it looked at */
     CONEPALHUI_GRANTED = 0,          /* start, move, conversion and admission: done */
     CONEPALHUI_PAUSED = 1,           /* paused: the budget is used up, and all that was looked at holds */
     CONEPALHUI_NONE_YET = 1,         /* admit_between: none of the first offsets that were looked at fits */
@@ -168,6 +174,15 @@ struct conepalhui_answer {
     uint32_t number; /* after a refusal its position; otherwise places, steps or bytes, as each call says below */
 };
 typedef struct conepalhui_answer conepalhui_answer;
+
+/* What a recheck gives. */
+struct conepalhui_rechecked {
+    uint32_t result; /* one of those above */
+    uint32_t number; /* how many places were looked at, a violated one included; refused: the position */
+    uint32_t leg;    /* violated: the leg of the violated place; otherwise 0 */
+    uint32_t place;  /* violated: its place; otherwise 0 */
+};
+typedef struct conepalhui_rechecked conepalhui_rechecked;
 
 /* What an admission gives. */
 struct conepalhui_admission {
@@ -227,6 +242,45 @@ uint32_t conepalhui_slice(const uint8_t *plan, size_t plan_len, const uint8_t *c
 conepalhui_answer conepalhui_move(const uint8_t *plan, size_t plan_len, const uint8_t *cursor, size_t cursor_len,
                                   uint32_t leg, uint32_t offset, uint32_t periods,
                                   uint8_t *new_plan, size_t new_plan_len, uint8_t *out, size_t out_len);
+
+/*
+ * Looks again at one leg that was moved: in order, and only at the places of the plan at which this leg can be read.
+ * These are
+ *
+ *   - all places of the leg itself,
+ *   - of each higher leg the overlap with it,
+ *   - the hop of the next leg of its stream, where there is one,
+ *   - and the deadline of its stream, which is a place of the last leg of that stream, whichever leg was moved.
+ *
+ * In a plan of G legs they are G + 4, or G + 2 for the last leg of a stream.
+ *
+ * 'NOTHING VIOLATED' IS SAID OF THE PLACES THAT WERE LOOKED AT. OF THE WHOLE PLAN IT HOLDS ONLY WHERE THE PLAN BEFORE
+ * THE MOVE WAS ACCEPTED. That is: with the offset and the period word that this one leg had then, and with all other
+ * numbers as they are now (the revision plays no part), a whole check in this edition tells 'nothing violated'. Then
+ * the recheck tells what a whole check of the plan as it stands tells: that nothing is violated, or the first violated
+ * place of all and its rule. This is proved (crates/demands/specs/Rechecks.antt: RechecksAreSound). Otherwise the
+ * answer says nothing of other places, neither that they hold nor that the place told is the first of all: check the
+ * plan by a start and slices. THE LIBRARY CANNOT SEE WHICH OF THE TWO IT IS.
+ *
+ * What keeps it so, from one move to the next (EveningsAreSound there):
+ *
+ *   - Where it was so and the recheck told 0, the plan is accepted now. Any leg may be moved next, and rechecked.
+ *   - Where it was so and the recheck told 2 to 5, move THE SAME LEG again, as often as you like, and recheck it. ONCE
+ *     ANOTHER LEG IS MOVED it is lost, until a whole check accepts the plan.
+ *   - Recheck the very leg that was moved: a recheck of another leg does not look at all that the move may have broken.
+ *
+ * examples/recheck.c keeps to this.
+ *
+ * A RECHECK IS NO PART OF A RUN. It takes no cursor, gives none and writes nothing. A cursor at the end is had by
+ * slices alone; a check that was paused goes on from its own cursor, which the move gave.
+ *
+ * The call reads and judges the whole plan, as a start does, and then looks at these few places.
+ *
+ * Result: 0 nothing violated at the places looked at, 2 to 5 violated, or 100 + refusal; never 1. Number: how many
+ * places were looked at, a violated one included, or the refusal's position: 12, 13, 2, 14 and 4 to 7 as for a start,
+ * then 10 where the plan has no such leg.
+ */
+conepalhui_rechecked conepalhui_recheck(const uint8_t *plan, size_t plan_len, uint32_t leg);
 
 /*
  * Converts a plan file of the first layout, as versions before 3.0.0 wrote it. new_plan gets the same plan as a file of
@@ -333,11 +387,12 @@ static inline uint32_t conepalhui_refusal(uint32_t result)
     return result > CONEPALHUI_REFUSED ? result - CONEPALHUI_REFUSED : 0;
 }
 
-/* A result in words. The numbers 0 and 1 say two things each, one of a slice and one of other calls. */
+/* A result in words. The numbers 0 and 1 say several things each, one of a slice and others of other calls. */
 static inline const char *conepalhui_text(uint32_t result)
 {
     switch (result) {
-    case CONEPALHUI_NOTHING_VIOLATED: return "after a slice: nothing violated; after any other call: granted";
+    case CONEPALHUI_NOTHING_VIOLATED: return "after a slice: nothing violated; after a recheck: nothing violated at "
+                                             "the places that were looked at; after any other call: granted";
     case CONEPALHUI_PAUSED: return "after a slice: paused, and all that was looked at holds; after a piece of an "
                                    "admission: none of the first offsets that were looked at fits";
     case CONEPALHUI_WINDOW: return "violated: the frame, with the gap after it, is not through in its period";
@@ -354,7 +409,7 @@ static inline const char *conepalhui_text(uint32_t result)
     case CONEPALHUI_REFUSED + 7: return "a leg's stream, its link, its period word or its route is wrong";
     case CONEPALHUI_REFUSED + 8: return "the cursor is of another revision than the plan";
     case CONEPALHUI_REFUSED + 9: return "the cursor is at no place of the plan, nor at its end";
-    case CONEPALHUI_REFUSED + 10: return "there is no such leg to move";
+    case CONEPALHUI_REFUSED + 10: return "there is no such leg to move or to recheck";
     case CONEPALHUI_REFUSED + 11: return "a move or an admission at revision 4,294,967,295";
     case CONEPALHUI_REFUSED + 12: return "the bytes end before the numbers do";
     case CONEPALHUI_REFUSED + 13: return "a number in more bytes than it needs, or above 4,294,967,295";
@@ -447,7 +502,7 @@ static inline struct conepalhui_place conepalhui_cursor_place(const uint8_t *cur
  *    7    a leg's stream, its link, its period word or its route is wrong           the lowest such leg
  *    8    the cursor is of another revision than the plan                           0
  *    9    the cursor is at no place of the plan, nor at its end                     0
- *   10    there is no such leg to move                                              0
+ *   10    there is no such leg to move or to recheck                                0
  *   11    a move or an admission at revision 4,294,967,295                          0
  *   12    the bytes end before the numbers do                                       the start of that number
  *   13    a number in more bytes than it needs, or above 4,294,967,295              the start of that number
@@ -462,9 +517,10 @@ static inline struct conepalhui_place conepalhui_cursor_place(const uint8_t *cur
  * with 12 or 14.
  *
  * Where several are due the first is told: of the plan 12 and 13 from left to right, 2 after the fifth number, 14;
- * of the cursor 12, 13, 14; 15 for out; then 4 to 11 and 17 in their order; and last 15 for new_plan. An admission has
- * no cursor, and an order of its own, after 7: 11, 20, 15, 19, 18. A 12, 13 or 14 of a slice or a move lies in the plan
- * exactly when conepalhui_start refuses that plan with it too, and otherwise in the cursor.
+ * of the cursor 12, 13, 14; 15 for out; then 4 to 11 and 17 in their order; and last 15 for new_plan. A recheck has no
+ * cursor, and after 7 only 10. An admission has none either, and an order of its own, after 7: 11, 20, 15, 19, 18. A
+ * 12, 13 or 14 of a slice or a move lies in the plan exactly when conepalhui_start refuses that plan with it too, and
+ * otherwise in the cursor.
  */
 
 #endif

@@ -210,6 +210,43 @@ static void convert(const char *name, const char *old_plan, size_t new_plan_len,
     compare(name, call_convert(), due);
 }
 
+/* What a recheck has to give. It writes nothing. */
+struct due_recheck {
+    uint32_t result, number, leg, place;
+};
+
+static struct due_recheck keeps(uint32_t looked)
+{
+    return (struct due_recheck){0, looked, 0, 0};
+}
+
+static struct due_recheck breaks(uint32_t result, uint32_t looked, uint32_t leg, uint32_t place)
+{
+    return (struct due_recheck){result, looked, leg, place};
+}
+
+static conepalhui_rechecked call_recheck(uint32_t leg)
+{
+    return conepalhui_recheck(lent[PLAN].bytes, lent[PLAN].length, leg);
+}
+
+static void recheck(const char *name, const char *plan, uint32_t leg, struct due_recheck due)
+{
+    lend_all(plan, "", 0, 0);
+    conepalhui_rechecked told = call_recheck(leg);
+    if (told.leg != due.leg || told.place != due.place) {
+        fault(name, "another place");
+        printf("    it is %" PRIu32 " %" PRIu32 ", and %" PRIu32 " %" PRIu32 " is due\n", told.leg, told.place, due.leg,
+               due.place);
+    }
+    compare(name, (conepalhui_answer){told.result, told.number}, (struct due){due.result, due.number, "", ""});
+}
+
+static void not_rechecked(const char *name, const char *plan, uint32_t leg, uint32_t result, uint32_t at)
+{
+    recheck(name, plan, leg, (struct due_recheck){result, at, 0, 0});
+}
+
 /* What is wanted of a new stream: its route, as so many numbers of links, and its numbers. */
 struct wanted {
     uint32_t links[9];
@@ -610,6 +647,59 @@ static void refused_admissions(void)
     admit("all null", "", (struct wanted){{0}, 0, 0, 0, 0}, 0, not_admitted(112, 0));
 }
 
+/* ---- Rechecks */
+
+/*
+ * Of Plan A's three legs, leg 0 can be read at 7 places and the others, each the last of its stream, at 5. Each plan
+ * here is Plan A with one leg moved. What is violated elsewhere is not told.
+ */
+static void rechecks(void)
+{
+    const char *both = PLAN_A("00", "D8 04", "A0 05"); /* leg 0 at 600 ns breaks the next hop, and overlaps leg 2 */
+    recheck("leg 0", MENDED, 0, keeps(7));
+    recheck("leg 1, the last of its stream", MENDED, 1, keeps(5));
+    recheck("leg 2, of a stream of its own", MENDED, 2, keeps(5));
+    recheck("the overlap of a higher leg", plan_a, 0, breaks(5, 7, 2, 3));
+    recheck("the overlap with a lower leg", plan_a, 2, breaks(5, 4, 2, 3));
+    recheck("the overlap of two others", plan_a, 1, keeps(5));
+    recheck("the next hop before the overlap", both, 0, breaks(3, 4, 1, 1));
+    recheck("its own hop", both, 1, breaks(3, 2, 1, 1));
+    recheck("the overlap, where another hop is violated", both, 2, breaks(5, 4, 2, 3));
+    recheck("a window at place 0 of leg 0", PLAN_A("00", "81 88 06", "A0 05"), 0, breaks(2, 1, 0, 0));
+    recheck("the window of another leg", PLAN_A("00", "81 88 06", "A0 05"), 2, keeps(5));
+    recheck("at the last revision", plan_last, 0, breaks(5, 7, 2, 3));
+    not_rechecked("leg 3", MENDED, 3, 110, 0);
+    not_rechecked("leg 2^32 - 1", MENDED, TOP, 110, 0);
+    not_rechecked("no legs", "00 00 00 00 00", 0, 110, 0);
+    not_rechecked("a file of the first layout", first_a, 0, 112, 41);
+    not_rechecked("null", "", 0, 112, 0);
+    not_rechecked("null, and no such leg", "", TOP, 112, 0);
+}
+
+/* The three legs 1 to 3 of one stream: the deadline is at place 2 of leg 3, whichever of them was moved. */
+static void rechecks_of_a_stream(void)
+{
+    const char *accepted = PLAN_D("00", DUE, LEG_0, LEG_1, LEG_2, LEG_3);
+    const char *too_late = PLAN_D("00", "FF 32", LEG_0, LEG_1, LEG_2, LEG_3);
+    const char *leg_3_early = PLAN_D("00", DUE, LEG_0, LEG_1, LEG_2, "E0 02 01");
+    const char *leg_1_late = PLAN_D("00", DUE, LEG_0, "00 01", LEG_2, LEG_3);
+    const char *leg_0_early = PLAN_D("00", DUE, "9F 05 00", LEG_1, LEG_2, LEG_3);
+    const uint32_t places[] = {6, 8, 8, 6};
+    for (uint32_t leg = 0; leg < 4; leg++)
+        recheck("Plan D", accepted, leg, keeps(places[leg]));
+    recheck("the deadline, of the first leg", too_late, 1, breaks(4, 7, 3, 2));
+    recheck("the deadline, of the middle leg", too_late, 2, breaks(4, 7, 3, 2));
+    recheck("the deadline, of the last leg", too_late, 3, breaks(4, 3, 3, 2));
+    recheck("the deadline of another stream", too_late, 0, keeps(6));
+    recheck("its own hop", leg_3_early, 3, breaks(3, 2, 3, 1));
+    recheck("the next hop", leg_3_early, 2, breaks(3, 6, 3, 1));
+    recheck("the hop after the next", leg_3_early, 1, keeps(8));
+    recheck("the next hop, one period late", leg_1_late, 1, breaks(3, 5, 2, 1));
+    recheck("the overlap of the next stream", leg_0_early, 0, breaks(5, 4, 1, 3));
+    recheck("the overlap with the stream before", leg_0_early, 1, breaks(5, 4, 1, 3));
+    recheck("the overlap of two others", leg_0_early, 2, keeps(8));
+}
+
 /* Each plan here is refused in the same way by all calls, with the position of its refusal. */
 static void refused_plans(void)
 {
@@ -636,6 +726,8 @@ static void refused_plans(void)
         start(name, name, 15, due);
         slice(name, name, "00 00 00", 5, 15, due);
         move(name, name, "00 00 00", (struct moved){0, 0, 0}, ROOM, 15, due);
+        not_rechecked(name, name, 0, tried[i].result, tried[i].at);
+        not_rechecked(name, name, TOP, tried[i].result, tried[i].at);
         admit(name, name, THIRD(100000), ROOM, not_admitted(tried[i].result, tried[i].at));
         admit(name, name, THIRD(0), 0, not_admitted(tried[i].result, tried[i].at));
     }
@@ -779,6 +871,11 @@ static void stack_move(void)
     call_move((struct moved){2047, TOP, 7});
 }
 
+static void stack_recheck(void)
+{
+    call_recheck(2);
+}
+
 static void stack_convert(void)
 {
     call_convert();
@@ -853,6 +950,7 @@ static void stacks(void)
         {"slice_full", stack_slice, {largest, plan_a}, CONEPALHUI_STACK_BYTES},
         {"slice", stack_short_slice, {largest, plan_a}, CONEPALHUI_STACK_BYTES},
         {"move", stack_move, {largest, plan_a}, CONEPALHUI_STACK_BYTES},
+        {"recheck", stack_recheck, {largest, MENDED}, CONEPALHUI_STACK_BYTES},
         {"convert_first", stack_convert, {first_largest, first_a}, CONEPALHUI_STACK_BYTES},
         {"admit", stack_admit, {all_but_one, MENDED}, CONEPALHUI_ADMIT_STACK_BYTES},
         {"admit_between", stack_between, {all_but_one, MENDED}, CONEPALHUI_ADMIT_STACK_BYTES},
@@ -863,6 +961,10 @@ static void stacks(void)
     start("largest plan", largest, 15, gives(0, 2102272, "07 00 00"));
     slice("largest plan", largest, "07 00 00", TOP, 15, gives(0, 2102272, "07 80 10 00"));
     slice("largest plan, paused", largest, "07 FF 0F 80 10", 1, 15, gives(1, 1, "07 FF 0F 81 10"));
+    recheck("largest plan, a first leg", largest, 0, keeps(2052));
+    recheck("largest plan, a middle leg", largest, 2046, keeps(2052));
+    recheck("largest plan, the last leg", largest, 2047, keeps(2050));
+    not_rechecked("largest plan, no such leg", largest, 2048, 110, 0);
     convert("largest plan", first_largest, hex_length(largest), grants((uint32_t)hex_length(largest), "", largest));
     convert("largest plan, too little room", first_largest, hex_length(largest) - 1, refused(115, 0));
     for (size_t i = 0; i < sizeof calls / sizeof *calls; i++) {
@@ -899,6 +1001,8 @@ int main(void)
     in_pieces("pieces of 100 ns", MENDED, THIRD(100000), 100, admits(1344, PLAN_A_AND("A0 8D 06", "C0 0A")));
     in_pieces("pieces of 7 ns, and none fits", MENDED, THIRD(2016), 7, not_admitted(118, 0));
     refused_admissions();
+    rechecks();
+    rechecks_of_a_stream();
     rooms_and_orders();
     nulls();
     shared_memory();

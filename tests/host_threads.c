@@ -3,11 +3,11 @@
  *
  *     host_threads ROUNDS PLAN...
  *
- * For each plan file there is a fixed row of calls: starts, slices, moves, conversions, admissions and refused calls,
- * each given what the calls before it wrote; conversions and admissions are given the plan file as it was read. One
- * thread alone makes the row first, and keeps each answer and every byte of the lent memory. Then all threads make
- * their rows at the same time and compare, again and again until each has done so ROUNDS times. The exit status is 0
- * only where nothing differs. tests/host.test builds and runs it.
+ * For each plan file there is a fixed row of calls: starts, slices, moves, rechecks, conversions, admissions and
+ * refused calls, each given what the calls before it wrote; conversions and admissions are given the plan file as it
+ * was read. One thread alone makes the row first, and keeps each answer and every byte of the lent memory. Then all
+ * threads make their rows at the same time and compare, again and again until each has done so ROUNDS times. The exit
+ * status is 0 only where nothing differs. tests/host.test builds and runs it.
  */
 #define _GNU_SOURCE
 
@@ -20,12 +20,13 @@
 #include <stdlib.h>
 #include <string.h>
 
-enum { THREADS = 8, KINDS = 8, CALLS = 7 * KINDS, OUT = 24, MOVES = CALLS / KINDS, ROOM = CONEPALHUI_PLAN_BYTES };
+enum { THREADS = 8, KINDS = 9, CALLS = 7 * KINDS, OUT = 24, MOVES = CALLS / KINDS, ROOM = CONEPALHUI_PLAN_BYTES };
 
 /* All that one call gives: its answer, and what the memory is that it was lent to write to. */
 struct given {
     conepalhui_answer answer;
-    uint32_t offset; /* of an admission; otherwise 0 */
+    uint32_t offset;     /* of an admission; otherwise 0 */
+    uint32_t leg, place; /* of a recheck; otherwise 0 */
     uint8_t out[OUT], new_plan[ROOM];
 };
 
@@ -66,13 +67,24 @@ static void make_admission(struct row *row, unsigned which)
     now->offset = given.offset;
 }
 
+/* Looks again at a leg that a move of the row may have moved. */
+static void make_recheck(struct row *row, unsigned which)
+{
+    struct given *now = &row->now;
+    conepalhui_rechecked told = conepalhui_recheck(row->plan, row->plan_len, which % 3);
+    now->answer.result = told.result;
+    now->answer.number = told.number;
+    now->leg = told.leg;
+    now->place = told.place;
+}
+
 /* Makes one call of the row, with lent memory that is the same each time, and goes on from what it wrote. */
 static void make_call(struct row *row, unsigned which)
 {
     struct given *now = &row->now;
     memset(now->out, 0xA5, sizeof now->out);
     memset(now->new_plan, 0xA5, ROOM);
-    now->offset = 0;
+    now->offset = now->leg = now->place = 0;
     switch (which % KINDS) {
     case 0: /* a start, at first of the file as it was read */
         now->answer = conepalhui_start(row->plan, row->plan_len, now->out, sizeof now->out);
@@ -96,6 +108,9 @@ static void make_call(struct row *row, unsigned which)
     case 5:
     case 6:
         make_admission(row, which);
+        return;
+    case 8:
+        make_recheck(row, which);
         return;
     default: /* refused: a byte is missing at the end of the plan */
         now->answer = conepalhui_slice_full(row->plan, row->plan_len - 1, row->cursor, row->cursor_len, which,
@@ -139,7 +154,8 @@ static bool is_same(const struct row *row, unsigned which)
 {
     const struct given *now = &row->now, *alone = &row->alone[which];
     return now->answer.result == alone->answer.result && now->answer.number == alone->answer.number &&
-           now->offset == alone->offset && memcmp(now->out, alone->out, sizeof now->out) == 0 &&
+           now->offset == alone->offset && now->leg == alone->leg && now->place == alone->place &&
+           memcmp(now->out, alone->out, sizeof now->out) == 0 &&
            memcmp(now->new_plan, alone->new_plan, ROOM) == 0;
 }
 
@@ -186,12 +202,12 @@ static bool is_converted(const struct row *row)
 }
 
 /*
- * Makes the row alone. Moves have to be granted, slices to look at places, the cut plan to be refused, and streams to
- * be admitted, unless the plan is not accepted. Gives how many were.
+ * Makes the row alone. Moves have to be granted, slices and rechecks to look at places, the cut plan to be refused, and
+ * streams to be admitted, unless the plan is not accepted. Gives how many were.
  */
 static unsigned run_alone(struct row *row)
 {
-    unsigned seen[6] = {0, 0, 0, 0, 0, 0};
+    unsigned seen[7] = {0, 0, 0, 0, 0, 0, 0};
     begin_row(row);
     for (unsigned which = 0; which < CALLS; which++) {
         make_call(row, which);
@@ -203,8 +219,10 @@ static unsigned run_alone(struct row *row)
         seen[3] += which % KINDS == 4 && is_converted(row);
         seen[4] += admits && row->now.answer.result == CONEPALHUI_GRANTED;
         seen[5] += admits && conepalhui_refusal(row->now.answer.result) == 19;
+        seen[6] += which % KINDS == 8 && conepalhui_refusal(row->now.answer.result) == 0 && row->now.answer.number > 0;
     }
-    if (seen[0] != MOVES || seen[1] == 0 || seen[2] != MOVES || seen[3] != MOVES || seen[4] + seen[5] != 2 * MOVES)
+    if (seen[0] != MOVES || seen[1] == 0 || seen[2] != MOVES || seen[3] != MOVES || seen[4] + seen[5] != 2 * MOVES ||
+        seen[6] != MOVES)
         stop("a row of calls does not try what it is there for");
     return seen[4];
 }

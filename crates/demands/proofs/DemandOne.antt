@@ -7,6 +7,7 @@ use Rattle.recheck.proofs.OneAnswer.{recheck-one-answer}
 use Rattle.admission.proofs.OneAnswer.{admit-one-answer, admit-between-one-answer}
 use Rattle.host.proofs.OneAnswer.{host-start-one-answer, host-slice-one-answer, host-slice-full-one-answer, host-move-one-answer, host-convert-one-answer}
 use Rattle.host.proofs.Admissions.{host-admit-one-answer, host-admit-between-one-answer, host-admissions-write-nothing}
+use Rattle.host.proofs.Rechecks.{host-recheck-one-answer}
 use Rattle.claims.proofs.OneAnswer.{test-times-one-answer, test-chain-one-answer}
 use Rattle.solver.proofs.OneAnswer.{solve-one-answer}
 use Rattle.network_host.proofs.OneAnswer.{host-solve-one-answer, host-test-times-one-answer, host-test-chain-one-answer, host-solve-refusals-write-nothing}
@@ -33,6 +34,7 @@ one-answer-each = record {
   host-move = host-move-one-answer;
   read-first = read-first-one-answer;
   host-convert = host-convert-one-answer;
+  host-recheck = host-recheck-one-answer;
   host-admit = host-admit-one-answer;
   host-admit-between = host-admit-between-one-answer;
   solve = solve-one-answer;

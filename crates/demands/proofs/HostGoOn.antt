@@ -65,7 +65,7 @@ newest-right (move-leg s mv a q) (runs.move-leg c nv (grant.Granted d)) cs t m r
 newest-right (move-leg s mv a q) (runs.move-leg c nv (grant.Refused i j d)) cs t m r = absurd m
 
 -- A slice from a right cursor and a start of a well-formed table are not refused.
-rule-below : (r : Rule) → ruleResult r < refusedResult 0
+pub rule-below : (r : Rule) → ruleResult r < refusedResult 0
 rule-below rule.Window = omega arith
 rule-below rule.Hop = omega arith
 rule-below rule.Deadline = omega arith

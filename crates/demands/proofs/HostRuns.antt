@@ -139,17 +139,17 @@ carried (move-leg cursor mv a m ∷ call ∷ calls) plan x =
     }
 
 -- The verdict that C is given is the answer's.
-rule-of : ℕ → Rule
+pub rule-of : ℕ → Rule
 rule-of n = pick (eqb n 2) rule.Window (pick (eqb n 3) rule.Hop (pick (eqb n 4) rule.Deadline rule.Overlap))
 
-rule-again : (r : Rule) → rule-of (ruleResult r) ≡ r
+pub rule-again : (r : Rule) → rule-of (ruleResult r) ≡ r
 unfolding rule-of
 rule-again rule.Window = refl
 rule-again rule.Hop = refl
 rule-again rule.Deadline = refl
 rule-again rule.Overlap = refl
 
-rule-above : (r : Rule) → 2 ≤ ruleResult r
+pub rule-above : (r : Rule) → 2 ≤ ruleResult r
 rule-above rule.Window = omega arith
 rule-above rule.Hop = omega arith
 rule-above rule.Deadline = omega arith

@@ -9,6 +9,7 @@ pub mod SavedCursors
 pub mod HostCalls
 pub mod HostRuns
 pub mod HostGoOn
+pub mod HostRechecks
 pub mod PlanTables
 pub mod AtNumbers
 pub mod HostAtNumbers

@@ -26,6 +26,7 @@ use Rattle.admission.specs.Theorems.{AdmitOneAnswer, AdmitBetweenOneAnswer}
 use Rattle.admission.specs.declared.Admission.the-variants as admission
 use Rattle.host.specs.Theorems.{HostStartOneAnswer, HostSliceOneAnswer, HostSliceFullOneAnswer, HostMoveOneAnswer, HostConvertOneAnswer, HostRefusalsWriteNothing}
 use Rattle.host.specs.AdmissionTheorems.{HostAdmitOneAnswer, HostAdmitBetweenOneAnswer, HostAdmissionsWriteNothing}
+use Rattle.host.specs.RecheckTheorems.{HostRecheckOneAnswer}
 use Rattle.claims.specs.Theorems.{TestTimesOneAnswer, TestChainOneAnswer}
 use Rattle.solver.specs.Solving.{SolvesWith}
 use Rattle.solver.specs.Theorems.{SolveOneAnswer}
@@ -55,6 +56,7 @@ pub record OneAnswerEach : Type 0 where
   pub host-move : HostMoveOneAnswer
   pub read-first : ReadFirstOneAnswer
   pub host-convert : HostConvertOneAnswer
+  pub host-recheck : HostRecheckOneAnswer
   pub host-admit : HostAdmitOneAnswer
   pub host-admit-between : HostAdmitBetweenOneAnswer
   pub solve : SolveOneAnswer

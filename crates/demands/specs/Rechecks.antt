@@ -3,9 +3,10 @@ use Prim.Native.Nat.{ℕ}
 use mathlib.Core.Path.{_≡_}
 use mathlib.Core.List.{List, [], _∷_}
 use mathlib.Core.Logic.{_⊎_}
-use Rattle.table.specs.Layout.{revisionOf}
+use Rattle.table.specs.Layout.{revisionOf, Sized}
 use Rattle.table.specs.PlanA.{planA}
 use Rattle.table.specs.declared.Move.{Move}
+use Rattle.files.specs.Reading.{IsFile}
 use Rattle.files.specs.declared.Cursor.{Cursor}
 use Rattle.rules.specs.declared.Rule.the-variants as rule
 use Rattle.places.specs.Order.{IsEnd}
@@ -16,6 +17,9 @@ use Rattle.recheck.specs.Premise.{WasAccepted}
 use Rattle.recheck.specs.Rechecks.{Rechecks}
 use Rattle.recheck.specs.declared.RecheckAnswer.{RecheckAnswer}
 use Rattle.recheck.specs.declared.RecheckAnswer.the-variants.{Violated, NothingViolated, Refused}
+use Rattle.host.specs.Answers.{ruleResult}
+use Rattle.host.specs.Rechecks.{HostRechecks}
+use Rattle.host.specs.declared.late_move.RecheckedAnswer.{RecheckedAnswer}
 use Rattle.demands.specs.Verdicts.{Verdict, violated, nothing-violated}
 use Rattle.demands.specs.Runs.{Call, HandedOut, Run}
 use Rattle.demands.specs.DemandThree.{Sound}
@@ -54,6 +58,15 @@ pub record EveningsAreSound : Type 0 where
   pub accepted : (t : List ℕ) (late : Late) (earlier : List Late) (u : List ℕ) → Accepted t → Evening t (late ∷ earlier) u → RecheckGives (late .told) nothing-violated → Accepted u
   -- It may begin where a cursor of the table's revision, handed out in a run, stands at the end.
   pub begins : (calls : List Call) (t : List ℕ) (c : Cursor) → Run calls t → HandedOut c calls → c .revision ≡ revisionOf t → IsEnd t (c .leg) (c .place) → Accepted t
+
+-- For C: 0 gives nothing violated, 2 to 5 give a place and its rule. The plan is the file of a table, and this verdict is that of a whole check of it.
+abbrev pub HostRecheckGives : RecheckedAnswer → Verdict → Type 0
+HostRecheckGives a (violated leg place rule) = (a .result ≡ ruleResult rule) × (a .leg ≡ leg) × (a .place ≡ place)
+HostRecheckGives a nothing-violated = a .result ≡ 0
+
+abbrev pub HostRechecksAreSound : Type 0
+HostRechecksAreSound =
+    (plan t : List ℕ) (m : ℕ) (a : RecheckedAnswer) (v : Verdict) → IsFile Sized plan t → WasAccepted t m → HostRechecks plan m a → HostRecheckGives a v → Sound t v
 
 -- THE PREMISE IS NEEDED. Plan A was never accepted, since legs 0 and 2 meet. A recheck of leg 1 looks at five places and finds nothing violated, and a whole check finds (2,3).
 pub record PremiseIsNeeded : Type 0 where

@@ -80,7 +80,7 @@ pub host-admissions-write-nothing : HostAdmissionsWriteNothing
 host-admissions-write-nothing = record { whole = whole-keeps; between = piece-keeps }
 
 -- With which numbers a table is refused, and an admission to it. Not with those of the plan file.
-shape-refusal : (t : List ℕ) (k p : ℕ) → Sized t → ShapeFault t k p → (4 ≤ k) × (k ≤ 7)
+pub shape-refusal : (t : List ℕ) (k p : ℕ) → Sized t → ShapeFault t k p → (4 ≤ k) × (k ≤ 7)
 shape-refusal t k p z (inl x) = absurd (size-one t .none z x)
 shape-refusal t k p z (inr (a, inl x)) = (omega (arith, x .0), omega (arith, x .0))
 shape-refusal t k p z (inr (a, inr (b, inl x))) = (omega (arith, x .0), omega (arith, x .0))

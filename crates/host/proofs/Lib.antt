@@ -1,8 +1,10 @@
 pub mod Laws
 pub mod Steps
 pub mod Admitting
+pub mod Rechecking
 pub mod OneAnswer
 pub mod Outcomes
 pub mod MoveRoom
 pub mod Results
 pub mod Admissions
+pub mod Rechecks

@@ -2,6 +2,8 @@ pub mod Answers
 pub mod Refusals
 pub mod Calls
 pub mod Admissions
+pub mod Rechecks
 pub mod Steps
 pub mod Theorems
 pub mod AdmissionTheorems
+pub mod RecheckTheorems
