@@ -22,6 +22,7 @@ DEMANDS = [("demands", demand, demand) for demand in ("DemandOne", "DemandTwo", 
     ("demands", "Admissions", "AdmissionsPass"),
     ("demands", "Rechecks", "RechecksAreSound"),
     ("demands", "Rechecks", "EveningsAreSound"),
+    ("demands", "Rechecks", "HostRechecksAreSound"),
 ]
 
 # What the language has of its own, what every contract may say, and the constructors of the kit.
