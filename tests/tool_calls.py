@@ -19,8 +19,11 @@ from judge import HOME
 COMMAND = str(HOME / "conepalhui")
 STATUS = {"granted": 0, "nothing violated": 0, "violated": 1, "refused": 2, "paused": 3}
 
-# An answer's kind, the words of its first line, its revision or None, and its third line or nothing.
-Answer = namedtuple("Answer", "kind words revision last")
+# What a recheck says of the whole plan, and its exit status.
+CLAIMS = {"accepted,": 0, "first violated here,": 1, "violated,": 1, "not known,": 3}
+
+# An answer's kind, the words of its first line, its revision or None, its third line or nothing, and of a recheck what it says of the whole plan and its place, or None.
+Answer = namedtuple("Answer", "kind words revision last claim")
 
 
 def streams(count, hops=2):
@@ -41,13 +44,19 @@ def verdict(words):
 
 
 def read(out):
-    """Gives the answer in what was printed. Without two or three whole lines there is none, and the kind is nothing."""
-    lines = out.split("\n")
-    whole = len(lines) in (3, 4) and lines[-1] == ""
+    """Gives the answer in what was printed. Without two or three whole lines there is none, and the kind is nothing. A recheck has two lines, or five with a
+    move. The program itself prints one more, its status."""
+    lines = re.sub(r"(?m)^status .*\n\Z", "", out).split("\n")
+    rechecked = len(lines) in (3, 6) and lines[-2].startswith("whole plan: ")
+    whole = (len(lines) in (3, 4) or rechecked) and lines[-1] == ""
     line = lines[0] if whole else ""
     kind = next((kind for kind in STATUS if line.startswith(kind + " ")), "nothing")
     revision = re.search(r" revision (\d+)$", line)
-    return Answer(kind, line.split(), int(revision.group(1)) if revision else None, lines[2] if whole else "")
+    claim = None
+    if whole and rechecked:
+        kind = kind if len(lines) == 6 else "rechecked"
+        claim = next(claim for claim in CLAIMS if lines[-2].removeprefix("whole plan: ").startswith(claim)), lines[-3].partition(" looked at ")[0]
+    return Answer(kind, line.split(), int(revision.group(1)) if revision else None, lines[2] if whole else "", claim)
 
 
 def told(answer):
@@ -59,6 +68,17 @@ def told(answer):
     return None
 
 
+def is_true(claim, words):
+    """Whether what a recheck says of the whole plan is so."""
+    due = verdict(words)
+    return {
+        "accepted,": due == ("nothing violated",),
+        "first violated here,": " ".join(map(str, due)) == claim[1],
+        "violated,": due[0] == "violated",
+        "not known,": claim[1] == "nothing violated",
+    }[claim[0]]
+
+
 class Desk:
     """A folder with a plan and a cursor, each in a folder of its own below it."""
 
@@ -68,6 +88,7 @@ class Desk:
         (self.folder / "cursors").mkdir()
         self.plan, self.cursor = self.folder / "plans" / "a", self.folder / "cursors" / "c"
         self.seen = self.folder / "cursors" / "c.seen"
+        self.accepted = self.folder / "cursors" / "c.accepted"
         self.put(words)
 
     def __enter__(self):
@@ -99,7 +120,7 @@ class Desk:
             env={**os.environ, "CONEPALHUI_WAIT": str(wait)},
         )
         answer = read(done.stdout)
-        if done.returncode != STATUS.get(answer.kind, 4):
+        if done.returncode != (CLAIMS[answer.claim[0]] if answer.claim else STATUS.get(answer.kind, 4)):
             raise AssertionError(f"exit status {done.returncode} after {done.stdout!r} {done.stderr!r}")
         return answer
 

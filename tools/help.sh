@@ -7,6 +7,7 @@ commands=(
     'start|PLAN CURSOR [--anew]|start a check in slices: CURSOR keeps how far it is'
     'slice|PLAN CURSOR BUDGET|look at the next BUDGET places'
     'move|PLAN CURSOR LEG OFFSET [PERIODS]|give one leg another offset, in ns, and period word'
+    'recheck|PLAN CURSOR LEG [OFFSET [PERIODS]]|move one leg of an accepted plan, and look at what that changes'
     'run|PLAN CURSOR --budget N [--rate R]|slices of N places until there is a verdict'
     'words|[PLAN]|print the numbers of a plan, one record per line'
     'shape|[PLAN]|say whether a plan is well-formed'
@@ -58,12 +59,12 @@ list_commands() {
     printf 'Conepalhui: a verified checker of network timetables.\n\n'
     for line in "${commands[@]}"; do
         IFS='|' read -r name arguments summary <<<"$line"
-        printf '  %s %-38s %s\n' "$called" "$name $arguments" "$summary"
+        printf '  %s %-42s %s\n' "$called" "$name $arguments" "$summary"
     done
-    printf '\n%s\n' "'$called help answers' explains what start, slice, move and run print."
+    printf '\n%s\n' "'$called help answers' explains what start, slice, move, recheck and run print."
     printf '%s\n%s\n%s\n' 'Exit status: 0 done, accepted, granted, admitted or nothing violated; 1 a violated plan, a stream left out, a network without' \
-        'times, a false claim or a failed test; 2 the input was refused; 3 paused; 4 bad arguments, a file that cannot be read or' \
-        'written, or a program that cannot be built or run.'
+        'times, a false claim or a failed test; 2 the input was refused; 3 paused, or no verdict on the whole plan; 4 bad arguments, a file' \
+        'that cannot be read or written, or a program that cannot be built or run.'
 }
 
 # Prints what one command does, or what answers there are.
@@ -97,23 +98,28 @@ END
 
 about_answers() {
     cat <<'END'
-What start, slice, move and run print on standard output, and their exit status:
+What start, slice, move, recheck and run print on standard output, and their exit status:
 
-  first line                                       second line              exit status
-  granted LEG PLACE revision R                     places DONE of ALL       0
-  nothing violated steps N revision R              places ALL of ALL        0
-  violated LEG PLACE RULE steps N revision R       places DONE of ALL       1
-  refused NUMBER AT [revision R]                   in the plan|cursor|move  2
-  refused changed|unseen revision R                in the plan              2
-  refused begun LEG PLACE revision R               in the cursor            2
-  refused edition E revision R                     in the cursor            2
-  paused LEG PLACE steps N revision R              places DONE of ALL       3
+  first line                                       second line                  exit status
+  granted LEG PLACE revision R                     places DONE of ALL           0
+  nothing violated steps N revision R              places ALL of ALL            0
+  violated LEG PLACE RULE steps N revision R       places DONE of ALL           1
+  refused NUMBER AT [revision R]                   in the plan|cursor|move|leg  2
+  refused changed|unseen revision R                in the plan                  2
+  refused begun LEG PLACE revision R               in the cursor                2
+  refused edition E revision R                     in the cursor                2
+  paused LEG PLACE steps N revision R              places DONE of ALL           3
 
 LEG and PLACE are where the cursor is now. N is how many places the slice looked at; after a run, its last slice. R is
 the revision of the plan that was judged; after a move it is the new one, and after 'begun' the cursor's. DONE is how
-many places come before the cursor. 'in the ...' says which of the three was refused.
+many places come before the cursor. 'in the ...' says what was refused.
 A move has a third line, 'leg LEG from OLD to NEW ns, periods from OLD to NEW'. A run has one too, 'looked at N places in
-K slices'.
+K slices'. A recheck has the three lines of its move, if it makes one, and then two more, by which its exit status goes:
+
+  nothing violated looked at N of ALL places revision R         whole plan: accepted, since ...             0
+  violated LEG PLACE RULE looked at N of ALL places revision R  whole plan: first violated here, since ...  1
+  violated LEG PLACE RULE looked at N of ALL places revision R  whole plan: violated, and before this ...   1
+  nothing violated looked at N of ALL places revision R         whole plan: not known, since ...            3
 
 A refusal changes no file. Standard error says what is wrong and, where another call is needed, which one.
 docs/REFUSALS.md has the numbers. The four words:
@@ -166,6 +172,29 @@ not given): so many whole periods late the frame is sent on that leg. It raises 
 CURSOR are replaced; a CURSOR past the start of that leg goes back to it. 'granted' says that both are on the disk, and
 the third line has the old numbers and the new ones. A move that ended with 4, or was cut off, may be in the plan: look
 at the revision of the next answer before you make it again.
+END
+    see_answers
+}
+
+about_recheck() {
+    cat <<'END'
+For one late move in a plan that was accepted. With OFFSET it makes the move just as 'move' does, with the same files and
+refusals, and the same three lines; without OFFSET nothing is moved. Then it looks only at the places at which leg LEG can
+be read: all places of that leg, the overlaps of later legs with it, the hop of the next leg of its stream and the deadline
+of its stream. These are at most 4 more than the plan has legs. It prints the first violated one and its rule, or that
+none is, how many were looked at, and what that says of the whole plan:
+
+  accepted               where it is known that a plan that is the same but for leg LEG (and the revision) was accepted:
+  first violated here    the verdict is that of a whole check, the first violated place included
+  not known              where it is not known: nothing is violated at these places, and nothing is said of any other
+  violated, and ...      the same, with a violated place: one before it may be violated too
+
+It is known where CURSOR was at the end of this very plan, before the move if there is one; or by CURSOR.accepted, which only
+recheck writes: it keeps each plan that is found accepted so, and where a place is violated after a CURSOR at the end, the
+plan before the move. So one recheck may follow another, and after a violated one the same leg may be moved again. A 'move' of
+another leg loses it, until a run ends with nothing violated (docs/OPERATIONS.md).
+
+CURSOR goes back to the leg as with 'move', and is never set to the end. Without OFFSET it may be missing.
 END
     see_answers
 }
@@ -277,7 +306,7 @@ END
 about_help() {
     cat <<'END'
 Without a COMMAND it lists the commands. With one it says what that command does. 'answers' in its place explains what
-start, slice, move and run print.
+start, slice, move, recheck and run print.
 END
 }
 

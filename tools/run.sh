@@ -138,6 +138,11 @@ real_path() { # PATH
     readlink -f -- "$path" && printf .
 }
 
+# Ends a call that is given a name of the commands' own files.
+stop_at_kept_name() { # PATH
+    [[ $1 != *.conepalhui-new && $1 != *.seen && $1 != *.accepted ]] || stop "names that end in .conepalhui-new, .seen or .accepted are kept for files of these commands: give $1 another name"
+}
+
 # Finds the files $plan and $cursor. Links are followed, so that a file is replaced and not the link to it.
 find_files() { # PLAN CURSOR
     local path
@@ -146,7 +151,7 @@ find_files() { # PLAN CURSOR
     cursor=$(real_path "$2") || stop "cannot find the folder of the cursor $2"
     plan=${plan%$'\n.'} cursor=${cursor%$'\n.'}
     for path in "$plan" "$cursor"; do
-        [[ $path != *.conepalhui-new && $path != *.seen ]] || stop "names that end in .conepalhui-new or .seen are kept for files of these commands: give $path another name"
+        stop_at_kept_name "$path"
     done
     [[ -f $plan ]] || stop "there is no plan file $1"
     [[ ! -e $cursor || -f $cursor && -w $cursor ]] || stop "the cursor $2 is not a file that can be written"
@@ -215,7 +220,7 @@ consult() { # VERB WORD...
     ((ended == 0)) || stop "the program operator was stopped. Each file is whole, the old one or the new one, and a move may have been made"
     take_status && return
     end_progress
-    [[ $1 == start || $1 == convert || -e $cursor ]] || stop "a check begins with: $(shown_call start "${given[@]}")"
+    [[ $1 == start || $1 == convert || $1 == recheck && $# -eq 2 || -e $cursor ]] || stop "a check begins with: $(shown_call start "${given[@]}")"
     ((said == 0)) || exit 4
     stop "the program operator gave no answer"
 }
@@ -263,17 +268,20 @@ pass_on() { # PLAN CURSOR
     'cursor 8') note "a move was made with another cursor or was cut off, or one of the two files was exchanged. If the cursor's revision is the higher one, this may be an old plan, and moves are missing in it. $(start_anew "$@")" ;;
     'cursor '*) note "the cursor was altered, or belongs to another plan. $(start_anew "$@")" ;;
     foreign) note "$(start_by_hand "$@")" ;;
+    alone) note "for a verdict on the whole plan: $(shown_call run "$@" --budget 100000). After 'nothing violated' a recheck speaks for the whole plan" ;;
     esac
     return $status
 }
 
-# One call on a plan and a cursor.
+# One call on a plan and a cursor. With an offset, a recheck is a move too.
 call() { # VERB PLAN CURSOR WORD...
     local plan cursor held wrote status why given=("$2" "$3")
     prepare operator
     find_files "$2" "$3"
-    [[ $1 != move || -w $plan ]] || stop "the plan $2 is read-only: it can be checked, but its legs cannot be moved"
+    [[ $1 != move && ($1 != recheck || $# -eq 4) || -w $plan ]] || stop "the plan $2 is read-only: it can be checked, but its legs cannot be moved"
     hold_found "$2" "$3"
+    [[ $1 != recheck || ! -L $cursor.accepted && (-f $cursor.accepted || ! -e $cursor.accepted) ]] ||
+        stop "$cursor.accepted is no file, and an accepted plan is kept under this name: remove it, or give the cursor another name"
     consult "$1" "${@:4}"
     release
     pass_on "$2" "$3"
@@ -302,6 +310,11 @@ do_move() {
     call move "$@"
 }
 
+do_recheck() {
+    (($# >= 3 && $# <= 5)) || stop "recheck takes a plan, a cursor, a leg and perhaps an offset and a period word: $(usage recheck)"
+    call recheck "$@"
+}
+
 # ---- Files of older versions
 
 # Finds the new file, $cursor: its program gets it in the place of a cursor. There must be none of that name, not even a link that leads nowhere.
@@ -312,7 +325,7 @@ find_new() { # PATH
     [[ ! -e $path && ! -L $path ]] || stop "$1 is there already, and is never replaced: give the new file another name"
     cursor=$(real_path "$1") || stop "cannot find the folder of the new file $1"
     cursor=${cursor%$'\n.'}
-    [[ $cursor != *.conepalhui-new && $cursor != *.seen ]] || stop "names that end in .conepalhui-new or .seen are kept for files of these commands: give $cursor another name"
+    stop_at_kept_name "$cursor"
 }
 
 # Finds the plan file that is read, $plan, and the new file, and holds their folders.

@@ -110,11 +110,16 @@ fn known_in(path: &[u8], bytes: &[u8], n: usize, plan: &[u8], revision: u32) -> 
     }
 }
 
+// Reads a file beside a cursor, by its ending.
+pub(crate) fn file_beside(path: &[u8], ending: &[u8], bytes: &mut [u8]) -> FileRead {
+    let mut name = io::buffer();
+    let n = durable::ended(path, ending, &mut name);
+    durable::file(&name[..n], bytes)
+}
+
 // Reads the copy beside a cursor.
 pub(crate) fn seen_file(path: &[u8], bytes: &mut [u8]) -> FileRead {
-    let mut name = io::buffer();
-    let n = durable::ended(path, b".seen", &mut name);
-    durable::file(&name[..n], bytes)
+    file_beside(path, b".seen", bytes)
 }
 
 // Internal: whether the plan is one that was last seen with the cursor. Where it is not, that is the answer, and it is written.
@@ -129,6 +134,51 @@ pub fn is_known(path: &[u8], plan: &[u8], revision: u32) -> bool {
         }
         FileRead::Failed => false,
     }
+}
+
+fn knows_in(bytes: &[u8], n: usize, edition: u32, plan: &[u8]) -> bool {
+    if bytes.len() < n {
+        return false;
+    }
+    let told = seen::known(&bytes[0..n], edition, plan);
+    match told {
+        Holds::Yes => true,
+        Holds::No => false,
+    }
+}
+
+// Whether the plan is one of those in a file beside a cursor, by its ending, under this edition. Nothing is answered.
+pub(crate) fn knows(path: &[u8], ending: &[u8], edition: u32, plan: &[u8]) -> bool {
+    let mut bytes = [0u8; SEEN_ROOM];
+    let read = file_beside(path, ending, &mut bytes);
+    match read {
+        FileRead::Bytes(n) => knows_in(&bytes, n, edition, plan),
+        FileRead::Missing => false,
+        FileRead::Failed => false,
+    }
+}
+
+// Internal: whether a cursor is at the end of a plan of that revision and with so many legs.
+pub fn is_end(c: Cursor, revision: u32, legs: usize) -> bool {
+    if c.revision != revision {
+        return false;
+    }
+    if table::wide(c.leg) != legs {
+        return false;
+    }
+    c.place == 0
+}
+
+// Internal: whether the saved cursor is at the end of this very plan, which was last seen with it. A cursor that is missing, refused or not of this plan is not.
+pub fn has_ended(path: &[u8], plan: &[u8], revision: u32, legs: usize) -> bool {
+    let at = found(path);
+    let Saved::At(c) = at else {
+        return false;
+    };
+    if !is_end(c, revision, legs) {
+        return false;
+    }
+    knows(path, b".seen", rules::EDITION, plan)
 }
 
 // Internal: writes the cursor beside its file.
@@ -153,24 +203,40 @@ fn fronted_beside(name: &[u8], front: &[u8], n: usize, plan: &[u8], other: &[u8]
     durable::write_beside(name, &front[0..n], plan, other)
 }
 
-// Internal: writes what is seen beside its file: a plan, and the other of a move or nothing.
-pub fn seen_beside(path: &[u8], plan: &[u8], other: &[u8]) -> bool {
+// Writes a copy under this edition beside its file, which has this ending: a plan, and another one or nothing.
+pub(crate) fn copy_beside(
+    path: &[u8],
+    ending: &[u8],
+    edition: u32,
+    plan: &[u8],
+    other: &[u8],
+) -> bool {
     let mut name = io::buffer();
-    let n = durable::ended(path, b".seen", &mut name);
+    let n = durable::ended(path, ending, &mut name);
     let mut front = [0u8; seen::MAX_FRONT_BYTES];
     if files::MAX_FILE_BYTES < plan.len() {
         return false;
     }
-    let written = seen::write_front(rules::EDITION, plan.len() as u32, &mut front);
+    let written = seen::write_front(edition, plan.len() as u32, &mut front);
     match written {
         Written::Bytes(m) => fronted_beside(&name[..n], &front, m, plan, other),
         Written::Refused(_, _) => false,
     }
 }
 
+// Gives what was written beside a copy its name.
+pub(crate) fn put_copy_in_place(path: &[u8], ending: &[u8]) -> bool {
+    let mut name = io::buffer();
+    let n = durable::ended(path, ending, &mut name);
+    durable::put_in_place(&name[..n])
+}
+
+// Internal: writes what is seen beside its file: a plan, and the other of a move or nothing.
+pub fn seen_beside(path: &[u8], plan: &[u8], other: &[u8]) -> bool {
+    copy_beside(path, b".seen", rules::EDITION, plan, other)
+}
+
 // Internal: gives what was written beside the copy its name.
 pub fn put_seen_in_place(path: &[u8]) -> bool {
-    let mut name = io::buffer();
-    let n = durable::ended(path, b".seen", &mut name);
-    durable::put_in_place(&name[..n])
+    put_copy_in_place(path, b".seen")
 }

@@ -1,5 +1,8 @@
-// Start, slice and move on files. Everything is written beside first, so that a full disk is met before any file is replaced.
+// Start, slice, move and recheck on files. Everything is written beside first, so that a full disk is met before any file is replaced.
 use crate::Order;
+use crate::late;
+use crate::late::After;
+use crate::late::Keep;
 use basics::Holds;
 use checker::Grant;
 use checker::SliceAnswer;
@@ -7,6 +10,7 @@ use checker::cursors::TOO_LATE;
 use durable::FileRead;
 use files::Cursor;
 use files::PlanRead;
+use kept::accepted;
 use kept::ours;
 use kept::ours::Standing;
 use kept::refused;
@@ -31,7 +35,7 @@ pub(crate) fn are_same(a: &[u8], b: &[u8]) -> bool {
 }
 
 // What is refused is said on standard error before the answer is written.
-fn judged(t: &[u32], number: u32, at: usize, part: Part) {
+pub(crate) fn judged(t: &[u32], number: u32, at: usize, part: Part) {
     answers::judged(
         number,
         at,
@@ -40,7 +44,7 @@ fn judged(t: &[u32], number: u32, at: usize, part: Part) {
     );
 }
 
-fn plan_refused(t: &[u32], number: u32, at: usize) {
+pub(crate) fn plan_refused(t: &[u32], number: u32, at: usize) {
     records::why(t, number, at);
     judged(t, number, at, Part::Plan);
 }
@@ -194,8 +198,32 @@ fn slice(cursor_path: &[u8], plan: &[u8], t: &[u32], budget: u32) {
     }
 }
 
-// Replaces all three files. The copy goes first and has both plans, so that whichever of the two is found is known; then the plan, then the cursor.
-fn replaced(plan_path: &[u8], cursor_path: &[u8], old: &[u8], new: &[u8], c: Cursor) -> bool {
+// Writes the accepted plan that is to be kept beside its file.
+fn accepted_beside(cursor_path: &[u8], old: &[u8], new: &[u8], keep: Keep) -> bool {
+    match keep {
+        Keep::Nothing => true,
+        Keep::Old => accepted::write_beside(cursor_path, old),
+        Keep::New => accepted::write_beside(cursor_path, new),
+    }
+}
+
+fn accepted_in_place(cursor_path: &[u8], keep: Keep) -> bool {
+    if let Keep::Nothing = keep {
+        return true;
+    }
+    accepted::put_in_place(cursor_path)
+}
+
+// Replaces all three files, and before them the accepted plan, if one is to be kept: it is true by itself. The copy goes first and has both plans, so that whichever of the two is
+// found is known; then the plan, then the cursor.
+fn replaced(
+    plan_path: &[u8],
+    cursor_path: &[u8],
+    old: &[u8],
+    new: &[u8],
+    c: Cursor,
+    keep: Keep,
+) -> bool {
     if !saved::seen_beside(cursor_path, new, old) {
         return false;
     }
@@ -203,6 +231,12 @@ fn replaced(plan_path: &[u8], cursor_path: &[u8], old: &[u8], new: &[u8], c: Cur
         return false;
     }
     if !saved::cursor_beside(cursor_path, c) {
+        return false;
+    }
+    if !accepted_beside(cursor_path, old, new, keep) {
+        return false;
+    }
+    if !accepted_in_place(cursor_path, keep) {
         return false;
     }
     if !saved::put_seen_in_place(cursor_path) {
@@ -222,6 +256,7 @@ fn written(
     c: Cursor,
     mv: Move,
     before: Leg,
+    after: After,
 ) {
     let mut new = [0u8; files::MAX_FILE_BYTES];
     let told = files::write_plan(t, &mut new);
@@ -231,8 +266,16 @@ fn written(
             if new.len() < n {
                 return;
             }
-            if replaced(plan_path, cursor_path, old, &new[0..n], c) {
-                answers::moved(c, records::leg_count(t), mv, before);
+            if replaced(
+                plan_path,
+                cursor_path,
+                old,
+                &new[0..n],
+                c,
+                late::kept_after(after),
+            ) {
+                answers::move_lines(c, records::leg_count(t), mv, before);
+                late::told_after(t, mv.leg, after);
             }
         }
     }
@@ -254,8 +297,18 @@ fn move_refused(t: &[u32], number: u32, at: usize, mv: Move) {
     judged(t, number, at, Part::Move);
 }
 
-fn moved(plan_path: &[u8], cursor_path: &[u8], old: &[u8], t: &mut [u32], c: Cursor, mv: Move) {
+// Where the leg is to be rechecked, that is done before any file is replaced: the answer is one about the moved table, wherever that stands.
+fn moved(
+    plan_path: &[u8],
+    cursor_path: &[u8],
+    old: &[u8],
+    t: &mut [u32],
+    c: Cursor,
+    mv: Move,
+    rechecks: bool,
+) {
     let before = records::leg_at(t, mv.leg);
+    let ended = late::is_end(t, c);
     let told = checker::move_leg(t, c, mv);
     match told {
         Grant::Refused(number, at, _) => {
@@ -263,17 +316,25 @@ fn moved(plan_path: &[u8], cursor_path: &[u8], old: &[u8], t: &mut [u32], c: Cur
         }
         Grant::Granted(d) => {
             if saved::is_known(cursor_path, old, c.revision) {
-                written(plan_path, cursor_path, old, t, d, mv, before);
+                let after = late::after_move(cursor_path, t, mv.leg, ended, rechecks);
+                written(plan_path, cursor_path, old, t, d, mv, before, after);
             }
         }
     }
 }
 
-fn move_leg(plan_path: &[u8], cursor_path: &[u8], plan: &[u8], t: &mut [u32], mv: Move) {
+fn move_leg(
+    plan_path: &[u8],
+    cursor_path: &[u8],
+    plan: &[u8],
+    t: &mut [u32],
+    mv: Move,
+    rechecks: bool,
+) {
     let at = saved::cursor(cursor_path);
     if let Saved::At(c) = at {
         if may_move(cursor_path, t, c) {
-            moved(plan_path, cursor_path, plan, t, c, mv);
+            moved(plan_path, cursor_path, plan, t, c, mv, rechecks);
         }
     }
 }
@@ -287,7 +348,13 @@ fn on_table(order: Order, plan_path: &[u8], cursor_path: &[u8], plan: &[u8], t: 
             slice(cursor_path, plan, t, budget);
         }
         Order::Move(mv) => {
-            move_leg(plan_path, cursor_path, plan, t, mv);
+            move_leg(plan_path, cursor_path, plan, t, mv, false);
+        }
+        Order::MoveAndRecheck(mv) => {
+            move_leg(plan_path, cursor_path, plan, t, mv, true);
+        }
+        Order::Recheck(leg) => {
+            late::as_it_stands(cursor_path, plan, t, leg);
         }
         Order::Words => {}
         Order::Shape => {}

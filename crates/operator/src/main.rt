@@ -1,11 +1,12 @@
 // What an operator and a planner do with a plan on standard input: words, shape; and with files: start PLAN CURSOR [--anew], slice PLAN CURSOR BUDGET,
-// move PLAN CURSOR LEG OFFSET [PERIODS], convert OLD NEW. It writes one answer; where a file cannot be read or written or is not ours, or an argument is wrong,
+// move PLAN CURSOR LEG OFFSET [PERIODS], recheck PLAN CURSOR LEG [OFFSET [PERIODS]], convert OLD NEW. It writes one answer; where a file cannot be read or written or is not ours, or an argument is wrong,
 // it writes none and says so on standard error.
 use decimal::Decimal;
 use table::Move;
 
 mod calls;
 mod convert;
+mod late;
 mod plans;
 
 // What is asked for. A start says whether a check that has begun may be dropped.
@@ -15,6 +16,8 @@ pub(crate) enum Order {
     Start(bool),
     Slice(u32),
     Move(Move),
+    MoveAndRecheck(Move),
+    Recheck(u32),
     Convert,
     Wrong,
 }
@@ -34,6 +37,8 @@ const CURSOR_AT: usize = 3;
 const FIRST_NUMBER_AT: usize = 4;
 
 const ANEW_AT: usize = 4;
+
+const OFFSET_AT: usize = 5;
 
 const PERIODS_AT: usize = 6;
 
@@ -100,7 +105,7 @@ fn move_order() -> Order {
     let Word::Given(leg) = first else {
         return Order::Wrong;
     };
-    let second = number_at(FIRST_NUMBER_AT + 1, b"the offset");
+    let second = number_at(OFFSET_AT, b"the offset");
     let Word::Given(offset) = second else {
         return Order::Wrong;
     };
@@ -115,6 +120,22 @@ fn move_order() -> Order {
     }
 }
 
+// A recheck moves the leg first, where an offset is given.
+fn recheck_order() -> Order {
+    if OFFSET_AT < os::arg_count() {
+        let order = move_order();
+        if let Order::Move(mv) = order {
+            return Order::MoveAndRecheck(mv);
+        }
+        return Order::Wrong;
+    }
+    let leg = number_at(FIRST_NUMBER_AT, b"the leg");
+    match leg {
+        Word::Given(value) => Order::Recheck(value),
+        Word::Wrong => Order::Wrong,
+    }
+}
+
 // What is asked of the plan on standard input.
 fn plan_order(verb: &[u8]) -> Order {
     if calls::are_same(verb, b"words") {
@@ -123,7 +144,7 @@ fn plan_order(verb: &[u8]) -> Order {
     if calls::are_same(verb, b"shape") {
         return Order::Shape;
     }
-    reasons::text(b"the first argument is words, shape, start, slice, move or convert\n");
+    reasons::text(b"the first argument is words, shape, start, slice, move, recheck or convert\n");
     Order::Wrong
 }
 
@@ -136,6 +157,9 @@ fn order_of(verb: &[u8]) -> Order {
     }
     if calls::are_same(verb, b"move") {
         return move_order();
+    }
+    if calls::are_same(verb, b"recheck") {
+        return recheck_order();
     }
     if calls::are_same(verb, b"convert") {
         return Order::Convert;
@@ -190,6 +214,12 @@ fn main() {
             on_files(order);
         }
         Order::Move(mv) => {
+            on_files(order);
+        }
+        Order::MoveAndRecheck(mv) => {
+            on_files(order);
+        }
+        Order::Recheck(leg) => {
             on_files(order);
         }
         Order::Convert => {

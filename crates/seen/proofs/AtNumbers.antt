@@ -15,7 +15,7 @@ use Rattle.table.specs.Layout.{current, firstLayout, SizedIn}
 use Rattle.table.specs.declared.Edition.{Edition}
 use Rattle.files.proofs.OneAnswer.{file-no-fault}
 use Rattle.seen.specs.Seen.{Kept, PlanFile, Copy}
-use Rattle.seen.specs.Editions.{mark, Under, KnownUnder, CopyUnder, OfEdition}
+use Rattle.seen.specs.Editions.{mark, Under, KnownUnder, CopyUnder, OnlyUnder, OfEdition}
 use Rattle.seen.specs.Theorems.{emptyPlan, keptUnderTwo, keptUnderNone, legUnderNone, legOfToday, twoPlans, tooLong, leftOver, CopiesAtNumbers}
 use Rattle.seen.proofs.Laws.{kept-once, cut-after}
 use Rattle.seen.proofs.Fronts.{under-once, no-small-mark, plan-bytes, copy-not-under}
@@ -95,6 +95,11 @@ both k =
     (λ e. let z : _≡_ {A = ℕ} 2 5 = ap length (sym (part .1) ∙ e) in omega (arith, z))
     (k .known .is)
 
+not-only : (p : List ℕ) → OnlyUnder twoPlans 300 p → ⊥
+not-only p k =
+    let same = under-once twoPlans (k .under) under-300 .1 in
+    omega (arith, ap length (kept-once _ _ _ _ _ two-plans (rw same at (k .kept)) .1))
+
 -- What begins with a small number names no edition, so it has to be a copy; and the parts of a copy are plan files.
 small-front : (s : List ℕ) {n next : ℕ} → NumberStands s 0 n next → n < mark → (e : ℕ) → (Copy firstLayout s → ⊥) → OfEdition s e → ⊥
 small-front s h small e none (inl n) = no-small-mark s h small (n .under)
@@ -165,6 +170,9 @@ copies-at-numbers = record {
   not-seen-three = λ k. omega (arith, under-once keptUnderTwo under-two (k .under) .0);
   another = another;
   both = both;
+  only = record { rest = keptUnderNone; under = under-two; kept = one-plan };
+  not-only-three = λ p k. omega (arith, under-once keptUnderTwo under-two (k .under) .0);
+  not-only = not-only;
   named = inl (record { rest = keptUnderNone; first = emptyPlan; other = []; under = under-two; kept = one-plan });
   first = record { rest = _; under = under-300; known = record { first = _; other = _; kept = two-plans; is = inl refl } };
   other = record { rest = _; under = under-300; known = record { first = _; other = _; kept = two-plans; is = inr refl } };

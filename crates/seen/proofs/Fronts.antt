@@ -4,7 +4,8 @@ use Prim.Native.Nat.{ℕ, _+_, _-_, _≤_, _<_}
 use mathlib.Core.Path.{_≡_, refl, _∙_, sym, ap, subst}
 use mathlib.Core.List.{List, [], _∷_, _++_}
 use mathlib.Core.Logic.{inl, inr}
-use lib.ListN.{length, take, drop, length-drop, length-append}
+use lib.ListN.{length, take, drop, length-drop, length-append, drop-of-length-le}
+use lib.Seq.{take-all, drop-drop}
 use native.Mathlib.Omega.{arith}
 use Rattle.basics.specs.declared.Holds.{Holds}
 use Rattle.basics.specs.declared.Holds.the-variants as holds
@@ -18,15 +19,15 @@ use Rattle.numbers.proofs.OneNumber.{read-number-one-answer, number-bytes-at-mo
 use Rattle.numbers.proofs.Rows.{stands-after, file-cons, file-length}
 use Rattle.table.specs.Layout.{current, firstLayout, headWords}
 use Rattle.table.specs.declared.Edition.{Edition}
-use Rattle.seen.specs.Seen.{Known, PlanFile, Copy, Splits}
-use Rattle.seen.specs.Editions.{mark, firstEdition, Under, KnownUnder, CopyUnder, Names, OfEdition, FrontTold, RestTold}
+use Rattle.seen.specs.Seen.{Kept, Known, PlanFile, Copy, Splits}
+use Rattle.seen.specs.Editions.{mark, firstEdition, Under, KnownUnder, CopyUnder, OnlyUnder, Names, OfEdition, FrontTold, RestTold}
 use Rattle.seen.specs.declared.Front.{Front}
 use Rattle.seen.specs.declared.Front.the-variants as front
 use Rattle.seen.specs.declared.Parts.{Parts}
 use Rattle.seen.specs.declared.Parts.the-variants as parts
 use Rattle.seen.specs.declared.Rest.{Rest}
 use Rattle.seen.specs.declared.Rest.the-variants as rest
-use Rattle.seen.proofs.Laws.{after, kept-number}
+use Rattle.seen.proofs.Laws.{after, kept-number, kept-once}
 
 -- What comes after a number that stands at a position.
 number-after : (s : List ℕ) {at v next : ℕ} (h : NumberStands s at v next) → drop next s ≡ h .stands .rest
@@ -182,6 +183,9 @@ module _ (s : List ℕ) (e : ℕ) {t : Rest} where
   pub nowhere-copied : t ≡ rest.Nowhere → RestTold s e t → CopyUnder s e → ⊥
   nowhere-copied is told k = none-rest is told (k .rest) (k .under)
 
+  pub nowhere-only : t ≡ rest.Nowhere → RestTold s e t → (p : List ℕ) → OnlyUnder s e p → ⊥
+  nowhere-only is told p k = none-rest is told (k .rest) (k .under)
+
   module _ {next : ℕ} (is : t ≡ rest.At next) (told : RestTold s e t) where
     rest-is : RestTold s e (rest.At next)
     rest-is = subst (RestTold s e) is told
@@ -200,3 +204,40 @@ module _ (s : List ℕ) (e : ℕ) {t : Rest} where
     rest-copied holds.No none = λ k.
         let same = under-once s (k .under) (rest-is .1) .1 in
         none (rw (after s next rest-start) (rw same at (k .copy)))
+
+    kept-after-front : {q o r : List ℕ} → Under s e r → Kept r q o → Kept (drop next s) q o
+    kept-after-front u k = let same = under-once s u (rest-is .1) .1 in rw same at k
+
+    -- What comes after it, as it was split.
+    module _ {p : Parts} where
+      split-none : p ≡ parts.Nowhere → Splits (take (length s - next) (drop next s)) p → Splits (drop next s) parts.Nowhere
+      split-none i split = rw (after s next rest-start) at (subst (Splits (take (length s - next) (drop next s))) i split)
+
+      pub none-only : p ≡ parts.Nowhere → Splits (take (length s - next) (drop next s)) p → (q : List ℕ) → OnlyUnder s e q → ⊥
+      none-only i split q k = split-none i split q [] (kept-after-front (k .under) (k .kept))
+
+      module _ {at n : ℕ} (i : p ≡ parts.At at n) (split : Splits (take (length s - next) (drop next s)) p) where
+        parted : Splits (drop next s) (parts.At at n)
+        parted = rw (after s next rest-start) at (subst (Splits (take (length s - next) (drop next s))) i split)
+
+        pub only-within : at ≤ length s - next
+        only-within = omega (arith, parted .0, length-drop next s)
+
+        pub only-room : n ≤ length s - next - at
+        only-room = omega (arith, parted .0, parted .1, length-drop next s, length-drop at (drop next s))
+
+        -- It is the only plan where nothing is left after it.
+        pub only-there : length s - next - at ≡ n → OnlyUnder s e (drop (length s - n) s)
+        only-there l =
+            let whole : length (drop at (drop next s)) ≡ n = omega (arith, length-drop next s, length-drop at (drop next s)) in
+            let from : next + at ≡ length s - n = omega (arith, rest-start, only-within) in
+            let first : take n (drop at (drop next s)) ≡ drop at (drop next s) = take-all n (drop at (drop next s)) (omega arith) in
+            let none : drop n (drop at (drop next s)) ≡ [] = drop-of-length-le (drop at (drop next s)) {i = n} (omega arith) in
+            let there : drop at (drop next s) ≡ drop (length s - n) s = drop-drop at next s ∙ ap (λ (k : ℕ). drop k s) from in
+            record { rest = drop next s; under = rest-is .1; kept = rw (none, first, there) at (parted .2) }
+
+        pub only-other : (length s - next - at ≡ n → ⊥) → (q : List ℕ) → OnlyUnder s e q → ⊥
+        only-other more q k =
+            let one = kept-once (drop next s) _ _ q [] (parted .2) (kept-after-front (k .under) (k .kept)) in
+            let none = ap length (one .1) in
+            more (omega (arith, only-room, length-drop next s, length-drop at (drop next s), length-drop n (drop at (drop next s))))

@@ -76,3 +76,14 @@ FrontTold s front.Unnamed = (e : ℕ) (r : List ℕ) → Under s e r → ⊥
 abbrev pub RestTold : List ℕ → ℕ → Rest → Type 0
 RestTold s edition (rest.At next) = (next ≤ length s) × Under s edition (drop next s)
 RestTold s edition rest.Nowhere = (r : List ℕ) → Under s edition r → ⊥
+
+-- The plan p was kept alone under this edition.
+pub record OnlyUnder (s : List ℕ) (edition : ℕ) (p : List ℕ) : Type 0 where
+  pub rest : List ℕ
+  pub under : Under s edition rest
+  pub kept : Kept rest p []
+
+-- Where the plan that was kept alone under this edition begins in s: it is all that follows; or none was kept so.
+abbrev pub OnlyTold : List ℕ → ℕ → Rest → Type 0
+OnlyTold s edition (rest.At next) = (next ≤ length s) × OnlyUnder s edition (drop next s)
+OnlyTold s edition rest.Nowhere = (p : List ℕ) → OnlyUnder s edition p → ⊥

@@ -7,7 +7,7 @@ use Rattle.numbers.specs.Number.{maxWord}
 use Rattle.numbers.specs.declared.Written.the-variants as written
 use Rattle.table.specs.Layout.{firstLayout}
 use Rattle.seen.specs.Seen.{Copy}
-use Rattle.seen.specs.Editions.{WritesFront, KnownUnder, CopyUnder, OfEdition}
+use Rattle.seen.specs.Editions.{WritesFront, KnownUnder, CopyUnder, OnlyUnder, OfEdition}
 
 -- No two editions share what was kept.
 pub record EditionsPartCopies : Type 0 where
@@ -64,6 +64,10 @@ pub record CopiesAtNumbers : Type 0 where
   -- Another plan is not known, nor are both together.
   pub another : KnownUnder keptUnderTwo 2 (0x08 ∷ 0x00 ∷ 0x00 ∷ 0x00 ∷ 0x00 ∷ []) → ⊥
   pub both : KnownUnder twoPlans 300 (0x0A ∷ 0x0B ∷ 0x0C ∷ 0x0D ∷ 0x0E ∷ []) → ⊥
+  -- One plan was kept alone, under its edition and no other; of two neither was.
+  pub only : OnlyUnder keptUnderTwo 2 emptyPlan
+  pub not-only-three : (p : List ℕ) → OnlyUnder keptUnderTwo 3 p → ⊥
+  pub not-only : (p : List ℕ) → OnlyUnder twoPlans 300 p → ⊥
   pub named : OfEdition keptUnderTwo 2
   pub first : KnownUnder twoPlans 300 (0x0A ∷ 0x0B ∷ 0x0C ∷ [])
   pub other : KnownUnder twoPlans 300 (0x0D ∷ 0x0E ∷ [])

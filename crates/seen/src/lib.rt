@@ -4,7 +4,7 @@ ghost use Prim.Native.Nat.{_≤_};
 ghost use lib.ListN.{length};
 ghost use Rattle.basics.specs.Tells.{Tells};
 ghost use Rattle.seen.specs.Seen.{Known, KnownParts, PlanFile, Copy, PlanParts, Splits};
-ghost use Rattle.seen.specs.Editions.{WritesFront, KnownUnder, CopyUnder, FrontTold, RestTold, EditionTold};
+ghost use Rattle.seen.specs.Editions.{WritesFront, KnownUnder, CopyUnder, FrontTold, RestTold, EditionTold, OnlyTold};
 use basics::Holds;
 use files::PlanRead;
 use numbers::Number;
@@ -211,6 +211,24 @@ pub fn is_copy(seen: &[u8], edition: u32) -> Holds
         Rest::Nowhere => Holds::No,
         Rest::At(next) => is_copy_in(table::CURRENT, &seen[next..]),
     }
+}
+
+// Internal: where the plan begins that was kept alone under an edition of the rules: it is all that follows.
+pub fn only_plan(seen: &[u8], edition: u32) -> Rest
+    ensures { λ r. ⌜ OnlyTold (now (seen .entry)) edition r ⌝ }
+{
+    let rest = rest_under(seen, edition);
+    let Rest::At(next) = rest else {
+        return Rest::Nowhere;
+    };
+    let parts = split(&seen[next..]);
+    let Parts::At(at, size) = parts else {
+        return Rest::Nowhere;
+    };
+    if seen.len() - next - at != size {
+        return Rest::Nowhere;
+    }
+    Rest::At(seen.len() - size)
 }
 
 // Internal: of which edition bytes that were kept are: of the one that they name, or of the first where they are a copy and name none.

@@ -11,12 +11,13 @@ use rules::Rule;
 use table::Leg;
 use table::Move;
 
-// What a refusal lies in: the plan, a cursor of ours, a file in the cursor's place that is none, or the move.
+// What a refusal lies in: the plan, a cursor of ours, a file in the cursor's place that is none, the move, or the leg that is asked for.
 pub enum Part {
     Plan,
     Cursor,
     Foreign,
     Move,
+    Leg,
 }
 
 fn labelled(label: &[u8], n: u32) {
@@ -103,14 +104,64 @@ fn from_to(from: u32, to: u32) {
     labelled(b" to ", to);
 }
 
-// Internal: a move that is granted, with the leg as it was before.
-pub fn moved(at: Cursor, legs: usize, mv: Move, before: Leg) {
+// Internal: the lines of a move that is granted, with the leg as it was before. They do not end the answer.
+pub fn move_lines(at: Cursor, legs: usize, mv: Move, before: Leg) {
     grant(at, legs);
     labelled(b"leg ", mv.leg);
     from_to(before.offset, mv.offset);
     text(b" ns, periods");
     from_to(before.periods, mv.periods);
-    text(b"\nstatus 0\n");
+    end_line();
+}
+
+// Internal: ends the answer of a move.
+pub fn moved() {
+    text(b"status 0\n");
+}
+
+// Ends the first line of a recheck: how many places were looked at, of how many, and the revision. The second is about the whole plan.
+fn looked_at(n: u32, legs: usize, revision: u32) {
+    labelled(b" looked at ", n);
+    text(b" of ");
+    places_before(legs, 0);
+    labelled(b" places revision ", revision);
+    text(b"\nwhole plan: ");
+}
+
+fn since_accepted(leg: u32) {
+    labelled(b", since a plan that is the same but for leg ", leg);
+    text(b" was accepted\n");
+}
+
+// Internal: a recheck of a leg that found nothing violated at n places, where it is known that a plan that is the same but for that leg was accepted, and where it is not.
+pub fn recheck_clean(leg: u32, n: u32, legs: usize, revision: u32, known: bool) {
+    text(b"nothing violated");
+    looked_at(n, legs, revision);
+    if known {
+        text(b"accepted");
+        since_accepted(leg);
+        text(b"status 0\n");
+        return;
+    }
+    labelled(b"not known, since only places at which leg ", leg);
+    text(b" can be read were looked at\nstatus 3 alone\n");
+}
+
+// Internal: a recheck of a leg that found a violated place, the n-th that it looked at.
+pub fn recheck_violated(leg: u32, at: Cursor, rule: Rule, n: u32, legs: usize, known: bool) {
+    told::violated(at, rule);
+    looked_at(n, legs, at.revision);
+    if known {
+        text(b"first violated here");
+        since_accepted(leg);
+        text(b"status 1\n");
+        return;
+    }
+    labelled(
+        b"violated, and before this place only places at which leg ",
+        leg,
+    );
+    text(b" can be read were looked at\nstatus 1\n");
 }
 
 // Internal: a file that is converted: how many legs and bytes it has now, and its revision.
@@ -164,6 +215,9 @@ fn part_word(part: Part) {
         Part::Move => {
             text(b"move");
         }
+        Part::Leg => {
+            text(b"leg");
+        }
     }
 }
 
@@ -178,6 +232,7 @@ fn next_step(part: Part, number_of: u32) {
             text(b" foreign");
         }
         Part::Move => {}
+        Part::Leg => {}
     }
 }
 
