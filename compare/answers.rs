@@ -8,6 +8,7 @@ use crate::format::{
 use crate::list::{bytes, hex, joined, numbers};
 use crate::network_list;
 use crate::paper::{LIMITS, NOTHING_VIOLATED, NUMBER_BYTES, PAUSED};
+use crate::recheck_list;
 use crate::told::{refusal, rule_named, words};
 
 type Told = Result<String, String>;
@@ -200,6 +201,7 @@ impl Calls {
             }
             _ if network_list::is_call(verb) => return network_list::told(verb, rest),
             _ if admit_list::is_call(verb) => return admit_list::told(verb, rest, &self.table),
+            _ if recheck_list::is_call(verb) => return recheck_list::told(verb, rest, &self.table),
             _ => return self.call(verb, &numbers(rest)?),
         }
         Ok(String::new())
@@ -249,7 +251,7 @@ impl Calls {
     }
 }
 
-fn yes(holds: bool) -> String {
+pub fn yes(holds: bool) -> String {
     if holds {
         "yes\n".to_string()
     } else {

@@ -54,6 +54,9 @@ mod network;
 mod network_list;
 mod paper;
 mod reasons;
+#[allow(dead_code)] // It also serves the comparison of rechecks.
+mod recheck;
+mod recheck_list;
 mod rules;
 mod shape;
 mod told;

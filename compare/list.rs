@@ -8,13 +8,14 @@
 //! alone). A call on bytes takes the file of such words, or bytes as they stand, =80 00 or "text"; its changes may be bytes 40 (so many
 //! alone), and 00 (so much more), leg 1 offset as 98 00. CURSOR is three words, for a call on bytes their file or bytes as they stand.
 //! A call without them goes on with those of the call before it, and with what that call made of them. network_list.rs has the calls on networks,
-//! admit_list.rs those that admit a stream.
+//! admit_list.rs those that admit a stream, recheck_list.rs those on a table of which one leg was moved.
 
 use crate::admit_list;
 use crate::check::Plain;
 use crate::format::{encoded, index_of, table, Plan, HEADER};
 use crate::network_list;
 use crate::paper::CURSOR_WORDS;
+use crate::recheck_list;
 use std::collections::HashMap;
 
 type Spelled<T> = Result<T, String>;
@@ -197,12 +198,12 @@ impl List {
                 self.set.remove("table");
             }
         }
-        if admit_list::is_call(verb) {
-            let spelled = admit_list::spelled(line)?;
-            self.say(&spelled);
-        } else {
-            self.say(line);
-        }
+        let spelled = match line.split_once(" beside ") {
+            Some((call, other)) => recheck_list::spelled(call, &self.plan(other)?.table()),
+            None if admit_list::is_call(verb) => admit_list::spelled(line)?,
+            None => line.to_string(),
+        };
+        self.say(&spelled);
         Ok(())
     }
 

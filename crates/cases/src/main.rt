@@ -8,6 +8,7 @@ mod files_calls;
 mod host_calls;
 mod integers;
 mod network_calls;
+mod recheck_calls;
 mod table_calls;
 mod text;
 mod tool_calls;
@@ -83,6 +84,9 @@ fn asked(verb: &[u8], rest: &[u8], table: &[u32], plan: &[u8], saved: &[u8], cur
         return;
     }
     if admit_calls::asked(verb, rest, table) {
+        return;
+    }
+    if recheck_calls::asked(verb, rest, table) {
         return;
     }
     if network_calls::asked(verb, rest) {
