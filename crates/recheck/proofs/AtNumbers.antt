@@ -100,4 +100,5 @@ rechecks-at-numbers = record {
       broken-first c (looked-broken (leg-in c (omega arith)) (omega arith) (own-read planA 2 3) three-looked (meets-at-2-3 0, place-rule (asked.Overlap 0)));
   premise = record { offset = holdA; periods = 0; at-most = omega arith; rules = good-rules };
   leg-3 = inr (plan-a-is-well-formed 0 1176 0, (refl, refl, λ h. omega (arith, h)));
+  no-words = inl (inl (inl (refl, refl, λ h. omega (arith, h))));
 }

@@ -1,4 +1,5 @@
 -- Rechecks at numbers, of Plan A, whose legs 0 and 2 meet at place (2,3).
+use mathlib.Core.List.{[]}
 use Rattle.table.specs.PlanA.{planA}
 use Rattle.rules.specs.declared.Rule.the-variants as rule
 use Rattle.recheck.specs.Listed.{placeAt}
@@ -15,3 +16,5 @@ pub record RechecksAtNumbers : Type 0 where
   pub premise : WasAccepted planA 2
   -- There is no leg 3.
   pub leg-3 : Rechecks planA 3 (Refused 10 0)
+  -- Of a table without words there is no leg either, and 1 comes before 10.
+  pub no-words : Rechecks [] 0 (Refused 1 0)
