@@ -2,7 +2,7 @@
 
 use crate::admit::{answer, enlarge, Answer, Call, Wanted, ADMITTED, NONE_YET, NO_SLOT, RIGHT};
 use crate::admit_drafts::{along, full, lined, of_a_file, usual, Draft, SMALL};
-use crate::chance::Chance;
+use crate::chance::{Batch, Chance};
 use crate::check::{whole, Checker, Plain};
 use crate::damage::{above_a_limit, any_bytes, bend_route, damage_bytes, damage_table, double_links, shift_legs};
 use crate::drafts::{longest_deadline, to_an_edge};
@@ -25,13 +25,8 @@ pub struct Case {
     pub piece_of: Option<usize>,
 }
 
-struct Batch {
-    chance: Chance,
-    cases: Vec<Case>,
-}
-
 pub fn batch(seed: u64, number: u64) -> Vec<Case> {
-    let mut batch = Batch { chance: Chance::new(seed, number), cases: Vec::new() };
+    let mut batch = Batch::<Case>::new(seed, number);
     for at in 0..SMALLS {
         let draft = SMALL[at % SMALL.len()](&mut batch.chance);
         batch.admit(draft);
@@ -51,7 +46,7 @@ fn needed(plan: &Plan, wanted: &Wanted) -> usize {
     NUMBER_BYTES * enlarge(plan, wanted).words().len()
 }
 
-impl Batch {
+impl Batch<Case> {
     /// Makes a call, and gives its place in the batch.
     fn make(&mut self, call: Call, piece_of: Option<usize>) -> usize {
         let expected = answer(&RIGHT, &call);

@@ -22,6 +22,7 @@ mod fail;
 mod format;
 mod paper;
 mod reasons;
+mod report;
 mod rules;
 mod shape;
 
@@ -35,17 +36,17 @@ use admit_seen::{causes, edges, seen};
 use admit_wrong::{all, Wrong};
 use chance::Chance;
 use check::{whole, Checker, Plain};
-use driver::{in_batches, not_caught, Driver};
-use fail::{fail_silently, given};
+use driver::{not_caught, Driver};
+use fail::given;
 use format::{plan_bytes, Plan};
 use paper::{
     ABOVE_LIMIT, BAD_FORM, ENDS_EARLY, LAST_REVISION, LEFT_OVER, LEG_WRONG, LINK_RANGE, LINK_TWICE, NOTHING_VIOLATED,
     NO_ROOM, REFUSED, STREAM_WRONG,
 };
+use report::{begin, found_in, never_seen, run_with_arguments, tell, tell_caught, tell_seen, Calls, Hunt};
 use std::collections::BTreeMap;
 use std::sync::{Arc, Mutex};
 
-const SHOWN: usize = 5;
 /// Where offsets are too many to be tried, so many of those below the least one are, and of those where none fits.
 const SAMPLES: usize = 12;
 /// A new plan of so many legs is checked whole.
@@ -66,11 +67,7 @@ const SPOILED: [&str; 9] = [
 /// What a run has found so far.
 #[derive(Default)]
 struct Found {
-    calls: u64,
-    differences: u64,
-    shown: Vec<String>,
-    /// The number of the batch that catches each wrong admitter first, and of the call in it.
-    caught: Vec<Option<(u64, usize)>>,
+    calls: Calls,
     /// Admissions of all offsets: with each offset tried, how many of these by whole checks, and by jumps.
     tried: u64,
     whole: u64,
@@ -183,34 +180,19 @@ fn opinion_of_search(chance: &mut Chance, Case { call, expected, .. }: &Case) ->
 }
 
 /// Compares one batch of this number.
-fn compare(number: u64, wrong: &[Wrong], cases: &[Case], answers: &[(Answer, Vec<String>)], found: &Mutex<Found>) {
-    let mut at_large: Vec<usize> = {
-        let found = found.lock().expect("no thread failed");
-        (0..wrong.len()).filter(|&at| found.caught[at].map_or(true, |(batch, _)| batch > number)).collect()
-    };
+fn compare(number: u64, wrong: &[Wrong], cases: &[Case], driver: &mut Driver, found: &Mutex<Found>) {
+    let answers = answers(driver, cases);
+    let mut hunt = Hunt::new(&found.lock().expect("no thread failed").calls.caught, number);
     let mut chance = Chance::new(number, 1);
-    let (mut faults, mut caught) = (difference_of_pieces(cases, answers), Vec::new());
-    for (at_call, (case, (answered, changed))) in cases.iter().zip(answers).enumerate() {
+    let mut faults = difference_of_pieces(cases, &answers);
+    for (at_call, (case, (answered, changed))) in cases.iter().zip(&answers).enumerate() {
         faults.extend(difference(case, answered, changed));
         faults.extend(other_opinion(&mut chance, case));
-        at_large.retain(|&at| {
-            let escapes = given(|| answer(&wrong[at].admitter, &case.call)).as_ref() == Some(&case.expected);
-            if !escapes {
-                caught.push((at, at_call));
-            }
-            escapes
-        });
+        hunt.go_on(at_call, |at| given(|| answer(&wrong[at].admitter, &case.call)).as_ref() == Some(&case.expected));
     }
     let met: Vec<&'static str> = cases.iter().flat_map(|case| seen(&case.call, &case.expected)).collect();
     let mut found = found.lock().expect("no thread failed");
-    found.calls += cases.len() as u64;
-    found.differences += faults.len() as u64;
-    let room = SHOWN.saturating_sub(found.shown.len());
-    found.shown.extend(faults.into_iter().take(room));
-    for (at, at_call) in caught {
-        let known = found.caught[at];
-        found.caught[at] = known.into_iter().chain(Some((number, at_call))).min();
-    }
+    found.calls.add(number, cases.len(), faults, hunt);
     count(&mut found, cases, &met);
 }
 
@@ -229,16 +211,6 @@ fn count(found: &mut Found, cases: &[Case], met: &[&'static str]) {
     }
 }
 
-/// Runs drivers that spoil something. Gives those that the comparison does not catch.
-fn spoilers_at_large(command: &[String]) -> Vec<&'static str> {
-    let cases = batch(1, 0);
-    not_caught(command, &SPOILED, |driver| {
-        let answers = answers(driver, &cases);
-        let mut pairs = cases.iter().zip(&answers);
-        pairs.any(|(case, (answered, changed))| difference(case, answered, changed).is_some())
-    })
-}
-
 /// Each result that a call can have. From a file, refusals 1 and 3 cannot come.
 fn results() -> Vec<(&'static str, u32)> {
     let of_files = [ENDS_EARLY, BAD_FORM, ABOVE_LIMIT, LEFT_OVER, LINK_RANGE, LINK_TWICE, STREAM_WRONG, LEG_WRONG];
@@ -252,17 +224,14 @@ fn results() -> Vec<(&'static str, u32)> {
 
 /// Makes the calls for so many streams, or a few more, with the command of a driver. Says whether all is well.
 fn run(seed: u64, wanted: u64, driver: &[String]) -> bool {
-    let batches = (wanted + BATCH as u64 - 1) / BATCH as u64;
-    println!("seed {}, {} streams in batches of {}", seed, batches * BATCH as u64, BATCH);
+    let batches = begin(seed, wanted, "streams", BATCH);
     let wrong = all();
-    let found = Mutex::new(Found { caught: vec![None; wrong.len()], ..Found::default() });
-    in_batches(driver, batches, |driver, number| {
-        let cases = batch(seed, number);
-        let answers = answers(driver, &cases);
-        compare(number, &wrong, &cases, &answers, &found);
+    let nothing = Found { calls: Calls::new(wrong.len()), ..Found::default() };
+    let found = found_in(batches, driver, nothing, |number, driver, found| {
+        compare(number, &wrong, &batch(seed, number), driver, found);
     });
-    let found = found.into_inner().expect("no thread failed");
-    report(&wrong, &found, batches * BATCH as u64, &spoilers_at_large(driver))
+    let spoilers = not_caught(driver, &SPOILED, &batch(1, 0), answers, difference);
+    report(&wrong, &found, batches * BATCH as u64, &spoilers)
 }
 
 /// Whether the plain admitter gives what one counts by hand on Plan A. It is not accepted; its leg 2 at 672 is. Then the
@@ -291,44 +260,30 @@ fn keeps_the_examples() -> bool {
 }
 
 /// Prints what a run found, and says whether all is well.
-fn report(wrong: &[Wrong], found: &Found, streams: u64, spoilers: &[&str]) -> bool {
-    for fault in &found.shown {
-        println!("{}", fault);
-    }
+fn report(wrong: &[Wrong], found: &Found, streams: u64, spoilers: &[String]) -> bool {
+    found.calls.tell_differences();
     let mut faults = Vec::new();
     if !keeps_the_examples() {
         faults.push("DIFFERENCE of the plain admitter from what is counted by hand".to_string());
     }
-    for (at, Wrong { name, .. }) in wrong.iter().enumerate() {
-        match found.caught[at] {
-            Some((batch, call)) => println!("caught in call {} of batch {}: {}", call + 1, batch + 1, name),
-            None => faults.push(format!("NOT CAUGHT: {}", name)),
-        }
+    for (wrong, &first) in wrong.iter().zip(&found.calls.caught) {
+        tell_caught(first, &wrong.name, &mut faults);
     }
-    faults.extend(spoilers.iter().map(|name| format!("NOT CAUGHT: a driver that {}", name)));
-    let unseen = results().into_iter().filter(|result| !found.results.contains_key(result));
-    faults.extend(unseen.map(|(kind, result)| format!("NEVER SEEN: {} with the result {}", kind, result)));
-    let unmet = edges().into_iter().filter(|edge| !found.edges.contains_key(edge));
-    faults.extend(unmet.map(|edge| format!("NEVER SEEN: {}", edge)));
-    for fault in &faults {
-        println!("{}", fault);
-    }
-    let results = found.results.iter().map(|((kind, result), times)| format!("{} {}: {}", kind, result, times));
-    println!("seen: {}", results.collect::<Vec<_>>().join(", "));
+    faults.extend_from_slice(spoilers);
+    let in_words = |(kind, result): &(&str, u32)| format!("{} with the result {}", kind, result);
+    faults.extend(never_seen(results(), &found.results, in_words));
+    faults.extend(never_seen(edges(), &found.edges, ToString::to_string));
+    tell(&faults);
+    tell_seen(&found.results, |(kind, result)| format!("{} {}", kind, result));
     for (edge, times) in &found.edges {
         println!("met {} times: {}", times, edge);
     }
     let had = |result: u32| found.results.get(&("whole", result)).copied().unwrap_or(0);
     println!(
-        "{} streams, {} calls, {} differences, {} of {} wrong admitters and {} of {} spoiled drivers caught, \
-         {} with each offset tried, {} of them by whole checks, {} by jumps, {} in pieces, {} admitted, {} refused 18",
+        "{} streams, {}, {} with each offset tried, {} of them by whole checks, {} by jumps, {} in pieces, \
+         {} admitted, {} refused 18",
         streams,
-        found.calls,
-        found.differences,
-        found.caught.iter().flatten().count(),
-        wrong.len(),
-        SPOILED.len() - spoilers.len(),
-        SPOILED.len(),
+        found.calls.counted("admitters", SPOILED.len(), spoilers.len()),
         found.tried,
         found.whole,
         found.by_jumps,
@@ -336,20 +291,9 @@ fn report(wrong: &[Wrong], found: &Found, streams: u64, spoilers: &[&str]) -> bo
         had(ADMITTED),
         had(REFUSED + NO_SLOT)
     );
-    found.differences == 0 && faults.is_empty()
+    found.calls.differences == 0 && faults.is_empty()
 }
 
 fn main() {
-    fail_silently();
-    let arguments: Vec<String> = std::env::args().skip(1).collect();
-    let number = |at: usize| arguments.get(at).and_then(|text| text.parse().ok());
-    match (number(0), number(1)) {
-        (Some(seed), Some(streams)) if arguments.len() > 2 => {
-            std::process::exit(if run(seed, streams, &arguments[2..]) { 0 } else { 1 })
-        }
-        _ => {
-            eprintln!("usage: admit SEED STREAMS DRIVER...");
-            std::process::exit(4)
-        }
-    }
+    run_with_arguments("admit SEED STREAMS DRIVER...", run)
 }

@@ -10,23 +10,23 @@
    With an argument the program spoils something in each call, so that a comparison which misses that is seen: 0 to 2
    change the last byte of a buffer after the call, 3 to 5 the byte before one, 6 the result, 7 the number, 8 the offset. */
 #define _GNU_SOURCE
-#include <stdlib.h>
-#include <string.h>
+#include <stddef.h>
 
 #include "conepalhui.h"
 #include "lent.h"
 
 enum { WHOLE, BETWEEN, FLUSH };
 enum { PLAN, ROUTE, NEW_PLAN, BUFFERS };
-enum { SPOIL_RESULT = 2 * BUFFERS, SPOIL_NUMBER, SPOIL_OFFSET };
 
 struct head {
     uint32_t kind, period, deadline, octets, from, until, length[BUFFERS];
 };
 
+typedef conepalhui_admission answered;
 static const size_t width[BUFFERS] = {sizeof(uint8_t), sizeof(uint32_t), sizeof(uint8_t)};
+static const size_t spoiled[] = {offsetof(answered, result), offsetof(answered, number), offsetof(answered, offset)};
 
-static __attribute__((noinline)) void make(const struct head *call, uint8_t *const *at, conepalhui_admission *to) {
+static __attribute__((noinline)) void make(const struct head *call, uint8_t *const *at, answered *to) {
     const uint32_t *route = (const uint32_t *)at[ROUTE], *length = call->length;
     if (call->kind == WHOLE)
         *to = conepalhui_admit(at[PLAN], length[PLAN], route, length[ROUTE], call->period, call->deadline, call->octets,
@@ -38,37 +38,4 @@ static __attribute__((noinline)) void make(const struct head *call, uint8_t *con
         fail("no such call");
 }
 
-/* Changes the answer, a byte of a buffer or one before it. */
-static void spoil(int what, uint8_t *const *end, const struct head *call, conepalhui_admission *answer) {
-    if (what == SPOIL_RESULT)
-        answer->result ^= 1;
-    else if (what == SPOIL_NUMBER)
-        answer->number ^= 1;
-    else if (what == SPOIL_OFFSET)
-        answer->offset ^= 1;
-    else
-        spoil_buffer(what, end, call->length, width, BUFFERS);
-}
-
-int main(int count, char **arguments) {
-    uint8_t *end[BUFFERS], *at[BUFFERS];
-    struct head call;
-    conepalhui_admission answer;
-    for (int i = 0; i < BUFFERS; i++) end[i] = lent_end();
-    for (int odd = 0; fread(&call, sizeof call, 1, stdin) == 1; odd ^= 1) {
-        if (call.kind == FLUSH) {
-            flush();
-            continue;
-        }
-        take(at, end, call.length, width, BUFFERS, odd);
-        soil_the_stack();
-        make(&call, at, &answer);
-        if (count > 1) spoil(atoi(arguments[1]), end, &call, &answer);
-        put(&answer.result, sizeof answer.result);
-        put(&answer.number, sizeof answer.number);
-        put(&answer.offset, sizeof answer.offset);
-        put_back(end, call.length, width, BUFFERS);
-    }
-    if (ferror(stdin) || fflush(stdout) != 0) fail("cannot read or write");
-    return 0;
-}
+#include "serve.h"

@@ -46,7 +46,7 @@ build_driver() { # NAME SOURCE LIBRARY
     build_library
     need rustc rustc
     find_c
-    make_if_old "$1" ".built/lib$3.a" "include/$3.h" "$2" compare/lent.h -- \
+    make_if_old "$1" ".built/lib$3.a" "include/$3.h" "$2" compare/*.h -- \
         "$c_compiler" -O2 -static -Iinclude "$2" ".built/lib$3.a" -o
 }
 
@@ -55,7 +55,7 @@ build_comparison() { build_driver driver compare/driver.c conepalhui; }
 # The comparison of networks, and its driver.
 build_network_comparison() {
     build_driver network-driver compare/network_driver.c conepalhui-network
-    make_if_old network compare/network*.rs compare/chance.rs compare/driver.rs compare/fail.rs -- \
+    make_if_old network compare/network*.rs compare/{chance,driver,fail,report}.rs -- \
         rustc --edition 2021 -O compare/network_compare.rs -o
 }
 

@@ -1,7 +1,7 @@
 //! The calls of a run, in batches. A batch depends on the seed and its number alone.
 
 use crate::calls::{answer, Answer, Call, Kind};
-use crate::chance::Chance;
+use crate::chance::Batch;
 use crate::check::{begin, next, places_before, places_of, Checker, Plain};
 use crate::damage::{
     above_a_limit, any_bytes, any_table, bend_route, damage_bytes, damage_table, double_links, routes, shift_legs,
@@ -19,13 +19,8 @@ pub struct Case {
     pub expected: Answer,
 }
 
-struct Batch {
-    chance: Chance,
-    cases: Vec<Case>,
-}
-
 pub fn batch(seed: u64, number: u64) -> Vec<Case> {
-    let mut batch = Batch { chance: Chance::new(seed, number), cases: Vec::new() };
+    let mut batch = Batch::<Case>::new(seed, number);
     if number == 0 {
         batch.of_the_paper();
     }
@@ -61,7 +56,7 @@ fn places(plan: &Plan) -> u32 {
     Plain.places(plan.legs.len() as u64) as u32
 }
 
-impl Batch {
+impl Batch<Case> {
     // ---- Single calls
 
     /// A lent buffer with something in it.

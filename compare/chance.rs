@@ -48,3 +48,16 @@ impl Chance {
         (0..count).map(|_| self.next() as u8).collect()
     }
 }
+
+/// One batch of a run, and the numbers by chance that its cases come from.
+pub struct Batch<Case> {
+    pub chance: Chance,
+    pub cases: Vec<Case>,
+}
+
+impl<Case> Batch<Case> {
+    /// No case yet.
+    pub fn new(seed: u64, number: u64) -> Batch<Case> {
+        Batch { chance: Chance::new(seed, number), cases: Vec::new() }
+    }
+}

@@ -59,17 +59,25 @@ impl Driver {
     }
 }
 
-/// Runs drivers that spoil something, each told by a number what. Gives those that are not caught.
-pub fn not_caught(command: &[String], spoiled: &[&'static str], is_caught: impl Fn(&mut Driver) -> bool) -> Vec<&'static str> {
-    let mut uncaught = Vec::new();
+/// Runs drivers that spoil something, each told by a number what. Gives a fault for each whose answers do not differ.
+pub fn not_caught<C, A>(
+    command: &[String],
+    spoiled: &[&str],
+    cases: &[C],
+    answers: impl Fn(&mut Driver, &[C]) -> Vec<(A, Vec<String>)>,
+    difference: impl Fn(&C, &A, &[String]) -> Option<String>,
+) -> Vec<String> {
+    let mut faults = Vec::new();
     for (what, name) in spoiled.iter().enumerate() {
         let mut driver = Driver::new(&[command, &[what.to_string()]].concat());
-        if !is_caught(&mut driver) {
-            uncaught.push(*name);
+        let answers = answers(&mut driver, cases);
+        let mut pairs = cases.iter().zip(&answers);
+        if !pairs.any(|(case, (answered, changed))| difference(case, answered, changed).is_some()) {
+            faults.push(format!("NOT CAUGHT: a driver that {}", name));
         }
         driver.end();
     }
-    uncaught
+    faults
 }
 
 /// Does the work of so many batches, each by its number, on every processor with a driver of its own.

@@ -57,6 +57,8 @@ mod reasons;
 #[allow(dead_code)] // It also serves the comparison of rechecks.
 mod recheck;
 mod recheck_list;
+#[allow(dead_code)] // It also serves the comparisons that are programs of their own.
+mod report;
 mod rules;
 mod shape;
 mod told;

@@ -15,9 +15,10 @@ mod network_cases;
 mod network_drafts;
 mod network_pairs;
 mod network_wrong;
+mod report;
 
-use driver::{in_batches, not_caught, Driver};
-use fail::{fail_silently, given};
+use driver::{not_caught, Driver};
+use fail::given;
 use network::{
     answer, is_right, Answer, Call, Kind, ABOVE_LIMIT, BROKEN, CHAIN, NO_CHAIN, NO_ROOM, OUT_OF_RANGE, REFUSED, RIGHT,
     TIMES,
@@ -25,10 +26,10 @@ use network::{
 use network_calls::{receive, send, send_flush};
 use network_cases::{batch, Case, BATCH};
 use network_wrong::{all, Wrong};
+use report::{begin, found_in, never_seen, run_with_arguments, tell, tell_caught, tell_seen, Calls, Hunt};
 use std::collections::BTreeMap;
 use std::sync::{Arc, Mutex};
 
-const SHOWN: usize = 5;
 /// What a spoiled driver does, by the number that tells it to.
 const SPOILED: [&str; 9] = [
     "changes the last byte of the constraints",
@@ -44,11 +45,7 @@ const SPOILED: [&str; 9] = [
 
 /// What a run has found so far.
 struct Found {
-    calls: u64,
-    differences: u64,
-    shown: Vec<String>,
-    /// The number of the batch that catches each wrong solver first, and of the call in it.
-    caught: Vec<Option<(u64, usize)>>,
+    calls: Calls,
     /// How many networks the third opinion was asked of.
     by_pairs: u64,
     /// How often each call gave each result.
@@ -101,47 +98,24 @@ fn other_opinion(case: &Case) -> Option<String> {
 }
 
 /// Compares one batch of this number.
-fn compare(number: u64, wrong: &[Wrong], cases: &[Case], answers: &[(Answer, Vec<String>)], found: &Mutex<Found>) {
-    let mut at_large: Vec<usize> = {
-        let found = found.lock().expect("no thread failed");
-        (0..wrong.len()).filter(|&at| found.caught[at].map_or(true, |(batch, _)| batch > number)).collect()
-    };
-    let (mut faults, mut caught) = (Vec::new(), Vec::new());
-    for (at_call, (case, (answered, changed))) in cases.iter().zip(answers).enumerate() {
+fn compare(number: u64, wrong: &[Wrong], cases: &[Case], driver: &mut Driver, found: &Mutex<Found>) {
+    let answers = answers(driver, cases);
+    let mut hunt = Hunt::new(&found.lock().expect("no thread failed").calls.caught, number);
+    let mut faults = Vec::new();
+    for (at_call, (case, (answered, changed))) in cases.iter().zip(&answers).enumerate() {
         faults.extend(difference(case, answered, changed));
         faults.extend(Some(case).filter(|case| is_asked(case)).and_then(other_opinion));
-        at_large.retain(|&at| {
+        hunt.go_on(at_call, |at| {
             let theirs = given(|| answer(&wrong[at].solver, &case.call));
-            let escapes = theirs.map_or(false, |theirs| is_right(&case.call, &case.expected, &theirs));
-            if !escapes {
-                caught.push((at, at_call));
-            }
-            escapes
+            theirs.map_or(false, |theirs| is_right(&case.call, &case.expected, &theirs))
         });
     }
     let mut found = found.lock().expect("no thread failed");
-    found.calls += cases.len() as u64;
-    found.differences += faults.len() as u64;
+    found.calls.add(number, cases.len(), faults, hunt);
     found.by_pairs += cases.iter().filter(|case| is_asked(case)).count() as u64;
-    let room = SHOWN.saturating_sub(found.shown.len());
-    found.shown.extend(faults.into_iter().take(room));
-    for (at, at_call) in caught {
-        let known = found.caught[at];
-        found.caught[at] = known.into_iter().chain(Some((number, at_call))).min();
-    }
     for case in cases {
         *found.seen.entry((case.call.kind, case.expected.result)).or_default() += 1;
     }
-}
-
-/// Runs drivers that spoil something. Gives those that the comparison does not catch.
-fn spoilers_at_large(command: &[String]) -> Vec<&'static str> {
-    let cases = batch(1, 0);
-    not_caught(command, &SPOILED, |driver| {
-        let answers = answers(driver, &cases);
-        let mut pairs = cases.iter().zip(&answers);
-        pairs.any(|(case, (answered, changed))| difference(case, answered, changed).is_some())
-    })
 }
 
 /// Each result that a call can have.
@@ -157,24 +131,14 @@ fn results() -> Vec<(Kind, u32)> {
 
 /// Makes the calls on so many networks, or a few more, with the command of a driver. Says whether all is well.
 fn run(seed: u64, wanted: u64, driver: &[String]) -> bool {
-    let batches = (wanted + BATCH as u64 - 1) / BATCH as u64;
-    println!("seed {}, {} networks in batches of {}", seed, batches * BATCH as u64, BATCH);
+    let batches = begin(seed, wanted, "networks", BATCH);
     let wrong = all();
-    let found = Mutex::new(Found {
-        calls: 0,
-        differences: 0,
-        shown: Vec::new(),
-        caught: vec![None; wrong.len()],
-        by_pairs: 0,
-        seen: BTreeMap::new(),
+    let nothing = Found { calls: Calls::new(wrong.len()), by_pairs: 0, seen: BTreeMap::new() };
+    let found = found_in(batches, driver, nothing, |number, driver, found| {
+        compare(number, &wrong, &batch(seed, number), driver, found);
     });
-    in_batches(driver, batches, |driver, number| {
-        let cases = batch(seed, number);
-        let answers = answers(driver, &cases);
-        compare(number, &wrong, &cases, &answers, &found);
-    });
-    let found = found.into_inner().expect("no thread failed");
-    report(&wrong, &found, batches * BATCH as u64, &spoilers_at_large(driver))
+    let spoilers = not_caught(driver, &SPOILED, &batch(1, 0), answers, difference);
+    report(&wrong, &found, batches * BATCH as u64, &spoilers)
 }
 
 /// Whether the plain solver gives what the request says of its example.
@@ -190,43 +154,26 @@ fn keeps_the_example() -> bool {
 }
 
 /// Prints what a run found, and says whether all is well.
-fn report(wrong: &[Wrong], found: &Found, networks: u64, spoilers: &[&str]) -> bool {
-    for fault in &found.shown {
-        println!("{}", fault);
-    }
+fn report(wrong: &[Wrong], found: &Found, networks: u64, spoilers: &[String]) -> bool {
+    found.calls.tell_differences();
     let mut faults = Vec::new();
     if !keeps_the_example() {
         faults.push("DIFFERENCE of the plain solver from the example of the request".to_string());
     }
-    for (at, Wrong { name, .. }) in wrong.iter().enumerate() {
-        match found.caught[at] {
-            Some((batch, call)) => println!("caught in call {} of batch {}: {}", call + 1, batch + 1, name),
-            None => faults.push(format!("NOT CAUGHT: {}", name)),
-        }
+    for (wrong, &first) in wrong.iter().zip(&found.calls.caught) {
+        tell_caught(first, wrong.name, &mut faults);
     }
-    faults.extend(spoilers.iter().map(|name| format!("NOT CAUGHT: a driver that {}", name)));
-    for (kind, result) in results() {
-        if !found.seen.contains_key(&(kind, result)) {
-            faults.push(format!("NEVER SEEN: {:?} with the result {}", kind, result));
-        }
-    }
-    for fault in &faults {
-        println!("{}", fault);
-    }
-    let seen: Vec<String> =
-        found.seen.iter().map(|((kind, result), times)| format!("{:?} {}: {}", kind, result, times)).collect();
-    println!("seen: {}", seen.join(", "));
+    faults.extend_from_slice(spoilers);
+    let in_words = |(kind, result): &(Kind, u32)| format!("{:?} with the result {}", kind, result);
+    faults.extend(never_seen(results(), &found.seen, in_words));
+    tell(&faults);
+    tell_seen(&found.seen, |(kind, result)| format!("{:?} {}", kind, result));
     let had = |result: u32| found.seen.get(&(Kind::Solve, result)).copied().unwrap_or(0);
     println!(
-        "{} networks, {} calls, {} differences, {} of {} wrong solvers and {} of {} spoiled drivers caught, \
-         {} networks by pairs, {} with times, {} with a chain, {} refused 15, {} refused 16, {} refused 27",
+        "{} networks, {}, {} networks by pairs, {} with times, {} with a chain, {} refused 15, \
+         {} refused 16, {} refused 27",
         networks,
-        found.calls,
-        found.differences,
-        found.caught.iter().flatten().count(),
-        wrong.len(),
-        SPOILED.len() - spoilers.len(),
-        SPOILED.len(),
+        found.calls.counted("solvers", SPOILED.len(), spoilers.len()),
         found.by_pairs,
         had(TIMES),
         had(CHAIN),
@@ -234,20 +181,9 @@ fn report(wrong: &[Wrong], found: &Found, networks: u64, spoilers: &[&str]) -> b
         had(REFUSED + OUT_OF_RANGE),
         had(REFUSED + ABOVE_LIMIT)
     );
-    found.differences == 0 && faults.is_empty() && found.by_pairs > 0
+    found.calls.differences == 0 && faults.is_empty() && found.by_pairs > 0
 }
 
 fn main() {
-    fail_silently();
-    let arguments: Vec<String> = std::env::args().skip(1).collect();
-    let number = |at: usize| arguments.get(at).and_then(|text| text.parse().ok());
-    match (number(0), number(1)) {
-        (Some(seed), Some(networks)) if arguments.len() > 2 => {
-            std::process::exit(if run(seed, networks, &arguments[2..]) { 0 } else { 1 })
-        }
-        _ => {
-            eprintln!("usage: network SEED NETWORKS DRIVER...");
-            std::process::exit(4)
-        }
-    }
+    run_with_arguments("network SEED NETWORKS DRIVER...", run)
 }

@@ -11,7 +11,7 @@
    change the last byte of a buffer after the call, 3 to 5 the byte before one, 6 the result, 7 the number, 8 the last
    of the times. */
 #define _GNU_SOURCE
-#include <stdlib.h>
+#include <stddef.h>
 #include <string.h>
 
 #include "conepalhui-network.h"
@@ -20,16 +20,18 @@
 enum { SOLVE, TIMES, CHAIN, FLUSH };
 enum { WORDS, GIVEN, LENT, BUFFERS };
 enum { EVENTS = 128 };
-enum { SPOIL_RESULT = 2 * BUFFERS, SPOIL_NUMBER, SPOIL_TIME };
 
 struct head {
     uint64_t events;
     uint32_t kind, length[BUFFERS];
 };
 
+typedef conepalhui_network_answer answered;
 static const size_t width[BUFFERS] = {sizeof(int64_t), sizeof(int64_t), sizeof(uint32_t)};
+static const size_t spoiled[] = {offsetof(answered, result), offsetof(answered, number),
+                                 offsetof(answered, times[EVENTS - 1])};
 
-static __attribute__((noinline)) void make(const struct head *call, uint8_t *const *at, conepalhui_network_answer *to) {
+static __attribute__((noinline)) void make(const struct head *call, uint8_t *const *at, answered *to) {
     const int64_t *words = (const int64_t *)at[WORDS], *times = (const int64_t *)at[GIVEN];
     conepalhui_network_verdict verdict;
     switch (call->kind) {
@@ -53,37 +55,4 @@ static __attribute__((noinline)) void make(const struct head *call, uint8_t *con
     to->number = verdict.number;
 }
 
-/* Changes the answer, a byte of a buffer or one before it. */
-static void spoil(int what, uint8_t *const *end, const struct head *call, conepalhui_network_answer *answer) {
-    if (what == SPOIL_RESULT)
-        answer->result ^= 1;
-    else if (what == SPOIL_NUMBER)
-        answer->number ^= 1;
-    else if (what == SPOIL_TIME)
-        answer->times[EVENTS - 1] ^= 1;
-    else
-        spoil_buffer(what, end, call->length, width, BUFFERS);
-}
-
-int main(int count, char **arguments) {
-    uint8_t *end[BUFFERS], *at[BUFFERS];
-    struct head call;
-    conepalhui_network_answer answer;
-    for (int i = 0; i < BUFFERS; i++) end[i] = lent_end();
-    for (int odd = 0; fread(&call, sizeof call, 1, stdin) == 1; odd ^= 1) {
-        if (call.kind == FLUSH) {
-            flush();
-            continue;
-        }
-        take(at, end, call.length, width, BUFFERS, odd);
-        soil_the_stack();
-        make(&call, at, &answer);
-        if (count > 1) spoil(atoi(arguments[1]), end, &call, &answer);
-        put(&answer.result, sizeof answer.result);
-        put(&answer.number, sizeof answer.number);
-        put(answer.times, sizeof answer.times);
-        put_back(end, call.length, width, BUFFERS);
-    }
-    if (ferror(stdin) || fflush(stdout) != 0) fail("cannot read or write");
-    return 0;
-}
+#include "serve.h"

@@ -2,7 +2,7 @@
 
 use crate::admit_cases::{damaged_file, violate};
 use crate::admit_drafts::lined;
-use crate::chance::Chance;
+use crate::chance::Batch;
 use crate::check::{whole, Checker, Plain};
 use crate::drafts::{accepted, beyond, medium, one_link, plan_a, row, small, to_an_edge};
 use crate::format::{plan_bytes, Plan};
@@ -48,13 +48,8 @@ pub struct Case {
     pub moved_from: Option<(u32, u32)>,
 }
 
-struct Batch {
-    chance: Chance,
-    cases: Vec<Case>,
-}
-
 pub fn batch(seed: u64, number: u64) -> Vec<Case> {
-    let mut batch = Batch { chance: Chance::new(seed, number), cases: Vec::new() };
+    let mut batch = Batch::<Case>::new(seed, number);
     if number == 0 {
         batch.of_the_paper();
     }
@@ -79,7 +74,7 @@ fn words(plan: &Plan, leg: usize) -> (u32, u32) {
     (plan.legs[leg].offset, plan.legs[leg].periods)
 }
 
-impl Batch {
+impl Batch<Case> {
     fn make(&mut self, plan: Vec<u8>, leg: u32, before: Before, moved_from: Option<(u32, u32)>) -> Answer {
         let call = Call { plan: plan.into(), leg };
         let expected = answer(&RIGHT, &call);

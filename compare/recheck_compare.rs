@@ -25,12 +25,13 @@ mod recheck_cases;
 mod recheck_drafts;
 mod recheck_seen;
 mod recheck_wrong;
+mod report;
 mod rules;
 mod shape;
 
 use check::{Checker, Plain};
-use driver::{in_batches, not_caught, Driver};
-use fail::{fail_silently, given};
+use driver::{not_caught, Driver};
+use fail::given;
 use format::{plan_bytes, Leg, Plan};
 use paper::{NOTHING_VIOLATED, NO_LEG, REFUSED, RULES};
 use recheck::{
@@ -40,10 +41,10 @@ use recheck_calls::{receive, send, send_flush};
 use recheck_cases::{batch, is_refused, Before, Case, BATCH};
 use recheck_seen::{edges, impossible, seen, BEFORE_NO_LEG};
 use recheck_wrong::{all, Wrong};
+use report::{begin, found_in, never_seen, run_with_arguments, tell, tell_caught, tell_seen, Calls, First, Hunt};
 use std::collections::BTreeMap;
 use std::sync::Mutex;
 
-const SHOWN: usize = 5;
 /// In tables of so many legs each place off the list is looked at before the move and after it.
 const COMPARED_LEGS: usize = 60;
 /// What a spoiled driver does, by the number that tells it to.
@@ -59,13 +60,9 @@ const SPOILED: [&str; 6] = [
 /// What a run has found so far.
 #[derive(Default)]
 struct Found {
-    calls: u64,
-    differences: u64,
-    shown: Vec<String>,
-    /// The number of the batch that catches each wrong rechecker first, and of the call in it: the proved call, and a whole
-    /// check after an accepted table.
-    caught: Vec<Option<(u64, usize)>>,
-    caught_by_whole: Vec<Option<(u64, usize)>>,
+    calls: Calls,
+    /// The first call after an accepted table whose whole check catches each wrong rechecker.
+    caught_by_whole: Vec<First>,
     /// How often each was known of the table before, where nothing was refused.
     befores: BTreeMap<Before, u64>,
     /// Where the table before was not accepted: how often a whole check gives another verdict.
@@ -148,9 +145,6 @@ fn off_the_list(case: &Case, plan: &Plan) -> (u64, Option<String>) {
 #[derive(Default)]
 struct Shown {
     faults: Vec<String>,
-    /// The wrong recheckers that were caught, each with the call, by the proved call and by a whole check.
-    caught: Vec<(usize, usize)>,
-    caught_by_whole: Vec<(usize, usize)>,
     others_differ: u64,
     off_the_list: u64,
     met: Vec<String>,
@@ -176,69 +170,41 @@ impl Shown {
     }
 }
 
-/// The wrong recheckers that no batch before this one has caught.
-fn at_large(caught: &[Option<(u64, usize)>], number: u64) -> Vec<usize> {
-    (0..caught.len()).filter(|&at| caught[at].map_or(true, |(batch, _)| batch > number)).collect()
-}
-
 /// Compares one batch of this number.
-fn compare(number: u64, wrong: &[Wrong], cases: &[Case], answers: &[(Answer, Vec<String>)], found: &Mutex<Found>) {
-    let (mut free, mut free_of_whole) = {
+fn compare(number: u64, wrong: &[Wrong], cases: &[Case], driver: &mut Driver, found: &Mutex<Found>) {
+    let answers = answers(driver, cases);
+    let (mut hunt, mut hunt_by_whole) = {
         let found = found.lock().expect("no thread failed");
-        (at_large(&found.caught, number), at_large(&found.caught_by_whole, number))
+        (Hunt::new(&found.calls.caught, number), Hunt::new(&found.caught_by_whole, number))
     };
-    free_of_whole.retain(|&at| wrong[at].by_whole);
+    hunt_by_whole.at_large.retain(|&at| wrong[at].by_whole);
     let mut shown = Shown::default();
-    for (at_call, (case, (answered, changed))) in cases.iter().zip(answers).enumerate() {
+    for (at_call, (case, (answered, changed))) in cases.iter().zip(&answers).enumerate() {
         let whole = shown.judge(case, answered, changed);
         let theirs = |at: usize| given(|| answer(&wrong[at].rechecker, &case.call));
-        let caught = |at: &usize| theirs(*at) != Some(case.expected);
-        shown.caught.extend(free.iter().filter(|at| caught(at)).map(|&at| (at, at_call)));
-        free.retain(|at| !shown.caught.iter().any(|(other, _)| other == at));
+        hunt.go_on(at_call, |at| theirs(at) == Some(case.expected));
         if let Some(whole) = whole {
-            let caught = |at: &usize| theirs(*at).map_or(true, |answer| verdict(&answer) != whole);
-            shown.caught_by_whole.extend(free_of_whole.iter().filter(|at| caught(at)).map(|&at| (at, at_call)));
-            free_of_whole.retain(|at| !shown.caught_by_whole.iter().any(|(other, _)| other == at));
+            hunt_by_whole.go_on(at_call, |at| theirs(at).map_or(false, |answer| verdict(&answer) == whole));
         }
     }
-    note(&mut found.lock().expect("no thread failed"), number, cases, shown);
-}
-
-/// Keeps the first call that caught each wrong rechecker.
-fn merge(known: &mut [Option<(u64, usize)>], number: u64, caught: &[(usize, usize)]) {
-    for &(at, at_call) in caught {
-        known[at] = known[at].into_iter().chain(Some((number, at_call))).min();
-    }
-}
-
-fn note(found: &mut Found, number: u64, cases: &[Case], shown: Shown) {
-    found.calls += cases.len() as u64;
-    found.differences += shown.faults.len() as u64;
+    let mut found = found.lock().expect("no thread failed");
+    found.calls.add(number, cases.len(), shown.faults, hunt);
+    hunt_by_whole.end(&mut found.caught_by_whole, number);
     found.others_differ += shown.others_differ;
     found.off_the_list += shown.off_the_list;
-    let room = SHOWN.saturating_sub(found.shown.len());
-    found.shown.extend(shown.faults.into_iter().take(room));
-    merge(&mut found.caught, number, &shown.caught);
-    merge(&mut found.caught_by_whole, number, &shown.caught_by_whole);
+    count(&mut found, cases, shown.met);
+}
+
+fn count(found: &mut Found, cases: &[Case], met: Vec<String>) {
     for case in cases {
         *found.results.entry(case.expected.result).or_default() += 1;
         if !is_refused(&case.expected) {
             *found.befores.entry(case.before).or_default() += 1;
         }
     }
-    for edge in shown.met {
+    for edge in met {
         *found.edges.entry(edge).or_default() += 1;
     }
-}
-
-/// Runs drivers that spoil something. Gives those that the comparison does not catch.
-fn spoilers_at_large(command: &[String]) -> Vec<&'static str> {
-    let cases = batch(1, 0);
-    not_caught(command, &SPOILED, |driver| {
-        let answers = answers(driver, &cases);
-        let mut pairs = cases.iter().zip(&answers);
-        pairs.any(|(case, (answered, changed))| difference(case, answered, changed).is_some())
-    })
 }
 
 /// Each result that a call can have.
@@ -249,18 +215,15 @@ fn results() -> Vec<u32> {
 
 /// Makes the calls on so many tables, or a few more, with the command of a driver. Says whether all is well.
 fn run(seed: u64, wanted: u64, driver: &[String]) -> bool {
-    let batches = (wanted + BATCH as u64 - 1) / BATCH as u64;
-    println!("seed {}, {} tables in batches of {}", seed, batches * BATCH as u64, BATCH);
+    let batches = begin(seed, wanted, "tables", BATCH);
     let wrong = all();
-    let none = vec![None; wrong.len()];
-    let found = Mutex::new(Found { caught: none.clone(), caught_by_whole: none, ..Found::default() });
-    in_batches(driver, batches, |driver, number| {
-        let cases = batch(seed, number);
-        let answers = answers(driver, &cases);
-        compare(number, &wrong, &cases, &answers, &found);
+    let (calls, caught_by_whole) = (Calls::new(wrong.len()), vec![None; wrong.len()]);
+    let nothing = Found { calls, caught_by_whole, ..Found::default() };
+    let found = found_in(batches, driver, nothing, |number, driver, found| {
+        compare(number, &wrong, &batch(seed, number), driver, found);
     });
-    let found = found.into_inner().expect("no thread failed");
-    report(&wrong, &found, batches * BATCH as u64, &spoilers_at_large(driver))
+    let spoilers = not_caught(driver, &SPOILED, &batch(1, 0), answers, difference);
+    report(&wrong, &found, batches * BATCH as u64, &spoilers)
 }
 
 /// Whether the plain rechecker gives what one counts by hand on Plan A with leg 2 at 672, which is accepted. Stream 0 has
@@ -289,50 +252,35 @@ fn keeps_the_examples() -> bool {
 }
 
 /// Prints what a run found, and says whether all is well.
-fn report(wrong: &[Wrong], found: &Found, tables: u64, spoilers: &[&str]) -> bool {
-    for fault in &found.shown {
-        println!("{}", fault);
-    }
+fn report(wrong: &[Wrong], found: &Found, tables: u64, spoilers: &[String]) -> bool {
+    found.calls.tell_differences();
     let mut faults = Vec::new();
     if !keeps_the_examples() {
         faults.push("DIFFERENCE of the plain rechecker from what is counted by hand".to_string());
     }
     for (at, Wrong { name, by_whole, .. }) in wrong.iter().enumerate() {
-        match found.caught[at] {
-            Some((batch, call)) => println!("caught in call {} of batch {}: {}", call + 1, batch + 1, name),
-            None => faults.push(format!("NOT CAUGHT: {}", name)),
-        }
+        tell_caught(found.calls.caught[at], name, &mut faults);
         match found.caught_by_whole[at] {
             Some((batch, call)) => println!("  by a whole check in call {} of batch {}", call + 1, batch + 1),
             None if *by_whole => faults.push(format!("NOT CAUGHT by a whole check: {}", name)),
             None => {}
         }
     }
-    faults.extend(spoilers.iter().map(|name| format!("NOT CAUGHT: a driver that {}", name)));
-    let unseen = results().into_iter().filter(|result| !found.results.contains_key(result));
-    faults.extend(unseen.map(|result| format!("NEVER SEEN: the result {}", result)));
-    let unmet = edges().into_iter().filter(|edge| !found.edges.contains_key(edge));
-    faults.extend(unmet.map(|edge| format!("NEVER SEEN: {}", edge)));
+    faults.extend_from_slice(spoilers);
+    faults.extend(never_seen(results(), &found.results, |result| format!("the result {}", result)));
+    faults.extend(never_seen(edges(), &found.edges, String::clone));
     let met = impossible().into_iter().filter(|edge| found.edges.contains_key(edge));
     faults.extend(met.map(|edge| format!("CANNOT BE, AND WAS SEEN: {}", edge)));
-    for fault in &faults {
-        println!("{}", fault);
-    }
+    tell(&faults);
     print_counts(found);
     let had = |before: Before| found.befores.get(&before).copied().unwrap_or(0);
     let others = had(Before::NotAccepted) + had(Before::Unknown);
     println!(
-        "{} tables, {} calls, {} differences, {} of {} wrong recheckers and {} of {} spoiled drivers caught, \
-         {} of {} by whole checks too, {} accepted tables with one leg moved, {} moves after clean ones, \
+        "{} tables, {}, {} of {} by whole checks too, {} accepted tables with one leg moved, {} moves after clean ones, \
          {} of the same leg again, {} tables not known to be accepted before, \
          {} of them with another verdict by a whole check, {} places off the list compared",
         tables,
-        found.calls,
-        found.differences,
-        found.caught.iter().flatten().count(),
-        wrong.len(),
-        SPOILED.len() - spoilers.len(),
-        SPOILED.len(),
+        found.calls.counted("recheckers", SPOILED.len(), spoilers.len()),
         found.caught_by_whole.iter().flatten().count(),
         wrong.iter().filter(|wrong| wrong.by_whole).count(),
         had(Before::Accepted),
@@ -342,12 +290,11 @@ fn report(wrong: &[Wrong], found: &Found, tables: u64, spoilers: &[&str]) -> boo
         found.others_differ,
         found.off_the_list
     );
-    found.differences == 0 && faults.is_empty() && found.others_differ > 0
+    found.calls.differences == 0 && faults.is_empty() && found.others_differ > 0
 }
 
 fn print_counts(found: &Found) {
-    let results = found.results.iter().map(|(result, times)| format!("{}: {}", result, times));
-    println!("seen: {}", results.collect::<Vec<_>>().join(", "));
+    tell_seen(&found.results, u32::to_string);
     for edge in edges() {
         println!("met {} times: {}", found.edges.get(&edge).unwrap_or(&0), edge);
     }
@@ -357,16 +304,5 @@ fn print_counts(found: &Found) {
 }
 
 fn main() {
-    fail_silently();
-    let arguments: Vec<String> = std::env::args().skip(1).collect();
-    let number = |at: usize| arguments.get(at).and_then(|text| text.parse().ok());
-    match (number(0), number(1)) {
-        (Some(seed), Some(tables)) if arguments.len() > 2 => {
-            std::process::exit(if run(seed, tables, &arguments[2..]) { 0 } else { 1 })
-        }
-        _ => {
-            eprintln!("usage: recheck SEED TABLES DRIVER...");
-            std::process::exit(4)
-        }
-    }
+    run_with_arguments("recheck SEED TABLES DRIVER...", run)
 }
