@@ -1,6 +1,6 @@
 -- How many places the list has: leg m has all its places in it, and each later leg one, and one more for the next hop and for the deadline. Assumes nothing.
 use Prim.Native.Nat.{ℕ, zero, suc, _+_, _-_, _≤_, _<_}
-use mathlib.Core.Path.{_≡_, _∙_, ap}
+use mathlib.Core.Path.{_≡_, refl, _∙_, ap}
 use mathlib.Core.Bool.{true}
 use mathlib.Core.List.{List, [], _∷_}
 use mathlib.Core.Logic.{⊎-elim}
@@ -56,13 +56,12 @@ module _ (t : List ℕ) (m : ℕ) (l : LegIn t m) where
     pair-adds : count (a + 1) 0 ≡ count a 3 + 1
     unfolding count
     pair-adds =
-        let p : ℕ = pairPlace m in
         omega (
           arith,
           ap length (to-next t m a),
-          ap length (none-past-pair t m a above (pairPlace m) (let e : pairPlace m ≡ pairPlace m = omega arith in e)),
-          one-more a (pairPlace m) (with-moved t m a (pairPlace m) (let e : pairPlace m ≡ pairPlace m = omega arith in e)),
-          ap length (none-before-pair t m a above (pairPlace m) (let e : pairPlace m ≡ pairPlace m = omega arith in e)),
+          ap length (none-past-pair t m a above (pairPlace m) refl),
+          one-more a (pairPlace m) (with-moved t m a (pairPlace m) refl),
+          ap length (none-before-pair t m a above (pairPlace m) refl),
         )
 
   -- After the last leg of a stream nothing is added but the places with it.
@@ -130,16 +129,10 @@ module _ (t : List ℕ) (m : ℕ) (l : LegIn t m) where
       let i = l .table .stream _ (p .stream) .in-table in
       whole (legCount t + 4) (omega (arith, ap (λ (a : ℕ). count a 0) z, tallied e (legCount t - (m + 1)) .past (omega arith)))
 
-  pub at-most-count : length (listed t m) ≤ legCount t + 4
-  at-most-count =
+  -- So it has G + 2 places at the least, and G + 4 at the most.
+  pub count-within : (legCount t + 2 ≤ length (listed t m)) × (length (listed t m) ≤ legCount t + 4)
+  count-within =
       ⊎-elim
-      (λ (h : m + 1 ≡ endOf t m). omega (arith, last-leg-count h))
-      (λ (h : m + 1 < endOf t m). omega (arith, other-leg-count h))
-      (eq-or-lt-of-le (let p = l .table .leg m (l .leg) in let h : m + 1 ≤ endOf t m = omega (arith, p .to-last) in h))
-
-  pub at-least-count : 1 ≤ length (listed t m)
-  at-least-count =
-      ⊎-elim
-      (λ (h : m + 1 ≡ endOf t m). omega (arith, last-leg-count h))
-      (λ (h : m + 1 < endOf t m). omega (arith, other-leg-count h))
+      (λ (h : m + 1 ≡ endOf t m). let e = last-leg-count h in (omega arith, omega arith))
+      (λ (h : m + 1 < endOf t m). let e = other-leg-count h in (omega arith, omega arith))
       (eq-or-lt-of-le (let p = l .table .leg m (l .leg) in let h : m + 1 ≤ endOf t m = omega (arith, p .to-last) in h))

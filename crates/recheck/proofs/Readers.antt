@@ -21,7 +21,7 @@ use Rattle.recheck.specs.declared.Place.{Place}
 use Rattle.recheck.proofs.Naming.{named-read, read-named}
 use Rattle.recheck.proofs.Looking.{leg-in}
 use Rattle.recheck.proofs.Members.{in-below, below-in, below-order}
-use Rattle.recheck.proofs.Counting.{last-leg-count, other-leg-count, at-least-count, at-most-count}
+use Rattle.recheck.proofs.Counting.{last-leg-count, other-leg-count, count-within}
 
 -- A leg among the legs of the stream of leg a is of that stream, which ends where it does.
 same-end : (t : List ℕ) (a m : ℕ) → LegIn t a → firstOf t a ≤ m → m < endOf t a → endOf t a ≡ endOf t m
@@ -64,7 +64,7 @@ recheck-list-is-right t m c =
       in-order = below-order t m (legCount t);
       last-leg = last-leg-count t m l;
       other-leg = other-leg-count t m l;
-      at-most = at-most-count t m l;
+      at-most = count-within t m l .1;
     }
 
 -- The n-th place of a list that has no more than G + 4.
@@ -73,8 +73,8 @@ first-inside {q = q} f = (omega (arith, f .number), omega (arith, f .number, ap 
 
 pub recheck-is-short : RecheckIsShort
 recheck-is-short = record {
-  violated = λ t m q r n v. let i = first-inside (v .1) in (i .0, omega (arith, i .1, at-most-count t m (leg-in (v .0) (v .0 .leg))));
+  violated = λ t m q r n v. let i = first-inside (v .1) in (i .0, omega (arith, i .1, count-within t m (leg-in (v .0) (v .0 .leg)) .1));
   nothing = λ t m n v.
-      let l = leg-in (v .0) (v .0 .leg) in
-      (omega (arith, v .2, at-least-count t m l), omega (arith, v .2, at-most-count t m l));
+      let c = count-within t m (leg-in (v .0) (v .0 .leg)) in
+      (omega (arith, v .2, c .0), omega (arith, v .2, c .1));
 }
