@@ -10,11 +10,12 @@ use Rattle.basics.proofs.Refusals.{unless-one, then-one, called-one}
 use Rattle.basics.proofs.Splits.{lt-or-ge}
 use Rattle.numbers.specs.Number.{noRoom}
 use Rattle.shape.proofs.OneShape.{shape-one}
+use Rattle.checker.specs.Accepted.{notAccepted}
 use Rattle.checker.specs.Moves.{cannotRise}
 use Rattle.offsets.proofs.Stepping.{none-joined}
 use Rattle.offsets.proofs.Answers.{least-is-one}
 use Rattle.enlarge.specs.declared.Wanted.{Wanted}
-use Rattle.admission.specs.Admits.{noOffset, notAccepted, cannotAdd, earlyRefusals, Fits, SomeFits, AdmittedAt, WholeTold, NoneBetween, PieceTold, wordsAfter}
+use Rattle.admission.specs.Admits.{noOffset, cannotAdd, earlyRefusals, Fits, SomeFits, AdmittedAt, WholeTold, NoneBetween, PieceTold, wordsAfter}
 use Rattle.admission.specs.Theorems.{ToldOneAnswer, PieceToldOneAnswer, AdmitOneAnswer, AdmitBetweenOneAnswer, PiecesMakeTheWhole}
 use Rattle.admission.specs.declared.Admission.{Admission}
 use Rattle.admission.specs.declared.Admission.the-variants.{Admitted, NoneYet, Refused}

@@ -18,13 +18,14 @@ use Rattle.table.specs.Layout.{maxStreams, maxLegs, streamWords, legWords, revi
 use Rattle.shape.specs.Shape.{WellFormedTable, ShapeFault, ShapeTold}
 use Rattle.shape.proofs.OneShape.{well-no-fault}
 use Rattle.rules.specs.Rules.{RulesHold}
+use Rattle.checker.specs.Accepted.{notAccepted}
 use Rattle.checker.specs.Moves.{cannotRise}
 use Rattle.enlarge.specs.Enlarged.{withoutTimes, enlargedWords}
 use Rattle.enlarge.specs.declared.Wanted.{Wanted}
 use Rattle.enlarge.proofs.Grown.{grown-long}
 use Rattle.enlarge.proofs.NewLegs.{zero-length}
 use Rattle.enlarge.proofs.Ranges.{wanted-in-range}
-use Rattle.admission.specs.Admits.{notAccepted, cannotAdd, CanAdd, MayAdmit, earlyRefusals}
+use Rattle.admission.specs.Admits.{cannotAdd, CanAdd, MayAdmit, earlyRefusals}
 use Rattle.admission.specs.Steps.{CanRise, MayAdd}
 
 -- Whether the stream can be added: not where there are as many streams or legs as there may be, and otherwise by the table with it, laid into words of the function's own.

@@ -1,4 +1,4 @@
--- A slot for a new stream (document 02, L5): what an admission tells, by the cases of its answer, and what it writes, with the refusals 18, 19 and 20. No old leg moves.
+-- A slot for a new stream (document 02, L5): what an admission tells, by the cases of its answer, and what it writes, with the refusals 18 and 20, beside 19. No old leg moves.
 -- w is what is wanted of the new stream, the route is the numbers of its links, in order, and room is how many words are lent for the enlarged table.
 use Prim.Native.Nat.{ℕ, _≤_, _<_}
 use mathlib.Core.Path.{_≡_}
@@ -11,7 +11,7 @@ use Rattle.numbers.specs.Series.{overlaid}
 use Rattle.table.specs.Layout.{revisionOf}
 use Rattle.shape.specs.Shape.{WellFormedTable, shapeRefusals}
 use Rattle.rules.specs.Rules.{RulesHold}
-use Rattle.checker.specs.Accepted.{Accepted}
+use Rattle.checker.specs.Accepted.{Accepted, notAccepted}
 use Rattle.checker.specs.Moves.{cannotRise}
 use Rattle.offsets.specs.Search.{NoneFrom, LeastFrom}
 use Rattle.enlarge.specs.Enlarged.{enlarged, enlargedWords, withoutTimes}
@@ -19,12 +19,9 @@ use Rattle.enlarge.specs.declared.Wanted.{Wanted}
 use Rattle.admission.specs.declared.Admission.{Admission}
 use Rattle.admission.specs.declared.Admission.the-variants.{Admitted, NoneYet, Refused}
 
--- 18: no first offset below the period fits (of a piece see PieceTold). 19: the table is not accepted. 20: the stream would break a limit or the shape.
+-- 18: no first offset below the period fits (of a piece see PieceTold). 20: the stream would break a limit or the shape.
 abbrev pub noOffset : ℕ
 noOffset = 18
-
-abbrev pub notAccepted : ℕ
-notAccepted = 19
 
 abbrev pub cannotAdd : ℕ
 cannotAdd = 20

@@ -10,12 +10,11 @@ ghost use Rattle.admission.specs.Steps.{CanRise, MayAdd};
 use crate::least::ANY_WORD;
 use basics::Checked;
 use basics::Holds;
+use checker::accepted::NOT_ACCEPTED;
 use checker::cursors::CANNOT_RISE;
 use checker::cursors::MAX_REVISION;
 use enlarge::Wanted;
 use numbers::NO_ROOM;
-
-pub const NOT_ACCEPTED: u32 = 19;
 
 pub const CANNOT_ADD: u32 = 20;
 

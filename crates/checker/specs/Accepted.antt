@@ -7,3 +7,7 @@ use Rattle.rules.specs.Rules.{RulesHold}
 pub record Accepted (t : List ℕ) : Type 0 where
   pub shape : WellFormedTable t
   pub rules : RulesHold t
+
+-- 19: a call that asks for an accepted table is given another.
+abbrev pub notAccepted : ℕ
+notAccepted = 19

@@ -7,6 +7,9 @@ use crate::look;
 use basics::Holds;
 use files::Cursor;
 
+// The refusal of a call that asks for an accepted table.
+pub const NOT_ACCEPTED: u32 = 19;
+
 // More than any table has places.
 const EVERY_PLACE: u32 = 4294967295;
 

@@ -11,7 +11,8 @@ use Rattle.files.specs.Plan.{PlanFault}
 use Rattle.files.specs.Theorems.{maxFileBytes}
 use Rattle.enlarge.specs.Enlarged.{enlargedWords}
 use Rattle.enlarge.specs.declared.Wanted.{Wanted}
-use Rattle.admission.specs.Admits.{noOffset, notAccepted, cannotAdd}
+use Rattle.checker.specs.Accepted.{notAccepted}
+use Rattle.admission.specs.Admits.{noOffset, cannotAdd}
 use Rattle.admission.specs.declared.Admission.the-variants.{NoneYet, Refused}
 use Rattle.host.specs.declared.admit.AdmissionAnswer.{AdmissionAnswer}
 use Rattle.host.specs.Answers.{refusedResult}

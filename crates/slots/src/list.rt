@@ -8,6 +8,7 @@ use crate::search;
 use crate::search::Found;
 use crate::why;
 use admission::Admission;
+use checker::accepted::NOT_ACCEPTED;
 use numbers::Written;
 
 // How far it is: the words of the table, how many streams are admitted and left out, when something was said last, and whether a search did not end.
@@ -28,7 +29,7 @@ fn copy(from: &[u32], to: &mut [u32], n: usize) {
 }
 
 fn refused(label: &[u8], given: Given, t: &[u32], links: &[u32], number: u32, at: usize) {
-    if number == why::NOT_ACCEPTED {
+    if number == NOT_ACCEPTED {
         judge::is_accepted(t);
         return;
     }

@@ -1,6 +1,6 @@
 // The answers on standard output. The numbers of an admitted stream are those of the enlarged table.
 use crate::times;
-use crate::why::NOT_ACCEPTED;
+use checker::accepted::NOT_ACCEPTED;
 use files::Cursor;
 use reasons::records;
 use rules::Rule;

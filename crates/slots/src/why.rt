@@ -20,9 +20,6 @@ use shape::streams::MAX_PERIODS;
 use shape::streams::MAX_ROUTE;
 use shape::streams::MIN_OCTETS;
 
-// The refusal of a plan that is not accepted.
-pub(crate) const NOT_ACCEPTED: u32 = 19;
-
 // Internal: a search that ended without an answer, which no search does.
 pub(crate) fn unended(label: &[u8]) {
     begin(label);
