@@ -35,7 +35,7 @@ pub file-is-row : {Complete : List ℕ → Type 0} {s ws : List ℕ} → IsFile 
 file-is-row {s = s} {ws = ws} f = rw (f .bytes) (file-row ws (f .words))
 
 -- Two numbers that are cut short are one, with one refusal.
-cut-once : {Due : List ℕ → Type 0} {s : List ℕ} {k p l q : ℕ} → Cut Due s k p → Cut Due s l q → (k ≡ l) × (p ≡ q)
+pub cut-once : {Due : List ℕ → Type 0} {s : List ℕ} {k p l q : ℕ} → Cut Due s k p → Cut Due s l q → (k ≡ l) × (p ≡ q)
 cut-once {s = s} {k = k} {p = p} {l = l} {q = q} c d =
     let a = row-stops (c .ws) (d .ws) k (c .row) (c .no-number) (d .row) in
     let b = row-stops (d .ws) (c .ws) l (d .row) (d .no-number) (c .row) in

@@ -15,7 +15,7 @@ use Rattle.files.specs.Cursors.{CursorDue, CursorComplete, cursorWords}
 use Rattle.files.specs.RefusalsAtNumbers.{FileRefused, linksAbove, fourBytes, PlanReadRefusalsAtNumbers, PlanWrittenRefusalsAtNumbers, SavedCursorRefusalsAtNumbers, FileRefusalsAtNumbers}
 
 -- The words ws stand in front, and the number after them, which is due, is refused with k.
-cut : (Due : List ℕ → Type 0) (ws rest : List ℕ) (k : ℕ) → total ws ≤ maxWord → Due ws → NoNumber (fileBytes ws ++ rest) (length (fileBytes ws)) k
+pub cut : (Due : List ℕ → Type 0) (ws rest : List ℕ) (k : ℕ) → total ws ≤ maxWord → Due ws → NoNumber (fileBytes ws ++ rest) (length (fileBytes ws)) k
     → Cut Due (fileBytes ws ++ rest) k (length (fileBytes ws))
 cut Due ws rest k h d n = record { ws = ws; row = row-in-front ws rest h; due = d; no-number = n }
 

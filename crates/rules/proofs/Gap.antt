@@ -35,6 +35,9 @@ gap-lasts t a w h =
     let fast = g .link (legAt t a .link) (g .leg a h .link) .rate-from in
     omega (arith, fast)
 
+pub holds-some : (t : List ℕ) (a : ℕ) → WellFormedTable t → a < legCount t → 1 ≤ holdOf t a
+holds-some t a w h = omega (arith, hold-of t a, gap-lasts t a w h)
+
 -- Of two legs that never meet, the frame that is sent first holds the link no longer than until the other is sent: then both would hold it.
 ended : (t : List ℕ) (a b k m : ℕ) → NeverMeet (slotOf t a) (slotOf t b) → 1 ≤ holdOf t b → sentIn t a k ≤ sentIn t b m → sentIn t a k + holdOf t a ≤ sentIn t b m
 unfolding NeverMeet
@@ -51,8 +54,8 @@ overlap-is-the-gap t a b w ha hb same =
     let of-b = hold-of t b in (
       λ o k m.
           ⊎-elim
-          (λ (x : sentIn t a k < sentIn t b m). inl (omega (arith, of-a, ended t a b k m (o same) (omega (arith, of-b, gap-lasts t b w hb)) (omega arith))))
-          (λ (x : sentIn t b m ≤ sentIn t a k). inr (omega (arith, of-b, ended t b a m k (meeting-is-symmetric _ _ (o same)) (omega (arith, of-a, gap-lasts t a w ha)) x)))
+          (λ (x : sentIn t a k < sentIn t b m). inl (omega (arith, of-a, ended t a b k m (o same) (holds-some t b w hb) (omega arith))))
+          (λ (x : sentIn t b m ≤ sentIn t a k). inr (omega (arith, of-b, ended t b a m k (meeting-is-symmetric _ _ (o same)) (holds-some t a w ha) x)))
           (lt-or-ge (sentIn t a k) (sentIn t b m)),
       λ kept e k m x p q.
           ⊎-elim
