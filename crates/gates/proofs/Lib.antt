@@ -1,0 +1,10 @@
+pub mod Begins
+pub mod Masks
+pub mod OneList
+pub mod Growing
+pub mod Seeing
+pub mod Storing
+pub mod Cycles
+pub mod Alone
+pub mod Showing
+pub mod Existing

@@ -1,0 +1,68 @@
+-- `gates::slots::keep` meets its contract. Assumes nothing.
+use lib.ListN.{length-set}
+use native.Mathlib.Omega.{arith}
+use Rattle.gates.proofs.Storing.{keeps}
+use borrow.Author.Needs.{needs}
+use Rattle.gates.proofs.slots.keep.Statement.{statement}
+use Rattle.gates.proofs.slots.keep.Tie as tie
+
+mul-at : tie.Need-mul-at
+mul-at c = search needs
+
+cast-words : tie.Need-cast-words
+cast-words c = search needs
+
+mul-words : tie.Need-mul-words
+mul-words c = search needs
+
+slice-write-words : tie.Need-slice-write-words
+slice-write-words c = search needs
+
+cast-words-2 : tie.Need-cast-words-2
+cast-words-2 c = search needs
+
+add-words : tie.Need-add-words
+add-words c = search needs
+
+mul-words-2 : tie.Need-mul-words-2
+mul-words-2 c = search needs
+
+slice-write-words-2 : tie.Need-slice-write-words-2
+slice-write-words-2 c = simp length-set (omega arith)
+
+cast-words-3 : tie.Need-cast-words-3
+cast-words-3 c = search needs
+
+add-words-2 : tie.Need-add-words-2
+add-words-2 c = search needs
+
+mul-words-3 : tie.Need-mul-words-3
+mul-words-3 c = search needs
+
+slice-write-words-3 : tie.Need-slice-write-words-3
+slice-write-words-3 c = simp length-set (omega arith)
+
+same-length : tie.Need-same-length
+same-length c = search needs
+
+returns : tie.Need-returns
+returns c = search keeps
+
+pub keep-spec : {M : Type 1} → statement M
+keep-spec =
+    tie.close
+    (tie.spec
+    mul-at
+    cast-words
+    mul-words
+    slice-write-words
+    cast-words-2
+    add-words
+    mul-words-2
+    slice-write-words-2
+    cast-words-3
+    add-words-2
+    mul-words-3
+    slice-write-words-3
+    same-length
+    returns)

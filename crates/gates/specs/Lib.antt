@@ -1,0 +1,5 @@
+pub mod Holding
+pub mod Pairs
+pub mod Cycle
+pub mod Steps
+pub mod Theorems
