@@ -1,0 +1,5 @@
+pub mod Counting
+pub mod OneAnswer
+pub mod ComeBack
+pub mod Refused
+pub mod AtNumbers

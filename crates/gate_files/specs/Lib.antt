@@ -1,0 +1,3 @@
+pub mod ListFiles
+pub mod Steps
+pub mod Theorems
