@@ -4,10 +4,13 @@ use Rattle.files.proofs.OneAnswer.{read-plan-one-answer, write-plan-one-answer,
 use Rattle.editions.proofs.Answers.{read-first-one-answer}
 use Rattle.checker.proofs.OneAnswer.{start-one-answer, slice-one-answer, move-one-answer}
 use Rattle.recheck.proofs.OneAnswer.{recheck-one-answer}
+use Rattle.gate_files.proofs.OneAnswer.{read-list-one-answer, write-list-one-answer}
+use Rattle.gate_lists.proofs.OneAnswer.{gate-list-one-answer}
 use Rattle.admission.proofs.OneAnswer.{admit-one-answer, admit-between-one-answer}
 use Rattle.host.proofs.OneAnswer.{host-start-one-answer, host-slice-one-answer, host-slice-full-one-answer, host-move-one-answer, host-convert-one-answer}
 use Rattle.host.proofs.Admissions.{host-admit-one-answer, host-admit-between-one-answer, host-admissions-write-nothing}
 use Rattle.host.proofs.Rechecks.{host-recheck-one-answer}
+use Rattle.host.proofs.GateLists.{host-gates-one-answer, host-read-gates-one-answer, host-gate-refusals-write-nothing}
 use Rattle.claims.proofs.OneAnswer.{test-times-one-answer, test-chain-one-answer}
 use Rattle.solver.proofs.OneAnswer.{solve-one-answer}
 use Rattle.network_host.proofs.OneAnswer.{host-solve-one-answer, host-test-times-one-answer, host-test-chain-one-answer, host-solve-refusals-write-nothing}
@@ -28,6 +31,9 @@ one-answer-each = record {
   recheck = recheck-one-answer;
   admit = admit-one-answer;
   admit-between = admit-between-one-answer;
+  write-gate-list = gate-list-one-answer;
+  read-list = read-list-one-answer;
+  write-list = write-list-one-answer;
   host-start = host-start-one-answer;
   host-slice = host-slice-one-answer;
   host-slice-full = host-slice-full-one-answer;
@@ -37,6 +43,8 @@ one-answer-each = record {
   host-recheck = host-recheck-one-answer;
   host-admit = host-admit-one-answer;
   host-admit-between = host-admit-between-one-answer;
+  host-gates = host-gates-one-answer;
+  host-read-gates = host-read-gates-one-answer;
   solve = solve-one-answer;
   test-times = test-times-one-answer;
   test-chain = test-chain-one-answer;
@@ -57,8 +65,12 @@ refusals-lose-nothing = record {
   move-leg = λ t t′ c d mv k p w. (w .2, w .1);
   admit = λ t w route out out′ k p a. a .after;
   admit-between = λ t w route from until out out′ k p a. a .after;
+  write-gate-list = λ t l b b′ k p w. w .1;
+  read-list = λ s b b′ k p w. w .1;
+  write-list = λ ws b b′ k p w. w .1;
   host = host-refusals-write-nothing;
   host-admissions = host-admissions-write-nothing;
+  host-gate-lists = host-gate-refusals-write-nothing;
   solve = λ n k p ws times b b′ w. w .2;
   host-solve = host-solve-refusals-write-nothing;
 }

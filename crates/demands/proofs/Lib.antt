@@ -10,6 +10,7 @@ pub mod HostCalls
 pub mod HostRuns
 pub mod HostGoOn
 pub mod HostRechecks
+pub mod GateLists
 pub mod PlanTables
 pub mod AtNumbers
 pub mod HostAtNumbers

@@ -20,6 +20,11 @@ use Rattle.checker.specs.Slices.{noCursor, Starts, Slices}
 use Rattle.checker.specs.Moves.{Moves}
 use Rattle.checker.specs.Theorems.{StartOneAnswer, SliceOneAnswer, MoveOneAnswer}
 use Rattle.recheck.specs.Theorems.{RecheckOneAnswer}
+use Rattle.gate_files.specs.ListFiles.{ReadsList, WritesList}
+use Rattle.gate_files.specs.Theorems.{ReadListOneAnswer, WriteListOneAnswer}
+use Rattle.gate_files.specs.declared.ListRead.the-variants as list
+use Rattle.gate_lists.specs.Lists.{WritesGateList}
+use Rattle.gate_lists.specs.Theorems.{GateListOneAnswer}
 use Rattle.enlarge.specs.declared.Wanted.{Wanted}
 use Rattle.admission.specs.Admits.{Admits, AdmitsBetween}
 use Rattle.admission.specs.Theorems.{AdmitOneAnswer, AdmitBetweenOneAnswer}
@@ -27,6 +32,7 @@ use Rattle.admission.specs.declared.Admission.the-variants as admission
 use Rattle.host.specs.Theorems.{HostStartOneAnswer, HostSliceOneAnswer, HostSliceFullOneAnswer, HostMoveOneAnswer, HostConvertOneAnswer, HostRefusalsWriteNothing}
 use Rattle.host.specs.AdmissionTheorems.{HostAdmitOneAnswer, HostAdmitBetweenOneAnswer, HostAdmissionsWriteNothing}
 use Rattle.host.specs.RecheckTheorems.{HostRecheckOneAnswer}
+use Rattle.host.specs.GateTheorems.{HostGatesOneAnswer, HostReadGatesOneAnswer, HostGateRefusalsWriteNothing}
 use Rattle.claims.specs.Theorems.{TestTimesOneAnswer, TestChainOneAnswer}
 use Rattle.solver.specs.Solving.{SolvesWith}
 use Rattle.solver.specs.Theorems.{SolveOneAnswer}
@@ -50,6 +56,9 @@ pub record OneAnswerEach : Type 0 where
   pub recheck : RecheckOneAnswer
   pub admit : AdmitOneAnswer
   pub admit-between : AdmitBetweenOneAnswer
+  pub write-gate-list : GateListOneAnswer
+  pub read-list : ReadListOneAnswer
+  pub write-list : WriteListOneAnswer
   pub host-start : HostStartOneAnswer
   pub host-slice : HostSliceOneAnswer
   pub host-slice-full : HostSliceFullOneAnswer
@@ -59,6 +68,8 @@ pub record OneAnswerEach : Type 0 where
   pub host-recheck : HostRecheckOneAnswer
   pub host-admit : HostAdmitOneAnswer
   pub host-admit-between : HostAdmitBetweenOneAnswer
+  pub host-gates : HostGatesOneAnswer
+  pub host-read-gates : HostReadGatesOneAnswer
   pub solve : SolveOneAnswer
   pub test-times : TestTimesOneAnswer
   pub test-chain : TestChainOneAnswer
@@ -79,8 +90,12 @@ pub record RefusalsLoseNothing : Type 0 where
   pub move-leg : (t t′ : List ℕ) (c d : Cursor) (mv : Move) (k p : ℕ) → Moves t c mv (grant.Refused k p d) t′ → (t′ ≡ t) × (d ≡ c)
   pub admit : (t : List ℕ) (w : Wanted) (route out out′ : List ℕ) (k p : ℕ) → Admits t w route out (admission.Refused k p) out′ → out′ ≡ out
   pub admit-between : (t : List ℕ) (w : Wanted) (route : List ℕ) (from until : ℕ) (out out′ : List ℕ) (k p : ℕ) → AdmitsBetween t w route from until out (admission.Refused k p) out′ → out′ ≡ out
+  pub write-gate-list : (t : List ℕ) (l : ℕ) (b b′ : List ℕ) (k p : ℕ) → WritesGateList t l b (written.Refused k p) b′ → b′ ≡ b
+  pub read-list : (s b b′ : List ℕ) (k p : ℕ) → ReadsList s b (list.Refused k p) b′ → b′ ≡ b
+  pub write-list : (ws b b′ : List ℕ) (k p : ℕ) → WritesList ws b (written.Refused k p) b′ → b′ ≡ b
   pub host : HostRefusalsWriteNothing
   pub host-admissions : HostAdmissionsWriteNothing
+  pub host-gate-lists : HostGateRefusalsWriteNothing
   pub solve : (n k p : ℕ) (ws times : List ℤ) (b b′ : List ℕ) → SolvesWith n ws b (outcome.Refused k p) times b′ → b′ ≡ b
   pub host-solve : HostSolveRefusalsWriteNothing
 

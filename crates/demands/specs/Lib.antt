@@ -5,6 +5,7 @@ pub mod Admissions
 pub mod Runs
 pub mod DemandThree
 pub mod Rechecks
+pub mod GateLists
 pub mod HostRuns
 pub mod DemandThreeForC
 pub mod AtNumbers

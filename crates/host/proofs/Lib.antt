@@ -2,9 +2,12 @@ pub mod Laws
 pub mod Steps
 pub mod Admitting
 pub mod Rechecking
+pub mod Listing
 pub mod OneAnswer
 pub mod Outcomes
 pub mod MoveRoom
 pub mod Results
 pub mod Admissions
 pub mod Rechecks
+pub mod GateLists
+pub mod GatesAtNumbers

@@ -83,7 +83,7 @@ module _ (M : Type 0) (m : M) where
       after-one (PlanFaultIn e s) (With M (List ℕ) (IsFile (SizedIn e) s) Then) (plan-fault-one s) (λ a x k p c f. file-no-fault (c .1) f)
       (with-one (List ℕ) (IsFile (SizedIn e) s) Then (λ t u f g. same-file f g) one)
 
-  after-plan-one : (s : List ℕ) (Then : List ℕ → Answer → M → Type 0) → ((t : List ℕ) → OneAnswer Answer M (Then t)) → OneAnswer Answer M (AfterPlan M s m Then)
+  pub after-plan-one : (s : List ℕ) (Then : List ℕ → Answer → M → Type 0) → ((t : List ℕ) → OneAnswer Answer M (Then t)) → OneAnswer Answer M (AfterPlan M s m Then)
   after-plan-one = after-plan-in-one current
 
   after-cursor-one : (s : List ℕ) (Then : Cursor → Answer → M → Type 0) → ((c : Cursor) → OneAnswer Answer M (Then c)) → OneAnswer Answer M (AfterCursor M s m Then)

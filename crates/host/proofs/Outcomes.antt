@@ -39,7 +39,7 @@ module _ (M : Type 0) (m : M) where
   after-plan-in-keeps : (e : Edition) (s : List ℕ) (Then : List ℕ → Answer → M → Type 0) → ((t : List ℕ) → Keeps M m (Then t)) → Keeps M m (AfterPlanIn e M s m Then)
   after-plan-in-keeps e s Then keeps = after-keeps (PlanFaultIn e s) _ (λ a m′ x h. keeps (x .0) a m′ (x .2) h)
 
-  after-plan-keeps : (s : List ℕ) (Then : List ℕ → Answer → M → Type 0) → ((t : List ℕ) → Keeps M m (Then t)) → Keeps M m (AfterPlan M s m Then)
+  pub after-plan-keeps : (s : List ℕ) (Then : List ℕ → Answer → M → Type 0) → ((t : List ℕ) → Keeps M m (Then t)) → Keeps M m (AfterPlan M s m Then)
   after-plan-keeps = after-plan-in-keeps current
 
   after-cursor-keeps : (s : List ℕ) (Then : Cursor → Answer → M → Type 0) → ((c : Cursor) → Keeps M m (Then c)) → Keeps M m (AfterCursor M s m Then)
@@ -97,7 +97,7 @@ host-refusals-write-nothing = record {
 }
 
 -- A fault of the plan file.
-first-fault : (M : Type 0) (m : M) (s : List ℕ) (Then : List ℕ → Answer → M → Type 0) (k p : ℕ) (a : Answer) (m′ : M)
+pub first-fault : (M : Type 0) (m : M) (s : List ℕ) (Then : List ℕ → Answer → M → Type 0) (k p : ℕ) (a : Answer) (m′ : M)
     → PlanFault s k p → AfterPlan M s m Then a m′ → a ≡ refusal k p
 first-fault M m s Then k p a m′ f (inl x) =
     let e = plan-fault-one s (x .number) (x .at) k p (x .fault) f in

@@ -3,7 +3,9 @@ pub mod Refusals
 pub mod Calls
 pub mod Admissions
 pub mod Rechecks
+pub mod GateLists
 pub mod Steps
 pub mod Theorems
 pub mod AdmissionTheorems
 pub mod RecheckTheorems
+pub mod GateTheorems

@@ -14,6 +14,7 @@ use table::Move;
 pub mod admit;
 mod answers;
 pub mod late_move;
+pub mod lists;
 mod tables;
 
 // What a call's own words hold at first: any word, since none is read before it is taken from the plan. Not 0, for which the compiler calls memset
