@@ -32,10 +32,13 @@
  * A stream may be added to a plan that keeps the rules: conepalhui_admit finds the least first offset with which the
  * plan still keeps them, moves no other frame, and gives the new plan file. Its check begins anew, with a start.
  *
+ * For the switches, conepalhui_gates writes the gate control list of each link of an accepted plan, and
+ * conepalhui_read_gates reads a list file. What the switch has to do besides stands there.
+ *
  * ---- WHAT THE CALLER MUST KEEP TO. OTHERWISE 'NOTHING VIOLATED' MAY BE SAID OF A PLAN THAT BREAKS A RULE. ----
  *
  *   1. The run. It begins with a start that is granted. Starts, slices and moves follow, in any order. A refused call
- *      writes nothing and is no part of the run; nor is a recheck.
+ *      writes nothing and is no part of the run; nor is a recheck, nor a gate list.
  *   2. The plan. Until a move of the run is granted, each call is given the plan that the first start was given. After
  *      that it is given the plan that the last granted move wrote: the first bytes of new_plan, as many as the number
  *      beside its result says. Nothing else changes the plan.
@@ -83,11 +86,11 @@
 #include <stdint.h>
 
 /* The version of this header and of the archive that it belongs to. A NUMBER is 10000 MAJOR + 100 MINOR + PATCH. */
-#define CONEPALHUI_VERSION "3.2.0"
+#define CONEPALHUI_VERSION "3.3.0"
 #define CONEPALHUI_VERSION_MAJOR 3
-#define CONEPALHUI_VERSION_MINOR 2
+#define CONEPALHUI_VERSION_MINOR 3
 #define CONEPALHUI_VERSION_PATCH 0
-#define CONEPALHUI_VERSION_NUMBER 30200
+#define CONEPALHUI_VERSION_NUMBER 30300
 
 /*
  * The edition of the rules: what a plan file, a place and a cursor mean, and when a place holds. It is raised whenever
@@ -103,9 +106,9 @@
  * has no edition, and the plan keeps its revision. So whoever saves cursors saves the edition beside them and starts
  * anew where it is another one, be it higher or lower, as examples/host.c does.
  *
- * The number here is the archive's only where header and archive belong together. So start, move, recheck and the
- * admissions have the edition in their names there: a program that was compiled with the header of another edition is
- * not linked. Compile it anew.
+ * The number here is the archive's only where header and archive belong together. So start, move, recheck, the
+ * admissions and the writing of gate lists have the edition in their names there: a program that was compiled with the
+ * header of another edition is not linked. Compile it anew.
  */
 #define CONEPALHUI_EDITION 3
 #define conepalhui_start conepalhui_start_3
@@ -113,27 +116,29 @@
 #define conepalhui_recheck conepalhui_recheck_3
 #define conepalhui_admit conepalhui_admit_3
 #define conepalhui_admit_between conepalhui_admit_between_3
+#define conepalhui_gates conepalhui_gates_3
 
 /*
  * What holds of every call
  *
  * Any bytes and any numbers may be handed in. Each call ends, with an answer or a numbered refusal.
  *
- * Memory. A pointer and the length that follows it lend that many bytes to the call, until it returns; with route, that
- * many numbers of 32 bits. A pointer may be null where its length is 0. plan, old_plan, cursor and route are only read,
- * and may overlap one another. out and new_plan are written to: neither may overlap any other memory that is lent to
- * the same call. While a call runs, nobody else may write to the lent memory, nor read out and new_plan.
+ * Memory. A pointer and the length that follows it lend that many bytes to the call, until it returns; with route and
+ * words, that many numbers of 32 bits. A pointer may be null where its length is 0. plan, old_plan, cursor, route and
+ * list are only read, and may overlap one another. out, new_plan, new_list and words are written to: none of them may
+ * overlap any other memory that is lent to the same call. While a call runs, nobody else may write to the lent memory,
+ * nor read what is written to.
  *
  * A refusal writes nothing. Otherwise the cursor lies in the first bytes of out (and the new plan in the first bytes of
- * new_plan), and every byte after it is what it was.
+ * new_plan, a list file in those of new_list, its numbers in the first of words), and all after it is what it was.
  *
  * Nothing is kept between calls. There is no memory from the heap, no global state, no file and no lock: calls from
  * several threads at once do not concern each other.
  *
- * The stack. The two admissions were not seen to use more than CONEPALHUI_ADMIT_STACK_BYTES, and no other call more
- * than CONEPALHUI_STACK_BYTES. This is measured and not proved: the test fills a stack with a known byte, makes each
- * call on it, on a small plan and on one of 2,048 legs, and looks how much was written over. The most was three
- * quarters of these numbers.
+ * The stack. The two admissions were not seen to use more than CONEPALHUI_ADMIT_STACK_BYTES, conepalhui_gates not more
+ * than CONEPALHUI_GATES_STACK_BYTES, and no other call more than CONEPALHUI_STACK_BYTES. This is measured and not
+ * proved: the test fills a stack with a known byte, makes each call on it, on a small plan and on one of 2,048 legs,
+ * and looks how much was written over. The most was three quarters of these numbers.
  *
  * Linking. './conepalhui library' proves the calls and builds the archive .built/libconepalhui.a. It is for x86-64 and
  * the System V calling convention (Linux), in programs and in shared libraries, and needs memset alone of other
@@ -147,8 +152,11 @@
 #define CONEPALHUI_CURSOR_BYTES 15   /* room for every cursor; out must have this many bytes or more */
 #define CONEPALHUI_PLAN_BYTES 58905  /* no plan file is longer; room for every new plan */
 #define CONEPALHUI_MOVE_BYTES 5      /* a move makes a plan file longer by this many bytes at most */
+#define CONEPALHUI_LIST_BYTES 10240  /* no list file that conepalhui_gates writes is longer; room for each of them */
+#define CONEPALHUI_LIST_WORDS 2048   /* room for the words of each of them */
 #define CONEPALHUI_STACK_BYTES 98304 /* a thread that calls should have this much stack left */
 #define CONEPALHUI_ADMIT_STACK_BYTES 229376 /* and one that admits this much */
+#define CONEPALHUI_GATES_STACK_BYTES 135168 /* and one that has gate lists written this much */
 
 /*
  * The results. Each call gives one of them: conepalhui_slice returns it, and the others have it in an answer. The
@@ -158,20 +166,20 @@
 enum {
     CONEPALHUI_NOTHING_VIOLATED = 0, /* a slice: nothing is violated from its cursor on, and the check is done; a
                                         recheck: nothing is violated at the places that it looked at */
-    CONEPALHUI_GRANTED = 0,          /* start, move, conversion and admission: done */
+    CONEPALHUI_GRANTED = 0,          /* start, move, conversion, admission, gates and read_gates: done */
     CONEPALHUI_PAUSED = 1,           /* paused: the budget is used up, and all that was looked at holds */
     CONEPALHUI_NONE_YET = 1,         /* admit_between: none of the first offsets that were looked at fits */
     CONEPALHUI_WINDOW = 2,           /* violated: the frame, with the gap after it, is not through in its period */
     CONEPALHUI_HOP = 3,              /* violated: the frame is sent on before it has arrived from its previous link */
     CONEPALHUI_DEADLINE = 4,         /* violated: the frame arrives at its last node after its deadline */
     CONEPALHUI_OVERLAP = 5,          /* violated: two frames, each with the gap after it, want one link at some time */
-    CONEPALHUI_REFUSED = 100         /* plus the number of the refusal, 101 to 115 and 117 to 120 */
+    CONEPALHUI_REFUSED = 100         /* plus the number of the refusal, 101 to 115 and 117 to 123 */
 };
 
-/* What a start, a slice_full, a move and a conversion give. */
+/* What a start, a slice_full, a move, a conversion, gates and read_gates give. */
 struct conepalhui_answer {
     uint32_t result; /* one of those above */
-    uint32_t number; /* after a refusal its position; otherwise places, steps or bytes, as each call says below */
+    uint32_t number; /* after a refusal its position; otherwise places, steps, bytes or words: each call says which */
 };
 typedef struct conepalhui_answer conepalhui_answer;
 
@@ -375,6 +383,63 @@ conepalhui_admission conepalhui_admit_between(const uint8_t *plan, size_t plan_l
                                               uint32_t from, uint32_t until,
                                               uint8_t *new_plan, size_t new_plan_len);
 
+/*
+ * Writes the gate control list (IEEE 802.1Qbv) of one link of an accepted plan: when which gates are open on the port
+ * that sends over this link. new_list gets it as a list file, which conepalhui_read_gates reads.
+ *
+ * A list is pairs of a mask and a duration in ns, from instant 0 on, which is the instant that the offsets of the plan
+ * count from. A mask has a bit for each gate: 1 for gate 0, and so on up to 128 for gate 7.
+ *
+ *   128   gate 7 alone is open, while a leg holds the link: from its start to the end of the gap after its frame
+ *   127   all gates but gate 7 are open, at all other times
+ *
+ * Each pair lasts at least 1 ns, and neighbours have different masks: frames that follow each other without a pause
+ * share a pair. The durations add up to the cycle of the link, the least common multiple of the periods on it. The
+ * switch repeats the list without end, and in every pass each mask is right. This is proved
+ * (crates/gate_lists/specs/Theorems.antt: GateListsRepeat). The last pair may have the mask of the first. A link that
+ * no leg takes has an empty list: a file of 0 bytes, with result 0.
+ *
+ * WHAT THE SWITCH MUST DO BESIDES
+ *
+ *   - The frames of the plan go into queue 7, and no others do.
+ *   - GUARD BANDS ARE NOT IN THE LIST: the other gates close at the very nanosecond at which gate 7 opens, and a frame
+ *     of another queue that is still being sent then would delay the planned one. So the switch must begin no frame of
+ *     another queue that cannot end, with the gap after it, before its gate closes; one that does not look at the
+ *     lengths of frames has to shut those gates sooner, by the time that the longest of them takes.
+ *
+ * Room: CONEPALHUI_LIST_BYTES are always enough. The list has at most 1,024 pairs.
+ *
+ * The call checks the whole plan first, as a start and slices of it do, for each link anew. It is no part of a run.
+ *
+ * Result: 0 written, or 100 + refusal. Number: how many bytes the list file has, or the refusal's position. The
+ * refusals in their order; those without a position are at 0:
+ *
+ *   12, 13, 2, 14   the plan is no plan file; positions as for a start
+ *   4, 5, 6, 7      its links, streams or legs are wrong; positions as for a start
+ *   23   the plan has no such link
+ *   19   the plan is not accepted: a whole check of it tells what is violated
+ *   21   the cycle of the link is longer than 1,000,000,000 ns: the periods on it have too little in common
+ *   22   the list would have more than 1,024 pairs
+ *   15   new_list has fewer bytes than the list file
+ */
+conepalhui_answer conepalhui_gates(const uint8_t *plan, size_t plan_len, uint32_t link,
+                                   uint8_t *new_list, size_t new_list_len);
+
+/*
+ * Reads a list file into words: the mask of the first pair, its duration, the next mask, and so on. Any numbers are
+ * taken, whatever they are as masks and durations; what conepalhui_gates wrote is read back as the list that it wrote
+ * (crates/host/specs/GateTheorems.antt: HostListsComeBack).
+ *
+ * Room: a file of list_len bytes has at most list_len words. For what conepalhui_gates wrote CONEPALHUI_LIST_WORDS are
+ * always enough.
+ *
+ * Result: 0 read, or 100 + refusal. Number: how many words the list has, two for each pair, or the refusal's position:
+ * 12 and 13 from left to right, each at the start of its number; 12 at the end of the bytes where a mask has no
+ * duration; then 15 at 0 where there are fewer words than the list has. A number or a position above 4,294,967,295,
+ * which takes a file of more than 4 GiB, is told as 4,294,967,295.
+ */
+conepalhui_answer conepalhui_read_gates(const uint8_t *list, size_t list_len, uint32_t *words, size_t words_len);
+
 #ifdef __cplusplus
 }
 #endif
@@ -414,11 +479,15 @@ static inline const char *conepalhui_text(uint32_t result)
     case CONEPALHUI_REFUSED + 12: return "the bytes end before the numbers do";
     case CONEPALHUI_REFUSED + 13: return "a number in more bytes than it needs, or above 4,294,967,295";
     case CONEPALHUI_REFUSED + 14: return "bytes left over after the last number";
-    case CONEPALHUI_REFUSED + 15: return "out has fewer than 15 bytes, or new_plan has no room for the new plan";
+    case CONEPALHUI_REFUSED + 15: return "out has fewer than 15 bytes, or new_plan has no room for the new plan; or "
+                                         "new_list has no room for the list file, or words for its numbers";
     case CONEPALHUI_REFUSED + 17: return "a move to more than 7 periods late";
     case CONEPALHUI_REFUSED + 18: return "no first offset fits the new stream, whose frames never wait";
-    case CONEPALHUI_REFUSED + 19: return "the plan is not accepted, so nothing is added to it";
+    case CONEPALHUI_REFUSED + 19: return "the plan is not accepted, so no stream is added and no gate list made";
     case CONEPALHUI_REFUSED + 20: return "the new stream would break a limit or the shape of the plan";
+    case CONEPALHUI_REFUSED + 21: return "the cycle of the link is longer than 1,000,000,000 ns";
+    case CONEPALHUI_REFUSED + 22: return "the gate list would have more than 1,024 pairs";
+    case CONEPALHUI_REFUSED + 23: return "there is no such link";
     default: return result > CONEPALHUI_PAUSED && result < CONEPALHUI_REFUSED
                         ? "violated: a rule of a later edition, which this header does not know"
                         : "this is no result of Conepalhui";
@@ -485,6 +554,9 @@ static inline struct conepalhui_place conepalhui_cursor_place(const uint8_t *cur
  *
  * A cursor is three numbers: the plan's revision, a leg, and a place of that leg. It ends with the third byte below
  * 0x80.
+ *
+ * A list file is a mask, a duration in ns, the next mask, its duration and so on to its end, with no count in front:
+ * 128 for 1,344 ns and then 127 for 98,656 is 80 01 C0 0A 7F E0 82 06.
  */
 
 /*
@@ -508,19 +580,23 @@ static inline struct conepalhui_place conepalhui_cursor_place(const uint8_t *cur
  *   13    a number in more bytes than it needs, or above 4,294,967,295              the start of that number
  *   14    bytes left over after the last number                                     the first such byte
  *   15    out has fewer than 15 bytes, or new_plan has no room for the new plan     0
+ *         new_list has no room for the list file, or words for its numbers          0
  *   17    a move to more than 7 periods late                                        0
  *   18    no first offset fits the new stream, whose frames never wait              0
- *   19    the plan is not accepted, so nothing is added to it                       0
+ *   19    the plan is not accepted, so no stream is added and no gate list made     0
  *   20    the new stream would break a limit or the shape of the plan               0
+ *   21    the cycle of the link is longer than 1,000,000,000 ns                     0
+ *   22    the gate list would have more than 1,024 pairs                            0
+ *   23    there is no such link                                                     0
  *
  * 1 and 3 concern tables in memory, and no call here gives them: a plan file that is too short or too long is refused
  * with 12 or 14.
  *
  * Where several are due the first is told: of the plan 12 and 13 from left to right, 2 after the fifth number, 14;
  * of the cursor 12, 13, 14; 15 for out; then 4 to 11 and 17 in their order; and last 15 for new_plan. A recheck has no
- * cursor, and after 7 only 10. An admission has none either, and an order of its own, after 7: 11, 20, 15, 19, 18. A
- * 12, 13 or 14 of a slice or a move lies in the plan exactly when conepalhui_start refuses that plan with it too, and
- * otherwise in the cursor.
+ * cursor, and after 7 only 10. An admission has none either, and an order of its own, after 7: 11, 20, 15, 19, 18. So
+ * has a gate list: 23, 19, 21, 22, 15. A 12, 13 or 14 of a slice or a move lies in the plan exactly when
+ * conepalhui_start refuses that plan with it too, and otherwise in the cursor.
  */
 
 #endif

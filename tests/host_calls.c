@@ -34,7 +34,7 @@ static void fault(const char *name, const char *what)
 
 /* ---- Lent buffers */
 
-enum { PLAN, CURSOR, ROUTE, NEW_PLAN, OUT, BUFFERS };
+enum { PLAN, CURSOR, ROUTE, LIST, NEW_PLAN, NEW_LIST, WORDS, OUT, BUFFERS };
 
 static struct {
     uint8_t *memory; /* ROOM bytes, and then a page that may not be touched */
@@ -86,6 +86,12 @@ static void lend_route(const uint32_t *links, size_t count)
     memcpy(lent[ROUTE].before, lent[ROUTE].memory, ROOM);
 }
 
+/* Lends so many untouched words. */
+static void lend_words(size_t count)
+{
+    lend(WORDS, count * sizeof(uint32_t), "");
+}
+
 /* Says that the buffer is to begin with these bytes now, and to be for the rest what it was. */
 static void expect_bytes(const char *name, int which, const char *text)
 {
@@ -96,6 +102,18 @@ static void expect_bytes(const char *name, int which, const char *text)
     put_hex(lent[which].before + ROOM - lent[which].length, text);
     if (memcmp(lent[which].before, lent[which].memory, ROOM) != 0)
         fault(name, which == OUT ? "out is not what is due" : "a lent buffer is not what is due");
+}
+
+/* Says that words is to begin with these now, and to be for the rest what it was. */
+static void expect_words(const char *name, const uint32_t *words, size_t count)
+{
+    if (count * sizeof *words > lent[WORDS].length) {
+        fault(name, "more words are due than were lent");
+        return;
+    }
+    if (count != 0)
+        memcpy(lent[WORDS].before + ROOM - lent[WORDS].length, words, count * sizeof *words);
+    expect_bytes(name, WORDS, "");
 }
 
 /* ---- The calls, each beside what is due */
@@ -131,6 +149,9 @@ static void compare(const char *name, conepalhui_answer answer, struct due due)
     expect_bytes(name, PLAN, "");
     expect_bytes(name, CURSOR, "");
     expect_bytes(name, ROUTE, "");
+    expect_bytes(name, LIST, "");
+    expect_bytes(name, NEW_LIST, "");
+    expect_bytes(name, WORDS, "");
     expect_bytes(name, NEW_PLAN, due.new_plan);
     expect_bytes(name, OUT, due.out);
     if (*due.out != '\0' && conepalhui_cursor_length(lent[OUT].bytes) != hex_length(due.out))
@@ -176,6 +197,9 @@ static void lend_all(const char *plan, const char *cursor, size_t new_plan_len, 
     lend(PLAN, hex_length(plan), plan);
     lend(CURSOR, hex_length(cursor), cursor);
     lend_route(NULL, 0);
+    lend(LIST, 0, "");
+    lend(NEW_LIST, 0, "");
+    lend_words(0);
     lend(NEW_PLAN, new_plan_len, "");
     lend(OUT, out_len, "");
 }
@@ -321,6 +345,72 @@ static void admit(const char *name, const char *plan, struct wanted wanted, size
     compare_admission(name, call_admit(wanted), due);
     between(name, plan, wanted, 0, wanted.period, new_plan_len, due);
     between(name, plan, wanted, 0, TOP, new_plan_len, due);
+}
+
+static conepalhui_answer call_gates(uint32_t link)
+{
+    return conepalhui_gates(lent[PLAN].bytes, lent[PLAN].length, link, lent[NEW_LIST].bytes, lent[NEW_LIST].length);
+}
+
+static conepalhui_answer call_read_gates(void)
+{
+    return conepalhui_read_gates(lent[LIST].bytes, lent[LIST].length, (uint32_t *)(void *)lent[WORDS].bytes,
+                                 lent[WORDS].length / sizeof(uint32_t));
+}
+
+static void read_gates(const char *name, const char *list, size_t words_len, const uint32_t *words, size_t count)
+{
+    lend_all("", "", 0, 0);
+    lend(LIST, hex_length(list), list);
+    lend_words(words_len);
+    conepalhui_answer told = call_read_gates();
+    expect_words(name, words, count);
+    compare(name, told, gives(0, (uint32_t)count, ""));
+}
+
+static void gates_not_read(const char *name, const char *list, size_t words_len, uint32_t result, uint32_t at)
+{
+    lend_all("", "", 0, 0);
+    lend(LIST, hex_length(list), list);
+    lend_words(words_len);
+    compare(name, call_read_gates(), refused(result, at));
+}
+
+/* Adds a number at the end of a text. Gives the new end. */
+static char *add_number(char *end, uint32_t number)
+{
+    for (; number >= 0x80; number >>= 7)
+        end += sprintf(end, "%02X ", (unsigned)(number % 0x80 + 0x80));
+    return end + sprintf(end, "%02X ", (unsigned)number);
+}
+
+/* The list of a link: these words, with just as many bytes as its file has, with more, and with one less. */
+static void gates(const char *name, const char *plan, uint32_t link, const uint32_t *words, size_t count)
+{
+    static char file[3 * CONEPALHUI_LIST_BYTES + 1];
+    char *end = file;
+    *end = '\0';
+    for (size_t i = 0; i < count; i++)
+        end = add_number(end, words[i]);
+    size_t length = hex_length(file), rooms[] = {length, ROOM, length - 1};
+    for (int which = 0; which < (length == 0 ? 2 : 3); which++) {
+        lend_all(plan, "", 0, 0);
+        lend(NEW_LIST, rooms[which], "");
+        conepalhui_answer told = call_gates(link);
+        expect_bytes(name, NEW_LIST, which == 2 ? "" : file);
+        compare(name, told, which == 2 ? refused(115, 0) : gives(0, (uint32_t)length, ""));
+    }
+    read_gates(name, file, count, words, count);
+}
+
+/* Refused, with room for any list and with none. */
+static void no_gates(const char *name, const char *plan, uint32_t link, uint32_t result, uint32_t at)
+{
+    for (int which = 0; which < 2; which++) {
+        lend_all(plan, "", 0, 0);
+        lend(NEW_LIST, which == 0 ? CONEPALHUI_LIST_BYTES : 0, "");
+        compare(name, call_gates(link), refused(result, at));
+    }
 }
 
 /* ---- Plan A, with another revision and with other offsets of the legs 0 and 2 */
@@ -700,6 +790,121 @@ static void rechecks_of_a_stream(void)
     recheck("the overlap of two others", leg_0_early, 2, keeps(8));
 }
 
+/* ---- Gate lists */
+
+#define COUNT(words) (sizeof(words) / sizeof *(words))
+
+/* Plan A with other periods of its streams, and with all legs so much later that these are their offsets. */
+#define PLAN_A_AT(period_0, period_1, leg_0, leg_1, leg_2) \
+    "00 02 02 03 64 " \
+    "01 02 08 F4 03 " \
+    "02 03 08 F4 03 " \
+    period_0 " B0 12 40 00 02 " \
+    period_1 " D0 0F 40 02 01 " \
+    "00 00 " leg_0 " 00 " \
+    "00 01 " leg_1 " 00 " \
+    "01 00 " leg_2 " 00"
+
+/* Periods of 2,000 and 1,024,000 ns: leg 0 holds link 0 512 times in a cycle, and leg 2 follows its first hold. */
+#define COMB(leg_0, leg_1, leg_2) PLAN_A_AT("D0 0F", "80 C0 3E", leg_0, leg_1, leg_2)
+
+/* Periods of 700 and 800 ms; and of others whose least common multiple is just below 1 s, and 1 s and 1 ns. */
+#define SLOW(leg_2) PLAN_A_AT("80 CE E4 CD 02", "80 90 BC FD 02", "00", "98 09", leg_2)
+#define BELOW_1_S PLAN_A_AT("D4 86 F9 9E 01", "FE C9 B5 EE 01", "00", "98 09", "A0 05") /* 6 times 166,666,666 ns */
+#define ABOVE_1_S PLAN_A_AT("C5 81 D7 24", "CB 94 01", "00", "98 09", "A0 05") /* 76,923,077 and 19,019 ns */
+
+/*
+ * On link 0 of Plan A with leg 2 at 672 ns, leg 0 holds from 0 up to 672 in each period of 100,000, and leg 2 from 672
+ * up to 1,344 in each of 150,000: two holds that follow each other are one pair.
+ */
+static const uint32_t list_of_a[] = {128, 1344, 127, 98656, 128, 672, 127, 50000,
+                                     128, 672,  127, 48656, 128, 672, 127, 99328};
+static const char file_of_a[] = "80 01 C0 0A 7F E0 82 06 80 01 A0 05 7F D0 86 03 "
+                                "80 01 A0 05 7F 90 FC 02 80 01 A0 05 7F 80 88 06";
+
+static uint32_t comb[CONEPALHUI_LIST_WORDS]; /* 1,024 pairs */
+static char comb_file[3 * CONEPALHUI_LIST_BYTES + 1];
+
+static void make_comb(void)
+{
+    char *end = comb_file;
+    for (size_t i = 0; i < CONEPALHUI_LIST_WORDS; i++) {
+        comb[i] = (const uint32_t[]){128, 672, 127, 1328}[i % 4];
+        comb[i] = i == 1 ? 1344 : i == 3 ? 656 : comb[i];
+        end = add_number(end, comb[i]);
+    }
+}
+
+static void gate_lists(void)
+{
+    const uint32_t link_1[] = {127, 1176, 128, 672, 127, 98152};
+    const uint32_t slow_1[] = {127, 1176, 128, 672, 127, 699998152};
+    const uint32_t below[] = {128, 1344, 127, 333331988, 128, 672, 127, 166666666,
+                              128, 672,  127, 166665322, 128, 672, 127, 333332660};
+    const uint32_t one_second[] = {128, 672, 127, 999999328}, held[] = {128, 672}, twice[] = {128, 672, 127, 328};
+    lend_all(MENDED, "", 0, 0);
+    lend(NEW_LIST, sizeof file_of_a / 3, "");
+    conepalhui_answer told = call_gates(0);
+    expect_bytes("Plan A, in bytes", NEW_LIST, file_of_a);
+    compare("Plan A, in bytes", told, gives(0, 32, ""));
+    gates("Plan A", MENDED, 0, list_of_a, COUNT(list_of_a));
+    gates("Plan A, link 1", MENDED, 1, link_1, COUNT(link_1));
+    gates("Plan A at the last revision", PLAN_A("FF FF FF FF 0F", "00", "A0 05"), 0, list_of_a, COUNT(list_of_a));
+    gates("no legs", "00 01 00 00 00 01 02 08 F4 03", 0, NULL, 0);
+    gates("no legs on link 1", "00 02 01 01 00 01 02 08 00 02 01 08 00 E8 07 E8 07 40 00 01 00 00 00 00", 1, NULL, 0);
+    gates("a hold of 672 ns in 1,000", ONE_LEG("E8 07", "E8 07", "00"), 0, twice, COUNT(twice));
+    gates("seven periods late", ONE_LEG("E8 07", "C0 3E", "07"), 0, twice, COUNT(twice));
+    gates("held all the time", ONE_LEG("A0 05", "C0 04", "00"), 0, held, COUNT(held));
+    gates("a cycle of 1 s", ONE_LEG("80 94 EB DC 03", "E8 07", "00"), 0, one_second, COUNT(one_second));
+    gates("a cycle of just below 1 s", BELOW_1_S, 0, below, COUNT(below));
+    gates("a link whose own cycle is short enough", SLOW("A0 05"), 1, slow_1, COUNT(slow_1));
+    gates("1,024 pairs", COMB("00", "98 09", "A0 05"), 0, comb, CONEPALHUI_LIST_WORDS);
+    no_gates("link 2", MENDED, 2, 123, 0);
+    no_gates("link 2^32 - 1", MENDED, TOP, 123, 0);
+    no_gates("no links", "00 00 00 00 00", 0, 123, 0);
+    no_gates("not accepted", plan_a, 0, 119, 0);
+    no_gates("not accepted, another link", plan_a, 1, 119, 0);
+    no_gates("23 before 19", plan_a, 2, 123, 0);
+    no_gates("a cycle of 5.6 s", SLOW("A0 05"), 0, 121, 0);
+    no_gates("a cycle of 1 s and 1 ns", ABOVE_1_S, 0, 121, 0);
+    no_gates("19 before 21", SLOW("00"), 0, 119, 0);
+    no_gates("23 before 21", SLOW("A0 05"), 2, 123, 0);
+    no_gates("1,025 pairs", COMB("01", "99 09", "A1 05"), 0, 122, 0);
+    no_gates("19 before 22", COMB("01", "99 09", "9F 05"), 0, 119, 0);
+    no_gates("a file of the first layout", first_a, 0, 112, 41);
+    no_gates("null", "", 0, 112, 0);
+    no_gates("null, and no such link", "", TOP, 112, 0);
+}
+
+static void lists_read(void)
+{
+    const uint32_t tops[] = {TOP, TOP}, small[] = {0, 0, 5, 127, 127, 5}, equal[] = {127, 1, 127, 1};
+    read_gates("Plan A's list", file_of_a, COUNT(list_of_a), list_of_a, COUNT(list_of_a));
+    read_gates("rest of the words", file_of_a, ROOM / 4, list_of_a, COUNT(list_of_a));
+    read_gates("nothing", "", 0, NULL, 0);
+    read_gates("nothing, and room", "", ROOM / 4, NULL, 0);
+    read_gates("the highest numbers", "FF FF FF FF 0F FF FF FF FF 0F", 2, tops, 2);
+    read_gates("any numbers", "00 00 05 7F 7F 05", 6, small, 6);
+    read_gates("equal neighbours", "7F 01 7F 01", 4, equal, 4);
+    read_gates("1,024 pairs", comb_file, CONEPALHUI_LIST_WORDS, comb, CONEPALHUI_LIST_WORDS);
+    gates_not_read("one word too few", file_of_a, COUNT(list_of_a) - 1, 115, 0);
+    gates_not_read("no words", file_of_a, 0, 115, 0);
+    gates_not_read("1,024 pairs, one word too few", comb_file, CONEPALHUI_LIST_WORDS - 1, 115, 0);
+    static const struct {
+        const char *list;
+        uint32_t result, at;
+    } tried[] = {
+        {"80 01 C0", 112, 2}, {"80 01", 112, 2},    {"80", 112, 0},          {"80 80 80 80", 112, 0},
+        {"7F", 112, 1},       {"01 02 03", 112, 3}, {"01 02 80", 112, 2},    {"80 00 05", 113, 0},
+        {"05 80 00", 113, 1}, {"80 00", 113, 0},    {"80 80 80 80 80", 113, 0}, {"05 FF FF FF FF 10", 113, 1},
+        {"FF FF FF FF 10 05", 113, 0}, {"05 06 07 80 00", 113, 3}, {"80 00 80", 113, 0},
+    };
+    for (size_t i = 0; i < COUNT(tried); i++) {
+        gates_not_read(tried[i].list, tried[i].list, ROOM / 4, tried[i].result, tried[i].at);
+        gates_not_read(tried[i].list, tried[i].list, 0, tried[i].result, tried[i].at);
+    }
+}
+
 /* Each plan here is refused in the same way by all calls, with the position of its refusal. */
 static void refused_plans(void)
 {
@@ -730,6 +935,8 @@ static void refused_plans(void)
         not_rechecked(name, name, TOP, tried[i].result, tried[i].at);
         admit(name, name, THIRD(100000), ROOM, not_admitted(tried[i].result, tried[i].at));
         admit(name, name, THIRD(0), 0, not_admitted(tried[i].result, tried[i].at));
+        no_gates(name, name, 0, tried[i].result, tried[i].at);
+        no_gates(name, name, TOP, tried[i].result, tried[i].at);
     }
 }
 
@@ -876,6 +1083,16 @@ static void stack_recheck(void)
     call_recheck(2);
 }
 
+static void stack_gates(void)
+{
+    call_gates(0);
+}
+
+static void stack_read_gates(void)
+{
+    call_read_gates();
+}
+
 static void stack_convert(void)
 {
     call_convert();
@@ -901,14 +1118,6 @@ static void stack_between(void)
  */
 static char largest[3 * CONEPALHUI_PLAN_BYTES], first_largest[3 * CONEPALHUI_PLAN_BYTES];
 static char all_but_one[3 * CONEPALHUI_PLAN_BYTES];
-
-/* Adds a number at the end of a text. Gives the new end. */
-static char *add_number(char *end, uint32_t number)
-{
-    for (; number >= 0x80; number >>= 7)
-        end += sprintf(end, "%02X ", (unsigned)(number % 0x80 + 0x80));
-    return end + sprintf(end, "%02X ", (unsigned)number);
-}
 
 static void make_largest(char *end, uint32_t revision, uint32_t streams, int leg_numbers)
 {
@@ -952,6 +1161,8 @@ static void stacks(void)
         {"move", stack_move, {largest, plan_a}, CONEPALHUI_STACK_BYTES},
         {"recheck", stack_recheck, {largest, MENDED}, CONEPALHUI_STACK_BYTES},
         {"convert_first", stack_convert, {first_largest, first_a}, CONEPALHUI_STACK_BYTES},
+        {"gates", stack_gates, {largest, COMB("00", "98 09", "A0 05")}, CONEPALHUI_GATES_STACK_BYTES},
+        {"read_gates", stack_read_gates, {largest, plan_a}, CONEPALHUI_STACK_BYTES},
         {"admit", stack_admit, {all_but_one, MENDED}, CONEPALHUI_ADMIT_STACK_BYTES},
         {"admit_between", stack_between, {all_but_one, MENDED}, CONEPALHUI_ADMIT_STACK_BYTES},
     };
@@ -965,6 +1176,10 @@ static void stacks(void)
     recheck("largest plan, a middle leg", largest, 2046, keeps(2052));
     recheck("largest plan, the last leg", largest, 2047, keeps(2050));
     not_rechecked("largest plan, no such leg", largest, 2048, 110, 0);
+    gates("largest plan", largest, 0, (const uint32_t[]){128, 344064, 127, 999655936}, 4);
+    gates("largest plan, link 3", largest, 3, (const uint32_t[]){127, 3528, 128, 344064, 127, 999652408}, 6);
+    gates("largest plan, a link without legs", largest, 255, NULL, 0);
+    no_gates("largest plan, no such link", largest, 256, 123, 0);
     convert("largest plan", first_largest, hex_length(largest), grants((uint32_t)hex_length(largest), "", largest));
     convert("largest plan, too little room", first_largest, hex_length(largest) - 1, refused(115, 0));
     for (size_t i = 0; i < sizeof calls / sizeof *calls; i++) {
@@ -972,6 +1187,9 @@ static void stacks(void)
         for (int which = 0; which < 2; which++) {
             lend_all(calls[i].plans[which], which == 0 ? "07 00 00" : "00 00 00", CONEPALHUI_PLAN_BYTES, 15);
             lend_route(like_all.links, which == 0 ? like_all.count : like_one.count);
+            lend(LIST, hex_length(comb_file), comb_file);
+            lend(NEW_LIST, CONEPALHUI_LIST_BYTES, "");
+            lend_words(CONEPALHUI_LIST_WORDS);
             size_t used = stack_of(calls[i].call);
             most = used > most ? used : most;
         }
@@ -1003,6 +1221,9 @@ int main(void)
     refused_admissions();
     rechecks();
     rechecks_of_a_stream();
+    make_comb();
+    gate_lists();
+    lists_read();
     rooms_and_orders();
     nulls();
     shared_memory();

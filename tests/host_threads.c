@@ -3,11 +3,12 @@
  *
  *     host_threads ROUNDS PLAN...
  *
- * For each plan file there is a fixed row of calls: starts, slices, moves, rechecks, conversions, admissions and
- * refused calls, each given what the calls before it wrote; conversions and admissions are given the plan file as it
- * was read. One thread alone makes the row first, and keeps each answer and every byte of the lent memory. Then all
- * threads make their rows at the same time and compare, again and again until each has done so ROUNDS times. The exit
- * status is 0 only where nothing differs. tests/host.test builds and runs it.
+ * For each plan file there is a fixed row of calls: starts, slices, moves, rechecks, conversions, admissions, gate
+ * lists and refused calls, each given what the calls before it wrote; conversions, admissions and gate lists are given
+ * the plan file as it was read, and a list is read back. One thread alone makes the row first, and keeps each answer
+ * and every byte of the lent memory. Then all threads make their rows at the same time and compare, again and again
+ * until each has done so ROUNDS times. The exit status is 0 only where nothing differs. tests/host.test builds and runs
+ * it.
  */
 #define _GNU_SOURCE
 
@@ -20,14 +21,17 @@
 #include <stdlib.h>
 #include <string.h>
 
-enum { THREADS = 8, KINDS = 9, CALLS = 7 * KINDS, OUT = 24, MOVES = CALLS / KINDS, ROOM = CONEPALHUI_PLAN_BYTES };
+enum { THREADS = 8, KINDS = 10, CALLS = 7 * KINDS, OUT = 24, MOVES = CALLS / KINDS, ROOM = CONEPALHUI_PLAN_BYTES };
+enum { LIST = CONEPALHUI_LIST_BYTES, WORDS = CONEPALHUI_LIST_WORDS };
 
 /* All that one call gives: its answer, and what the memory is that it was lent to write to. */
 struct given {
     conepalhui_answer answer;
-    uint32_t offset;     /* of an admission; otherwise 0 */
-    uint32_t leg, place; /* of a recheck; otherwise 0 */
-    uint8_t out[OUT], new_plan[ROOM];
+    uint32_t offset;        /* of an admission; otherwise 0 */
+    uint32_t leg, place;    /* of a recheck; otherwise 0 */
+    conepalhui_answer read; /* of the reading of a gate list; otherwise 0 */
+    uint8_t out[OUT], new_plan[ROOM], list[LIST];
+    uint32_t words[WORDS];
 };
 
 struct row {
@@ -78,13 +82,24 @@ static void make_recheck(struct row *row, unsigned which)
     now->place = told.place;
 }
 
+/* Has the gate list of a link of the file written, as it was read, and reads it back. */
+static void make_gates(struct row *row, unsigned which)
+{
+    struct given *now = &row->now;
+    now->answer = conepalhui_gates(row->file, row->file_len, which / KINDS % (row->link + 1), now->list, LIST);
+    if (conepalhui_refusal(now->answer.result) == 0)
+        now->read = conepalhui_read_gates(now->list, now->answer.number, now->words, WORDS);
+}
+
 /* Makes one call of the row, with lent memory that is the same each time, and goes on from what it wrote. */
 static void make_call(struct row *row, unsigned which)
 {
     struct given *now = &row->now;
     memset(now->out, 0xA5, sizeof now->out);
     memset(now->new_plan, 0xA5, ROOM);
-    now->offset = now->leg = now->place = 0;
+    memset(now->list, 0xA5, sizeof now->list);
+    memset(now->words, 0xA5, sizeof now->words);
+    now->offset = now->leg = now->place = now->read.result = now->read.number = 0;
     switch (which % KINDS) {
     case 0: /* a start, at first of the file as it was read */
         now->answer = conepalhui_start(row->plan, row->plan_len, now->out, sizeof now->out);
@@ -111,6 +126,9 @@ static void make_call(struct row *row, unsigned which)
         return;
     case 8:
         make_recheck(row, which);
+        return;
+    case 9:
+        make_gates(row, which);
         return;
     default: /* refused: a byte is missing at the end of the plan */
         now->answer = conepalhui_slice_full(row->plan, row->plan_len - 1, row->cursor, row->cursor_len, which,
@@ -155,8 +173,11 @@ static bool is_same(const struct row *row, unsigned which)
     const struct given *now = &row->now, *alone = &row->alone[which];
     return now->answer.result == alone->answer.result && now->answer.number == alone->answer.number &&
            now->offset == alone->offset && now->leg == alone->leg && now->place == alone->place &&
+           now->read.result == alone->read.result && now->read.number == alone->read.number &&
            memcmp(now->out, alone->out, sizeof now->out) == 0 &&
-           memcmp(now->new_plan, alone->new_plan, ROOM) == 0;
+           memcmp(now->new_plan, alone->new_plan, ROOM) == 0 &&
+           memcmp(now->list, alone->list, sizeof now->list) == 0 &&
+           memcmp(now->words, alone->words, sizeof now->words) == 0;
 }
 
 static void make_row(struct row *row)
@@ -203,11 +224,11 @@ static bool is_converted(const struct row *row)
 
 /*
  * Makes the row alone. Moves have to be granted, slices and rechecks to look at places, the cut plan to be refused, and
- * streams to be admitted, unless the plan is not accepted. Gives how many were.
+ * streams to be admitted and gate lists to be written, unless the plan is not accepted. Gives how many were admitted.
  */
 static unsigned run_alone(struct row *row)
 {
-    unsigned seen[7] = {0, 0, 0, 0, 0, 0, 0};
+    unsigned seen[9] = {0, 0, 0, 0, 0, 0, 0, 0, 0};
     begin_row(row);
     for (unsigned which = 0; which < CALLS; which++) {
         make_call(row, which);
@@ -220,9 +241,11 @@ static unsigned run_alone(struct row *row)
         seen[4] += admits && row->now.answer.result == CONEPALHUI_GRANTED;
         seen[5] += admits && conepalhui_refusal(row->now.answer.result) == 19;
         seen[6] += which % KINDS == 8 && conepalhui_refusal(row->now.answer.result) == 0 && row->now.answer.number > 0;
+        seen[7] += which % KINDS == 9 && row->now.answer.result == CONEPALHUI_GRANTED && row->now.read.number > 2;
+        seen[8] += which % KINDS == 9 && conepalhui_refusal(row->now.answer.result) == 19;
     }
     if (seen[0] != MOVES || seen[1] == 0 || seen[2] != MOVES || seen[3] != MOVES || seen[4] + seen[5] != 2 * MOVES ||
-        seen[6] != MOVES)
+        seen[6] != MOVES || (seen[5] > 0 ? seen[8] != MOVES : seen[7] < 2))
         stop("a row of calls does not try what it is there for");
     return seen[4];
 }
