@@ -133,7 +133,7 @@ class Desk:
 def build():
     """Makes first calls, which prove and build the programs, however long that takes."""
     wanted = ["--route", "0", "--period", "1", "--deadline", "1", "--octets", "64"]
-    for words in (["start", "missing", "missing"], ["check", "/dev/null"], ["admit", "missing", "missing", *wanted]):
+    for words in (["start", "missing", "missing"], ["check", "/dev/null"], ["admit", "missing", "missing", *wanted], ["gates", "/dev/null", "0"]):
         subprocess.run([COMMAND, *words], capture_output=True)
 
 

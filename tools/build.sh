@@ -75,6 +75,7 @@ run_rt() { # COMMAND CRATE LOG
     operator) what="the program for slices, moves, words, shape and conversions" ;;
     temporal) what="the program for temporal networks" time=five ;;
     slots) what="the program for new streams" time=five ;;
+    export) what="the program for gate lists" time=five ;;
     host) what="the calls for C" ;;
     network_host) what="the calls for C of temporal networks" ;;
     esac
@@ -221,10 +222,11 @@ do_install() {
     build operator
     build temporal
     build slots
+    build export
     build_library
     umask 022
     make_temp && write_copy || stop "cannot make the copy"
-    for name in timetable operator temporal slots; do put ".built/$name" "lib/conepalhui/$name" 755; done
+    for name in timetable operator temporal slots export; do put ".built/$name" "lib/conepalhui/$name" 755; done
     for name in help run; do put "tools/$name.sh" "lib/conepalhui/$name.sh"; done
     for name in conepalhui conepalhui-network; do
         put ".built/lib$name.a" "lib/lib$name.a"

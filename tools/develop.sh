@@ -31,6 +31,7 @@ install_missing() {
     need g++ g++ # and the header as C++.
     need rustc rustc # The plain checker is written in it.
     need pkg-config pkg-config # tests/install.test links with its flags.
+    need tc iproute2 # tests/taprio.test has it read gate lists.
     case $(uname -m) in
     x86_64) need strace strace ;; # On Arm the emulator traces system calls itself.
     aarch64)
@@ -150,7 +151,7 @@ do_test() {
     try format rt fmt --check
     prove
     # Two tests may want a program at once. Where one cannot be built, the tests that run it fail.
-    ((failed > 0)) || (build timetable && build operator && build temporal && build slots) >/dev/null 2>&1
+    ((failed > 0)) || (build timetable && build operator && build temporal && build slots && build export) >/dev/null 2>&1
     for file in tests/*.test; do
         # Where there is no test the pattern stands for itself.
         [[ ! -e $file && ! -L $file ]] || files+=("$file")
@@ -184,12 +185,14 @@ catches the wrong ones of compare/network_wrong.rs. With --admissions N it compa
 with a search that tries each offset (compare/admit.rs) and one that jumps, and catches those of compare/admit_wrong.rs.
 With --rechecks N it moves legs of so many tables and compares each recheck, with a plain one (compare/recheck.rs) and,
 where the table was accepted before, with a whole check of the moved table; it catches those of compare/recheck_wrong.rs.
+With --gates N it asks for the gate lists of links of so many tables, and compares each with one that is laid out instant by
+instant (compare/gates.rs) or, where the cycle is long, with one by its holds; it catches those of compare/gates_wrong.rs.
 END
 }
 
 do_compare() {
-    local calls=200000 networks=0 admissions=0 rechecks=0 seed=1 emulator c_compiler
-    numbers_from 'calls networks admissions rechecks seed' "$@"
+    local calls=200000 networks=0 admissions=0 rechecks=0 gates=0 seed=1 emulator c_compiler
+    numbers_from 'calls networks admissions rechecks gates seed' "$@"
     . compare/build.sh
     if ((networks > 0)); then
         build_network_comparison
@@ -200,6 +203,9 @@ do_compare() {
     elif ((rechecks > 0)); then
         build_recheck_comparison
         .built/compare/recheck "$seed" "$rechecks" "${emulator[@]}" .built/compare/recheck-driver
+    elif ((gates > 0)); then
+        build_gates_comparison
+        .built/compare/gates "$seed" "$gates" "${emulator[@]}" .built/compare/gates-driver
     else
         build_comparison
         compare/judge compare "$seed" "$calls" "${emulator[@]}" .built/compare/driver
@@ -225,6 +231,11 @@ Then it times admissions beside two plain ones, which check by these two checker
 accepted plan, without its last streams, the last of these again, with the longest frame, and with a deadline that no
 offset keeps; and to two plans on which the search goes on for long, in three rounds at the most.
 
+Then it times gate lists beside a plain one, which sorts all holds of a cycle, and beside the proved whole check, with which
+each list begins: that of the fullest link of each accepted plan, and six that take long or are refused, in three rounds at
+the most: links that are held all the time, by up to 509 legs in a cycle of up to 999,323,136 ns, the most legs, 1,024 pairs,
+and too many.
+
 At last it times the solver of networks beside a plain one, on three networks of the largest size. --rounds N says how
 many rounds are made (21); medians are given. On Arm all sides run under Debian's emulator.
 END
@@ -238,5 +249,6 @@ do_bench() {
     build_benchmark
     "${emulator[@]}" .built/compare/bench "$rounds" plans/*.plan &&
         "${emulator[@]}" .built/compare/admit-bench "$rounds" plans/*.plan &&
+        "${emulator[@]}" .built/compare/gates-bench "$rounds" plans/*.plan &&
         "${emulator[@]}" .built/compare/network-bench "$rounds"
 }

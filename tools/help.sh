@@ -13,6 +13,7 @@ commands=(
     'shape|[PLAN]|say whether a plan is well-formed'
     'convert|OLD NEW [first]|write a plan file of versions 1 and 2 anew, for this version'
     'admit|PLAN NEW OPTION...|find slots for new streams, and write the plan with them to NEW'
+    'gates|PLAN LINK [OPTION...]|print or write the gate lists of an accepted plan, for its switches'
     'network|[NETWORK [CLAIM]]|find times that keep all constraints, or test a claim'
 )
 is_installed || commands+=(
@@ -62,9 +63,9 @@ list_commands() {
         printf '  %s %-42s %s\n' "$called" "$name $arguments" "$summary"
     done
     printf '\n%s\n' "'$called help answers' explains what start, slice, move, recheck and run print."
-    printf '%s\n%s\n%s\n' 'Exit status: 0 done, accepted, granted, admitted or nothing violated; 1 a violated plan, a stream left out, a network without' \
-        'times, a false claim or a failed test; 2 the input was refused; 3 paused, or no verdict on the whole plan; 4 bad arguments, a file' \
-        'that cannot be read or written, or a program that cannot be built or run.'
+    printf '%s\n%s\n%s\n' 'Exit status: 0 done, accepted, granted, admitted or nothing violated; 1 a violated plan, a stream or a link left out, a network' \
+        'without times, a false claim or a failed test; 2 the input was refused; 3 paused, or no verdict on the whole plan; 4 bad arguments,' \
+        'a file that cannot be read or written, or a program that cannot be built or run.'
 }
 
 # Prints what one command does, or what answers there are.
@@ -269,6 +270,42 @@ wrong, or the plan is full; 11 the revision cannot rise; others as 'check' says 
 A long search says on standard error how far it is. It can be stopped at any time, and writes nothing then; the folders of
 PLAN and NEW are locked meanwhile. Exit status: 0 all admitted, 1 some were left out, 2 refused, and nothing is written,
 4 bad arguments, or a file that cannot be read or written or is there already.
+END
+}
+
+about_gates() {
+    cat <<'END'
+The gate list of a link says which gates of its port are open when, from instant 0 on, and is repeated without end. It is
+pairs of a mask and a duration in ns. The mask has a bit for each gate: 128, gate 7 alone, while a leg holds the link, and
+127, all others, while none does. What a switch has to do besides stands in docs/OPERATIONS.md, "Gate lists". Links are
+numbered from 0, as 'words' prints them. Only an accepted plan has lists.
+
+  gates PLAN LINK               prints the list: 'pairs N cycle C', where C is how many ns it lasts, and a line 'MASK NS' for
+                                each pair. A link without legs has 'pairs 0 cycle 0'
+  gates PLAN LINK --out FILE    writes it to the new file FILE, in seven-bit numbers, and prints 'written link L pairs N cycle
+                                C bytes B revision R'. The list of a link without legs is an empty file
+  gates PLAN --all FOLDER       writes the lists of all links to FOLDER, which is new or empty: link-000.gates, link-001.gates
+                                and so on. It prints a line for each link, and 'written lists N of M revision R'
+  gates --read LIST             prints the pairs of a list file, of whatever make, as the first form does
+
+  --as taprio                   with one of the first three: as the command tc of Linux takes a list, with hexadecimal masks,
+                                the words from 'base-time' on. Files are called link-000.taprio then. The list of a link
+                                without legs is no text at all
+  --base-time NS                the list begins at NS, and not at 0
+  --dev NAME                    a whole command of tc, for the port NAME; not with --all
+
+What is written is on the disk then. A FILE is never replaced, and whatever stops the command, neither FILE nor FOLDER is
+there in part. Both are as private as PLAN. Folders are locked meanwhile ('help answers'), but not to print a list. With --all
+a long call says on standard error how far it is.
+
+'refused NUMBER AT' says that there is no list, and standard error says why: 23 there is no such link; 19 the plan is not
+accepted, and a second line has its first violated place; 21 the least common multiple of the periods on the link passes
+1000000000 ns; 22 the list would have more than 1024 pairs; others as 'check' says them. With --all, 21 and 22 stand in the
+line of the link, and the other lists are written; where there are none, nothing is. A list file is refused 12 where it ends
+too early, also in the middle of a pair, 13 for a number that is too long or too large, and 'long' above 65536 bytes.
+
+Exit status: 0 printed or written; 1 some links have no list; 2 refused, and nothing is written; 4 bad arguments, or a file
+that cannot be read or written or is there already.
 END
 }
 

@@ -63,13 +63,13 @@ read_as=plan
 
 # Asks a program of the plan on standard input, and passes its answer on.
 answer() { # PROGRAM ARGUMENT...
-    local wrote status why
+    local wrote status why=''
     # Where it is closed, the program would be given the end of a pipe in its place.
     [[ -e /dev/fd/0 ]] || stop "standard input is closed: the $read_as cannot be read"
     prepare "$1"
     wrote=$(run_program "$@" && printf .) || stop "the program $1 ended with status $?"
     [[ $wrote != . ]] || stop "the program $1 printed nothing: the $read_as cannot be read"
-    take_status || stop "the program $1 gave no whole answer"
+    take_status || [[ $why == empty ]] || stop "the program $1 gave no whole answer"
     printf '%s' "$wrote" | cat || stop "cannot write to standard output"
     return $status
 }
@@ -196,10 +196,10 @@ release() {
     for file in "${held[@]}"; do exec {file}<&-; done
 }
 
-# What a program makes is as private as the plan, and its owner may read and write it.
+# What is made is as private as the plan, and its owner may read and write it. Who may read a folder may look into it.
 keep_private() {
     local mode
-    mode=$(stat -c %a -- "$plan") && umask "$(printf %o $((~(0$mode | 0600) & 0777)))" || stop "cannot read the plan $plan"
+    mode=$(stat -c %a -- "$plan") && umask "$(printf %o $((~(0$mode | 0700 | (0$mode & 0444) >> 2) & 0777)))" || stop "cannot read the plan $plan"
 }
 
 # Asks the program operator. Its answer is $wrote, the exit status that goes with it $status, and $why says what this command does next. What it says on
@@ -328,16 +328,35 @@ find_new() { # PATH
     stop_at_kept_name "$cursor"
 }
 
-# Finds the plan file that is read, $plan, and the new file, and holds their folders.
-hold_old_and_new() { # PLAN NEW
-    local file
+# Whether there is no file in a folder, if that is there.
+is_empty() ( # FOLDER
+    shopt -s nullglob dotglob
+    set -- "$1"/*
+    (($# == 0))
+)
+
+# The same for a folder. One that is there already has to be empty.
+find_new_folder() { # PATH
+    local path=$1
+    [[ -n $path ]] || stop "the new folder is a path, and it is empty"
+    [[ $path == /* ]] || path=$from/$path
+    [[ -d $path || ! -e $path && ! -L ${path%/} ]] || stop "$1 is there already, and is no folder: give the new folder another name"
+    cursor=$(real_path "$1") || stop "cannot find the folder of the new folder $1"
+    cursor=${cursor%$'\n.'}
+    stop_at_kept_name "$cursor"
+    is_empty "$cursor" || stop "the folder $1 is not empty, and nothing in it is replaced: give the new folder another name"
+}
+
+# Finds the plan file that is read, $plan, and the new file, or what FIND finds, and holds their folders.
+hold_old_and_new() { # PLAN NEW [FIND]
+    local file find=${3-find_new}
     find_input "plan file" "$1"
     [[ -f $file ]] || stop "$1 is not a file"
     plan=$(real_path "$1") || stop "cannot find the plan file $1"
     plan=${plan%$'\n.'}
-    find_new "$2"
+    "$find" "$2"
     hold
-    find_new "$2"
+    "$find" "$2"
 }
 
 # Converts a plan file. The layout of the old one is named, never guessed: there is one older layout so far.
@@ -513,6 +532,123 @@ do_admit() {
     printf '%s' "$wrote" || stop "cannot write to standard output"
     ((status == 2)) || tell_admitted "${files[@]}"
     return $status
+}
+
+# ---- Gate lists
+
+# The largest base time that tc takes.
+most_base=9223372036854775807
+
+# Ends a call whose arguments say nothing of use.
+stop_gates() { stop "$1: '$called help gates' says what is needed"; } # SENTENCE
+
+# Removes what was written beside the new file or folder. From a folder only lists are removed.
+drop_new() {
+    local beside=$cursor.conepalhui-new
+    if [[ -d $beside && ! -L $beside ]]; then
+        rm -f -- "$beside"/link-[0-9][0-9][0-9].{gates,taprio} && rmdir -- "$beside"
+    else
+        rm -f -- "$beside"
+    fi
+}
+
+# Gives what was written beside its name, and brings that to the disk. A file is never replaced, and a folder only where it is empty.
+name_new() { # NEW
+    local beside=$cursor.conepalhui-new
+    if [[ -d $beside ]]; then
+        sync -- "$beside" && mv -fT -- "$beside" "$cursor"
+    else
+        mv -nT -- "$beside" "$cursor" && [[ ! -e $beside ]]
+    fi || { drop_new; stop "$1 cannot be made, or is there already: nothing was written"; }
+    sync -- "${cursor%/*}/" || stop "$1 is there, and may not be on the disk yet"
+}
+
+# Asks the program export to write beside the new file or folder. Whatever stops it, nothing stays of that: signals are heard when it has ended.
+consult_export() { # NEW WORD...
+    local name signal=''
+    for name in HUP INT TERM; do trap "signal=$name" $name; done
+    keep_private
+    drop_new || stop "cannot remove $cursor.conepalhui-new, and what is written has this name first"
+    [[ $2 != all ]] || mkdir -- "$cursor.conepalhui-new" || stop "cannot make the folder $cursor.conepalhui-new"
+    wrote=$(run_program export "${@:2}" <"$plan" && printf .)
+    if take_status && ((status != 2)); then
+        name_new "$1"
+    else
+        drop_new
+        [[ -z $signal ]] || { trap - $signal && kill -s $signal $$; }
+        [[ -n $status ]] || stop "the program export gave no whole answer: nothing was written"
+    fi
+    trap - HUP INT TERM
+}
+
+# Writes a list to a new file, or all lists to a new folder.
+write_lists() { # PLAN NEW WORD...
+    local plan cursor held wrote status='' why without all
+    prepare export
+    if [[ $3 == all ]]; then
+        hold_old_and_new "$1" "$2" find_new_folder
+        consult_export "$2" "${@:3}" "$cursor.conepalhui-new"
+    else
+        hold_old_and_new "$1" "$2"
+        consult_export "$2" "${@:3}" "$cursor"
+    fi
+    release
+    printf '%s' "$wrote" || stop "cannot write to standard output"
+    read -r _ without all <<<"$why"
+    [[ -z $without ]] || note "$without of $all links have no list, for the reasons above: $2 has the others"
+    return $status
+}
+
+# Reads how lists are to be written from the options, $of: the base time, $base, if they are for tc, and its device, $device.
+take_form() {
+    [[ ${of[as]-taprio} == taprio ]] || stop_gates "there is no form $(shown_word "${of[as]}"): the only one is taprio"
+    if [[ -z ${of[as]+given} ]]; then
+        [[ -z ${of[base-time]+given}${of[dev]+given} ]] || stop_gates "--base-time and --dev go with --as taprio"
+        return
+    fi
+    base=${of[base-time]-0} device=${of[dev]-}
+    [[ $base =~ ^0*([0-9]{1,19})$ ]] || stop_gates "the base time is $(shown_word "$base"), but it is a number of ns from 0 to $most_base"
+    base=${BASH_REMATCH[1]}
+    [[ ${#base} -lt 19 || ! $base > $most_base ]] || stop_gates "the base time is $base ns, but tc takes at most $most_base"
+    [[ -z ${of[dev]+given} || $device =~ ^[A-Za-z0-9][A-Za-z0-9._-]{0,14}$ ]] ||
+        stop_gates "the device is $(shown_word "$device"), but it is a name of 1 to 15 letters, digits, '.', '_' and '-'"
+}
+
+# The gate lists of a plan, printed or written, and the pairs of a list file.
+do_gates() {
+    local words=() base='' device='' number read_as=plan LC_ALL=C
+    local -A of=()
+    while (($# > 0)); do
+        case $1 in
+        --out | --all | --read | --as | --base-time | --dev)
+            (($# > 1)) || stop_gates "there is nothing after $1"
+            [[ -z ${of[${1#--}]+given} ]] || stop_gates "$1 is there twice"
+            of[${1#--}]=$2
+            shift 2
+            ;;
+        -*) stop_gates "gates has no option $1" ;;
+        *) words+=("$1") && shift ;;
+        esac
+    done
+    if [[ -n ${of[read]+given} ]]; then
+        ((${#of[@]} == 1 && ${#words[@]} == 0)) || stop_gates "beside --read LIST there is nothing else"
+        read_as=list
+        take_plan gates "${of[read]}" && answer export read
+        return
+    fi
+    take_form
+    if [[ -n ${of[all]+given} ]]; then
+        ((${#words[@]} == 1)) && [[ -z ${of[out]+given}${of[dev]+given} ]] || stop_gates "beside --all FOLDER there is a plan, and no link, --out or --dev"
+        write_lists "$words" "${of[all]}" all "$base"
+        return
+    fi
+    ((${#words[@]} == 2)) || stop_gates "gates takes a plan and a link"
+    is_word "${words[1]}" || stop_gates "the link is $(shown_word "${words[1]}"), but it is a number from 0 to 4294967295"
+    if [[ -n ${of[out]+given} ]]; then
+        write_lists "$words" "${of[out]}" write "$base" "$device" "$number"
+    else
+        take_plan gates "$words" && answer export print "$base" "$device" "$number"
+    fi
 }
 
 # ---- A run

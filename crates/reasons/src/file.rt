@@ -20,7 +20,7 @@ fn ending(byte: u8) -> usize {
 }
 
 // How many numbers end in these bytes. The sum is far from wrapping: no more than one ends with each byte.
-fn numbers_in(bytes: &[u8]) -> usize {
+pub(crate) fn numbers_in(bytes: &[u8]) -> usize {
     let mut count: usize = 0;
     let mut i: usize = 0;
     while i < bytes.len() {
@@ -107,7 +107,7 @@ fn cut_short(e: Edition, bytes: &[u8], at: usize) {
 }
 
 // What is wrong with the number that these bytes begin with: a last byte 0, a fifth byte that goes on, or one above the largest.
-fn form(bytes: &[u8]) {
+pub(crate) fn form(bytes: &[u8]) {
     let needless = b", is written in more bytes than it needs\n";
     if bytes.len() < 5 {
         text(needless);

@@ -6,6 +6,7 @@ ghost use lib.ListN.{length};
 use libc::STDERR_FILENO;
 
 pub mod file;
+pub mod lists;
 mod names;
 pub mod records;
 

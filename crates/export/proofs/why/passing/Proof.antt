@@ -1,0 +1,63 @@
+-- `export::why::passing` is safe and ends: the leg rises to the number of legs, and the cycle stays within the limit. Assumes nothing.
+use Prim.Native.Nat.{_-_, _≤_}
+use borrow.Author.Needs.{needs}
+use Rattle.gates.specs.Pairs.{maxCycle}
+use Rattle.export.proofs.why.passing.Statement.{statement}
+use Rattle.export.proofs.why.passing.Tie as tie
+
+abbrev Inv-loop : tie.InvT-loop
+Inv-loop t link legs cycle₀ a₀ cycle a = cycle ≤ maxCycle
+
+abbrev μ-loop : tie.MeasureT-loop
+μ-loop t link legs cycle₀ a₀ cycle a = legs - a
+
+header-word-requires : tie.Need-header-word-requires Inv-loop μ-loop
+header-word-requires c κs = search needs
+
+loop-holds : tie.Need-loop-holds Inv-loop μ-loop
+loop-holds c = search needs
+
+leg-at-requires : tie.Need-leg-at-requires Inv-loop μ-loop
+leg-at-requires c κs = search needs
+
+period-on-requires : tie.Need-period-on-requires Inv-loop μ-loop
+period-on-requires c κs = search needs
+
+cast-common : tie.Need-cast-common Inv-loop μ-loop
+cast-common c = search needs
+
+common-requires : tie.Need-common-requires Inv-loop μ-loop
+common-requires c κs = search needs
+
+returns : tie.Need-returns Inv-loop μ-loop
+returns c = search needs
+
+add-a : tie.Need-add-a Inv-loop μ-loop
+add-a c = search needs
+
+loop-less : tie.Need-loop-less Inv-loop μ-loop
+loop-less c = search needs
+
+loop-again : tie.Need-loop-again Inv-loop μ-loop
+loop-again c = search needs
+
+returns-2 : tie.Need-returns-2 Inv-loop μ-loop
+returns-2 c = search needs
+
+pub passing-spec : {M : Type 1} → statement M
+passing-spec =
+    tie.close
+    (tie.spec
+    Inv-loop
+    μ-loop
+    header-word-requires
+    loop-holds
+    leg-at-requires
+    period-on-requires
+    cast-common
+    common-requires
+    returns
+    add-a
+    loop-less
+    loop-again
+    returns-2)
