@@ -5,6 +5,7 @@ use crate::check::{begin, host_convert, host_move, host_slice, host_start, Check
 use crate::format::{
     encoded, table, table_words, write_cursor, write_plan, Cursor, Layout, Move, Outcome, Plan, Refusal,
 };
+use crate::gates_list;
 use crate::list::{bytes, hex, joined, numbers};
 use crate::network_list;
 use crate::paper::{LIMITS, NOTHING_VIOLATED, NUMBER_BYTES, PAUSED};
@@ -14,7 +15,7 @@ use crate::told::{refusal, rule_named, words};
 type Told = Result<String, String>;
 
 /// The marks of lent bytes and words.
-const MARK: u8 = 0xEE;
+pub const MARK: u8 = 0xEE;
 pub const WORD_MARK: u32 = 7777;
 
 /// The number that what is kept beside a cursor begins with.
@@ -41,7 +42,7 @@ pub fn row(words: &[u32]) -> String {
 }
 
 /// What was written into a marked buffer of this length.
-fn written(bytes: Outcome<Vec<u8>>, at: usize, room: usize) -> String {
+pub fn written(bytes: Outcome<Vec<u8>>, at: usize, room: usize) -> String {
     let mut lent = vec![MARK; room];
     match bytes {
         Ok(bytes) => {
@@ -202,6 +203,7 @@ impl Calls {
             _ if network_list::is_call(verb) => return network_list::told(verb, rest),
             _ if admit_list::is_call(verb) => return admit_list::told(verb, rest, &self.table),
             _ if recheck_list::is_call(verb) => return recheck_list::told(verb, rest, &self.table),
+            _ if gates_list::is_call(verb) => return gates_list::told(verb, rest, &self.table, &self.plan),
             _ => return self.call(verb, &numbers(rest)?),
         }
         Ok(String::new())

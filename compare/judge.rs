@@ -46,6 +46,11 @@ mod drafts;
 mod driver;
 mod fail;
 mod format;
+#[allow(dead_code)] // It also serves the comparison of gate lists.
+mod gates;
+mod gates_list;
+#[allow(dead_code)] // The comparison of gate lists holds it against gates.rs.
+mod gates_quick;
 mod inputs;
 mod layout;
 mod list;

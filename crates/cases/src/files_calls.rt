@@ -34,7 +34,7 @@ fn read_number(bytes: &[u8], at: usize) {
     }
 }
 
-fn written(answer: Written, bytes: &[u8]) {
+pub(crate) fn written(answer: Written, bytes: &[u8]) {
     match answer {
         Written::Bytes(n) => {
             show::text(b"bytes ");

@@ -5,6 +5,7 @@ use table::Move;
 
 mod admit_calls;
 mod files_calls;
+mod gates_calls;
 mod host_calls;
 mod integers;
 mod network_calls;
@@ -87,6 +88,9 @@ fn asked(verb: &[u8], rest: &[u8], table: &[u32], plan: &[u8], saved: &[u8], cur
         return;
     }
     if recheck_calls::asked(verb, rest, table) {
+        return;
+    }
+    if gates_calls::asked(verb, numbers, table, plan) {
         return;
     }
     if network_calls::asked(verb, rest) {
