@@ -36,7 +36,7 @@ pub fn hold(octets: u32) -> u32 {
 }
 
 /// A table without links. Its revision can rise.
-fn empty(chance: &mut Chance, precision: u32) -> Plan {
+pub fn empty(chance: &mut Chance, precision: u32) -> Plan {
     let any = chance.word() % u32::MAX;
     let revision = chance.of(&[0, 1, 126, 127, 128, 16_383, u32::MAX - 1, any]);
     Plan { revision, precision, links: Vec::new(), streams: Vec::new(), legs: Vec::new() }
@@ -248,7 +248,7 @@ fn fill(chance: &mut Chance, plan: &mut Plan, link: u32, period: u32, slot: (u32
 }
 
 /// Puts streams of one leg each in any order.
-fn shuffle_streams(chance: &mut Chance, plan: &mut Plan) {
+pub fn shuffle_streams(chance: &mut Chance, plan: &mut Plan) {
     let mut both: Vec<(Stream, Leg)> = plan.streams.iter().copied().zip(plan.legs.iter().copied()).collect();
     match chance.below(3) {
         0 => both.reverse(),

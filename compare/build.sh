@@ -1,7 +1,7 @@
 # Builds the drivers of the comparisons, and the benchmarks, in .built/compare. The command conepalhui reads this file and gives it
 # its own functions. They need the archives of the calls for C, which are for x86-64: so is what is linked with them. The judge,
-# which the comparison asks, is for this processor; compare/judge builds it. So are the comparisons of networks, admissions and
-# rechecks.
+# which the comparison asks, is for this processor; compare/judge builds it. So are the comparisons of networks, admissions,
+# rechecks and gate lists.
 
 rust_target=x86_64-unknown-linux-gnu
 
@@ -71,6 +71,12 @@ build_recheck_comparison() {
     make_if_old recheck compare/*.rs plans/*.plan -- rustc --edition 2021 -O compare/recheck_compare.rs -o
 }
 
+# The comparison of gate lists, and its driver.
+build_gates_comparison() {
+    build_driver gates-driver compare/gates_driver.c conepalhui
+    make_if_old gates compare/*.rs plans/*.plan -- rustc --edition 2021 -O compare/gates_compare.rs -o
+}
+
 # Prints a compiler of Rust that has the library of x86-64.
 rust_for_x86_64() {
     local rust library
@@ -98,6 +104,7 @@ build_benchmark() {
     rust=$(rust_for_x86_64) || stop "there is no compiler of Rust for x86-64: apt-get install rustc"
     make_benchmark bench conepalhui compare/bench.rs
     make_benchmark admit-bench conepalhui compare/admit_bench.rs
+    make_benchmark gates-bench conepalhui compare/gates_bench.rs
     make_benchmark network-bench conepalhui-network compare/network_bench.rs
     ((${#emulator[@]} == 0)) || emulator=(qemu-x86_64)
 }
