@@ -23,6 +23,8 @@ DEMANDS = [("demands", demand, demand) for demand in ("DemandOne", "DemandTwo", 
     ("demands", "Rechecks", "RechecksAreSound"),
     ("demands", "Rechecks", "EveningsAreSound"),
     ("demands", "Rechecks", "HostRechecksAreSound"),
+    ("demands", "GateLists", "GateListsAreOfSoundTables"),
+    ("gate_lists", "Theorems", "GatesOpenForFrames"),
 ]
 
 # What the language has of its own, what every contract may say, and the constructors of the kit.
@@ -208,7 +210,8 @@ class Source:
             elif re.match(r"\s*pub\b(?!\().*\bfn\b", line):
                 raise Unknown(f"{self.path}:{n + 1}: a form that is not known: {line}")
             elif imported:
-                self.imported[imported.group(3)] = (imported.group(1), imported.group(2)[2:].replace("::", "/") or "lib")
+                own = imported.group(1) == "crate"
+                self.imported[imported.group(3)] = (crate if own else imported.group(1), imported.group(2)[2:].replace("::", "/") or "lib")
 
     def above(self, n):
         """The comment and the attributes right above a line."""
