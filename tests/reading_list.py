@@ -3,7 +3,7 @@
 
 It begins at the contracts of the public calls (docs/CALLS.md) and at the demands, and follows every name that they use, name by name: through the
 `use` lines to definitions in specs/, and to the structs and enums in src/. A form that it does not know, or a name that it cannot find, is an error.
-The rows of docs/CALLS.md are held to it too: each has a public call, its statement, the theorem of one answer, and two must-fail edits.
+The rows of docs/CALLS.md are held to it too: each has a public call, its statement, the theorem of one answer, and two edits that must fail.
 
 tests/reading_list.py prints the list; with --write it writes the list into docs/TRUST.md.
 """
@@ -622,7 +622,7 @@ def faults():
     """What is wrong with the pages, and how many definitions and signs were held against them."""
     try:
         reading, page, told = Reading(), content(TRUST), []
-        edits = {os.path.basename(path)[:-len(".edit")] for path in glob.glob(os.path.join(ROOT, "crates/*/must-fail/*.edit"))}
+        edits = {os.path.basename(path)[:-len(".edit")] for path in glob.glob(os.path.join(ROOT, "crates/*/*/*.edit"))}
         named = {}
         for row in re.findall(r"^\| `\w+::.*$", content(CALLS), re.M):
             form = re.fullmatch(r"\| `([\w:]+)` \| `([\w-]+)`, (\S+) \| `([\w-]+)`, (\S+) \| `(\w+)`, `(\w+)` \|", row)
@@ -631,7 +631,7 @@ def faults():
                 continue
             call, *statement_and_theorem, one, other = form.groups()
             named[call] = statement_and_theorem
-            told += [f"{CALLS}: no crates/*/must-fail/{edit}.edit, which the row of {call} names" for edit in (one, other) if edit not in edits]
+            told += [f"{CALLS}: no edit {edit} in crates/*/must-fail or crates/*/refuted, which the row of {call} names" for edit in (one, other) if edit not in edits]
             if one == other:
                 told.append(f"{CALLS}: the row of {call} names {one} twice")
         calls = {"::".join([crate] + ([] if module == "lib" else module.split("/")) + [name]): (crate, module, name) for crate, module, name in reading.calls}

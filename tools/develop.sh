@@ -107,8 +107,8 @@ prove() {
     local status=none last='' fault=''
     if lock; then
         rm -f .built/*.stamp # The tests run the programs that this run proved.
-        # One more at a time than there are processors: crates of one level wait for the longest.
-        RT_JOBS=${RT_JOBS:-$(($(nproc) + 1))} rt ci | tee "$temp/ci"
+        # Twice as many at a time as there are processors: crates of one level wait for the longest, and so do those that were begun with it.
+        RT_JOBS=${RT_JOBS:-$(($(nproc) * 2))} rt ci | tee "$temp/ci"
         status=${PIPESTATUS[0]}
         unlock
         last=$(tail -n 1 "$temp/ci")
