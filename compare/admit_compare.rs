@@ -43,7 +43,7 @@ use paper::{
     ABOVE_LIMIT, BAD_FORM, ENDS_EARLY, LAST_REVISION, LEFT_OVER, LEG_WRONG, LINK_RANGE, LINK_TWICE, NOTHING_VIOLATED,
     NO_ROOM, REFUSED, STREAM_WRONG,
 };
-use report::{begin, found_in, never_seen, run_with_arguments, tell, tell_caught, tell_seen, Calls, Hunt};
+use report::{found_in, never_seen, run_with_arguments, tell, tell_caught, tell_seen, Calls, Hunt, Run};
 use std::collections::BTreeMap;
 use std::sync::{Arc, Mutex};
 
@@ -224,25 +224,20 @@ fn results() -> Vec<(&'static str, u32)> {
 
 /// Makes the calls for so many streams, or a few more, with the command of a driver. Says whether all is well.
 fn run(seed: u64, wanted: u64, driver: &[String]) -> bool {
-    let batches = begin(seed, wanted, "streams", BATCH);
     let wrong = all();
     let nothing = Found { calls: Calls::new(wrong.len()), ..Found::default() };
-    let found = found_in(batches, driver, nothing, |number, driver, found| {
+    let run = Run { seed, wanted, what: "streams", size: BATCH, driver };
+    let (found, streams) = found_in(&run, nothing, |number, driver, found| {
         compare(number, &wrong, &batch(seed, number), driver, found);
     });
     let spoilers = not_caught(driver, &SPOILED, &batch(1, 0), answers, difference);
-    report(&wrong, &found, batches * BATCH as u64, &spoilers)
+    report(&wrong, &found, streams, &spoilers)
 }
 
 /// Whether the plain admitter gives what one counts by hand on Plan A. It is not accepted; its leg 2 at 672 is. Then the
 /// first link is taken from 0 to 672 of each 100,000 ns and from there to 1,344 of each 50,000, and the second one from 1,176
 /// to 1,848 of each 100,000.
 fn keeps_the_examples() -> bool {
-    let accepted = || {
-        let mut plan = drafts::plan_a();
-        plan.legs[2].offset = 672;
-        plan
-    };
     let given = |plan: Plan, period: u32, deadline: u32| {
         let wanted = Arc::new(Wanted { route: vec![0, 1], period, deadline, octets: 64 });
         let call = Call { plan: plan_bytes(&plan).into(), wanted, between: None, new_plan: vec![0; 300] };
@@ -252,11 +247,11 @@ fn keeps_the_examples() -> bool {
         (result, offset, legs.unwrap_or_else(Vec::new))
     };
     given(drafts::plan_a(), 100_000, 2_352).0 == REFUSED + NOT_ACCEPTED
-        && given(accepted(), 100_000, 2_352) == (ADMITTED, 1_344, vec![[0, 1_344, 0], [1, 2_520, 0]])
-        && given(accepted(), 100_000, 2_351).0 == REFUSED + NO_SLOT
-        && given(accepted(), 100_001, 2_352).0 == REFUSED + NO_SLOT
-        && given(accepted(), 2_000, 2_352).0 == REFUSED + NO_SLOT
-        && given(accepted(), 2_500, 2_352) == (ADMITTED, 1_344, vec![[0, 1_344, 0], [1, 20, 1]])
+        && given(drafts::accepted_a(), 100_000, 2_352) == (ADMITTED, 1_344, vec![[0, 1_344, 0], [1, 2_520, 0]])
+        && given(drafts::accepted_a(), 100_000, 2_351).0 == REFUSED + NO_SLOT
+        && given(drafts::accepted_a(), 100_001, 2_352).0 == REFUSED + NO_SLOT
+        && given(drafts::accepted_a(), 2_000, 2_352).0 == REFUSED + NO_SLOT
+        && given(drafts::accepted_a(), 2_500, 2_352) == (ADMITTED, 1_344, vec![[0, 1_344, 0], [1, 20, 1]])
 }
 
 /// Prints what a run found, and says whether all is well.

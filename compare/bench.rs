@@ -11,6 +11,7 @@ mod clock;
 mod divisors;
 mod format;
 mod paper;
+mod proved_slice;
 mod quick;
 mod reasons;
 mod recheck;
@@ -24,34 +25,12 @@ use clock::{median, print_times, time};
 use divisors::{Pair, IN_USE, METHODS};
 use format::{cursor_bytes, Cursor, Plan};
 use paper::{CURSOR_BYTES, NOTHING_VIOLATED, REFUSED};
+use proved_slice::proved_slice;
 use quick::{asked, Chained, Nested};
 use recheck_times::Rechecks;
 
-/// What a call for C gives.
-#[repr(C)]
-struct Answer {
-    result: u32,
-    number: u32,
-}
-
-extern "C" {
-    fn conepalhui_slice_full(
-        plan: *const u8,
-        plan_len: usize,
-        cursor: *const u8,
-        cursor_len: usize,
-        budget: u32,
-        out: *mut u8,
-        out_len: usize,
-    ) -> Answer;
-}
-
 fn proved(plan: &[u8], cursor: &[u8], budget: u32, out: &mut [u8]) -> u64 {
-    // Each pointer comes from a slice together with its length.
-    let answer = unsafe {
-        let (lent, lent_len) = (out.as_mut_ptr(), out.len());
-        conepalhui_slice_full(plan.as_ptr(), plan.len(), cursor.as_ptr(), cursor.len(), budget, lent, lent_len)
-    };
+    let answer = proved_slice(plan, cursor, budget, out);
     packed(answer.result, answer.number.into())
 }
 

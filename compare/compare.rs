@@ -8,7 +8,7 @@ use crate::paper::{
     ABOVE_LIMIT, BAD_FORM, ENDS_EARLY, GRANTED, LAST_REVISION, LEFT_OVER, LEG_WRONG, LINK_RANGE, LINK_TWICE, NO_LEG,
     NO_PLACE, NO_ROOM, PAUSED, REFUSED, RULES, STALE, STREAM_WRONG, TOO_LATE,
 };
-use crate::report::{begin, found_in, never_seen, tell, tell_seen, Calls, First, Hunt};
+use crate::report::{found_in, never_seen, tell, tell_seen, Calls, First, Hunt, Run};
 use crate::wrong::{all, Wrong};
 use std::collections::BTreeMap;
 use std::sync::Mutex;
@@ -144,7 +144,6 @@ fn results() -> Vec<(Kind, u32)> {
 
 /// Makes so many calls, or a few more, with the command that makes the calls of driver.c. Says whether all is well.
 pub fn run(seed: u64, wanted: u64, driver: &[String]) -> bool {
-    let batches = begin(seed, wanted, "calls", BATCH);
     let wrong = all();
     let nothing = Found {
         calls: Calls::new(wrong.len()),
@@ -152,7 +151,8 @@ pub fn run(seed: u64, wanted: u64, driver: &[String]) -> bool {
         pairs_laid_out: 0,
         seen: BTreeMap::new(),
     };
-    let found = found_in(batches, driver, nothing, |number, driver, found| {
+    let run = Run { seed, wanted, what: "calls", size: BATCH, driver };
+    let (found, _) = found_in(&run, nothing, |number, driver, found| {
         compare(number, &wrong, &batch(seed, number), driver, found);
     });
     let differs = |case: &Case, answered: &Answer, changed: &[String]| difference(0, case, answered, changed);

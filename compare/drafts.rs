@@ -18,6 +18,13 @@ pub fn plan_a() -> Plan {
     Plain.read_plan(include_bytes!("../plans/plan-a.plan")).expect("it is a plan file")
 }
 
+/// Plan A with leg 2 just behind leg 0, which is accepted.
+pub fn accepted_a() -> Plan {
+    let mut plan = plan_a();
+    plan.legs[2].offset = 672;
+    plan
+}
+
 /// A plan of a few records.
 pub fn small(chance: &mut Chance) -> Plan {
     let size = Size { nodes: 2 + chance.below(7), links: chance.below(9), streams: chance.below(7) };

@@ -17,6 +17,7 @@ mod format;
 mod gates;
 mod gates_quick;
 mod paper;
+mod proved_slice;
 mod quick;
 mod reasons;
 mod rules;
@@ -30,29 +31,12 @@ use format::{cursor_bytes, plan_bytes, Plan};
 use gates::{read, MOST_CYCLE, PAIR_WORDS, RIGHT};
 use gates_quick::{cycle, holds, on_link, quick};
 use paper::{CURSOR_BYTES, GRANTED, LIMITS, NOTHING_VIOLATED, REFUSED};
+use proved_slice::{proved_slice, Answer};
 use quick::{Chained, Nested};
-
-/// What a call for C gives.
-#[repr(C)]
-#[derive(Clone, Copy, Debug, PartialEq, Eq)]
-struct Answer {
-    result: u32,
-    number: u32,
-}
 
 extern "C" {
     #[link_name = "conepalhui_gates_3"]
     fn conepalhui_gates(plan: *const u8, plan_len: usize, link: u32, list: *mut u8, list_len: usize) -> Answer;
-
-    fn conepalhui_slice_full(
-        plan: *const u8,
-        plan_len: usize,
-        cursor: *const u8,
-        cursor_len: usize,
-        budget: u32,
-        out: *mut u8,
-        out_len: usize,
-    ) -> Answer;
 }
 
 /// Writes the list of a link of the plan of a file.
@@ -76,11 +60,7 @@ fn plain(plan: &[u8], link: u32, list: &mut [u8]) -> Answer {
 /// The proved whole check, which each list begins with.
 fn checked(plan: &[u8], cursor: &[u8]) -> u32 {
     let mut out = [0; CURSOR_BYTES];
-    // The same here.
-    unsafe {
-        let (lent, lent_len) = (out.as_mut_ptr(), out.len());
-        conepalhui_slice_full(plan.as_ptr(), plan.len(), cursor.as_ptr(), cursor.len(), u32::MAX, lent, lent_len).result
-    }
+    proved_slice(plan, cursor, u32::MAX, &mut out).result
 }
 
 const SIDES: [Gates; 2] = [proved, plain];

@@ -6,7 +6,7 @@ use crate::admit_drafts::{lined, shuffle};
 use crate::chance::{Batch, Chance};
 use crate::check::{Checker, Plain};
 use crate::damage::{any_bytes, damage_bytes};
-use crate::drafts::{medium, plan_a, row, small, to_an_edge};
+use crate::drafts::{accepted_a, medium, plan_a, row, small, to_an_edge};
 use crate::format::{encoded, plan_bytes, Plan};
 use crate::gates::{
     answer, is_accepted, Answer, Asked, Call, HELD, IDLE, LONG_CYCLE, MANY_PAIRS, MOST_CYCLE, MOST_PAIRS, NO_LINK,
@@ -274,9 +274,7 @@ impl Batch<Case> {
 
     /// Plan A, which is not accepted; with leg 2 behind leg 0, which is; and files that are no plans.
     fn of_the_paper(&mut self) {
-        let mut accepted = plan_a();
-        accepted.legs[2].offset = 672;
-        for plan in [plan_a(), accepted] {
+        for plan in [plan_a(), accepted_a()] {
             for link in 0..4 {
                 for room in [0, 1, 7, 8, 9, 23, 24, 25, 26, 60] {
                     let due = Facts::of(&plan, link).due(&plan, link, room);

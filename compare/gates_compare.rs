@@ -44,7 +44,7 @@ use gates_quick::quick;
 use gates_seen::{edges, seen, AFTER_SHAPE, OF_SHAPE};
 use gates_wrong::{all, Wrong};
 use paper::{BAD_FORM, ENDS_EARLY, GRANTED, NO_ROOM, REFUSED};
-use report::{begin, found_in, never_seen, run_with_arguments, tell, tell_caught, tell_seen, Calls, Hunt};
+use report::{found_in, never_seen, run_with_arguments, tell, tell_caught, tell_seen, Calls, Hunt, Run};
 use rules::Sent;
 use std::collections::BTreeMap;
 use std::sync::Mutex;
@@ -244,25 +244,20 @@ fn results() -> Vec<(&'static str, u32)> {
 
 /// Makes the calls on so many tables, or a few more, with the command of a driver. Says whether all is well.
 fn run(seed: u64, wanted: u64, driver: &[String]) -> bool {
-    let batches = begin(seed, wanted, "tables", BATCH);
     let wrong = all();
     let nothing = Found { calls: Calls::new(wrong.len()), ..Found::default() };
-    let found = found_in(batches, driver, nothing, |number, driver, found| {
+    let run = Run { seed, wanted, what: "tables", size: BATCH, driver };
+    let (found, tables) = found_in(&run, nothing, |number, driver, found| {
         compare(number, &wrong, &batch(seed, number), driver, found);
     });
     let spoilers = not_caught(driver, &SPOILED, &batch(1, 0), answers, difference);
-    report(&wrong, &found, batches * BATCH as u64, &spoilers)
+    report(&wrong, &found, tables, &spoilers)
 }
 
 /// Whether the plain teller gives what one counts by hand on Plan A. It is not accepted; its leg 2 at 672 is. Then the first
 /// link is held from 0 to 672 of each 100,000 ns and from there to 1,344 of each 150,000, so that its cycle is 300,000 ns,
 /// and the second one from 1,176 to 1,848 of each 100,000.
 fn keeps_the_examples() -> bool {
-    let accepted = || {
-        let mut plan = drafts::plan_a();
-        plan.legs[2].offset = 672;
-        plan
-    };
     let given = |plan: Plan, link: u32, room: usize| {
         let file = plan_bytes(&plan).into();
         let call = Call { asked: Asked::Gates(link), file, list: vec![0xA5; room], words: Vec::new() };
@@ -277,16 +272,16 @@ fn keeps_the_examples() -> bool {
     let first = [128, 1_344, 127, 98_656, 128, 672, 127, 50_000, 128, 672, 127, 48_656, 128, 672, 127, 99_328];
     let second = [127, 1_176, 128, 672, 127, 98_152];
     let of_second = vec![0x7F, 0x98, 0x09, 0x80, 0x01, 0xA0, 0x05, 0x7F, 0xE8, 0xFE, 0x05, 0xA5];
-    let mut slow = accepted();
+    let mut slow = drafts::accepted_a();
     slow.links[1].ns_per_octet = 80;
     slow.streams[0].deadline = 100_000;
     given(drafts::plan_a(), 0, 60).0 == 119
         && given(drafts::plan_a(), 2, 60).0 == 123
-        && pairs(accepted(), 0) == (0, first.to_vec())
-        && pairs(accepted(), 1) == (0, second.to_vec())
+        && pairs(drafts::accepted_a(), 0) == (0, first.to_vec())
+        && pairs(drafts::accepted_a(), 1) == (0, second.to_vec())
         && pairs(slow, 1) == (0, vec![127, 1_176, 128, 6_720, 127, 92_104])
-        && given(accepted(), 1, 12) == (0, 11, of_second)
-        && given(accepted(), 1, 10) == (115, 0, vec![0xA5; 10])
+        && given(drafts::accepted_a(), 1, 12) == (0, 11, of_second)
+        && given(drafts::accepted_a(), 1, 10) == (115, 0, vec![0xA5; 10])
 }
 
 /// Prints what a run found, and says whether all is well.

@@ -42,6 +42,7 @@ mod chance;
 mod check;
 mod compare;
 mod damage;
+#[allow(dead_code)] // It also serves the other comparisons.
 mod drafts;
 mod driver;
 mod fail;

@@ -26,7 +26,7 @@ use network::{
 use network_calls::{receive, send, send_flush};
 use network_cases::{batch, Case, BATCH};
 use network_wrong::{all, Wrong};
-use report::{begin, found_in, never_seen, run_with_arguments, tell, tell_caught, tell_seen, Calls, Hunt};
+use report::{found_in, never_seen, run_with_arguments, tell, tell_caught, tell_seen, Calls, Hunt, Run};
 use std::collections::BTreeMap;
 use std::sync::{Arc, Mutex};
 
@@ -131,14 +131,14 @@ fn results() -> Vec<(Kind, u32)> {
 
 /// Makes the calls on so many networks, or a few more, with the command of a driver. Says whether all is well.
 fn run(seed: u64, wanted: u64, driver: &[String]) -> bool {
-    let batches = begin(seed, wanted, "networks", BATCH);
     let wrong = all();
     let nothing = Found { calls: Calls::new(wrong.len()), by_pairs: 0, seen: BTreeMap::new() };
-    let found = found_in(batches, driver, nothing, |number, driver, found| {
+    let run = Run { seed, wanted, what: "networks", size: BATCH, driver };
+    let (found, networks) = found_in(&run, nothing, |number, driver, found| {
         compare(number, &wrong, &batch(seed, number), driver, found);
     });
     let spoilers = not_caught(driver, &SPOILED, &batch(1, 0), answers, difference);
-    report(&wrong, &found, batches * BATCH as u64, &spoilers)
+    report(&wrong, &found, networks, &spoilers)
 }
 
 /// Whether the plain solver gives what the request says of its example.

@@ -4,7 +4,7 @@ use crate::admit_cases::{damaged_file, violate};
 use crate::admit_drafts::lined;
 use crate::chance::Batch;
 use crate::check::{whole, Checker, Plain};
-use crate::drafts::{accepted, beyond, medium, one_link, plan_a, row, small, to_an_edge};
+use crate::drafts::{accepted, accepted_a, beyond, medium, one_link, plan_a, row, small, to_an_edge};
 use crate::format::{plan_bytes, Plan};
 use crate::paper::{LIMITS, NOTHING_VIOLATED, REFUSED};
 use crate::recheck::{answer, Answer, Call, RIGHT};
@@ -132,8 +132,7 @@ impl Batch<Case> {
 
     /// Plan A with leg 2 behind leg 0, which is accepted, and moves of it; and files that are no plans.
     fn of_the_paper(&mut self) {
-        let mut plan = plan_a();
-        plan.legs[2].offset = 672;
+        let plan = accepted_a();
         let moves =
             [(0, 0), (0, 1), (0, 600), (0, 672), (0, 49_328), (1, 1_175), (1, 1_176), (1, 1_177), (2, 671), (2, 672)];
         let more = [(2, 0), (2, 576), (2, 49_328), (2, 49_329), (2, 50_000), (2, u32::MAX)];

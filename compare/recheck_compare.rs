@@ -41,7 +41,7 @@ use recheck_calls::{receive, send, send_flush};
 use recheck_cases::{batch, is_refused, Before, Case, BATCH};
 use recheck_seen::{edges, impossible, seen, BEFORE_NO_LEG};
 use recheck_wrong::{all, Wrong};
-use report::{begin, found_in, never_seen, run_with_arguments, tell, tell_caught, tell_seen, Calls, First, Hunt};
+use report::{found_in, never_seen, run_with_arguments, tell, tell_caught, tell_seen, Calls, First, Hunt, Run};
 use std::collections::BTreeMap;
 use std::sync::Mutex;
 
@@ -215,23 +215,22 @@ fn results() -> Vec<u32> {
 
 /// Makes the calls on so many tables, or a few more, with the command of a driver. Says whether all is well.
 fn run(seed: u64, wanted: u64, driver: &[String]) -> bool {
-    let batches = begin(seed, wanted, "tables", BATCH);
     let wrong = all();
     let (calls, caught_by_whole) = (Calls::new(wrong.len()), vec![None; wrong.len()]);
     let nothing = Found { calls, caught_by_whole, ..Found::default() };
-    let found = found_in(batches, driver, nothing, |number, driver, found| {
+    let run = Run { seed, wanted, what: "tables", size: BATCH, driver };
+    let (found, tables) = found_in(&run, nothing, |number, driver, found| {
         compare(number, &wrong, &batch(seed, number), driver, found);
     });
     let spoilers = not_caught(driver, &SPOILED, &batch(1, 0), answers, difference);
-    report(&wrong, &found, batches * BATCH as u64, &spoilers)
+    report(&wrong, &found, tables, &spoilers)
 }
 
 /// Whether the plain rechecker gives what one counts by hand on Plan A with leg 2 at 672, which is accepted. Stream 0 has
 /// legs 0 and 1, stream 1 has leg 2. For leg 0 the places are (0,0) to (0,2), (1,1), (1,2), (1,3) and (2,3); for leg 1
 /// (1,0) to (1,3) and (2,4); for leg 2 its own five.
 fn keeps_the_examples() -> bool {
-    let mut plan = drafts::plan_a();
-    plan.legs[2].offset = 672;
+    let plan = drafts::accepted_a();
     let given = |leg: usize, offset: u32| {
         let mut moved = plan.clone();
         moved.legs[leg].offset = offset;

@@ -103,24 +103,24 @@ pub fn run_with_arguments(usage: &str, run: fn(u64, u64, &[String]) -> bool) -> 
     })
 }
 
-/// Says what is run, with whole batches of a size, and gives how many batches these are.
-pub fn begin(seed: u64, wanted: u64, what: &str, size: usize) -> u64 {
-    let size = size as u64;
-    let batches = (wanted + size - 1) / size;
-    println!("seed {}, {} {} in batches of {}", seed, batches * size, what, size);
-    batches
+/// What a run compares: so many of a kind that are wanted, in whole batches of a size, with the command of a driver.
+pub struct Run<'a> {
+    pub seed: u64,
+    pub wanted: u64,
+    pub what: &'a str,
+    pub size: usize,
+    pub driver: &'a [String],
 }
 
-/// Compares so many batches, each by its number, and gives what was found in them.
-pub fn found_in<F: Send>(
-    batches: u64,
-    driver: &[String],
-    nothing: F,
-    compare: impl Fn(u64, &mut Driver, &Mutex<F>) + Sync,
-) -> F {
+/// Compares the batches of a run, each by its number. Gives what was found in them, and how many of a kind they had.
+pub fn found_in<F: Send>(run: &Run, nothing: F, compare: impl Fn(u64, &mut Driver, &Mutex<F>) + Sync) -> (F, u64) {
+    let Run { seed, wanted, what, driver, .. } = *run;
+    let size = run.size as u64;
+    let batches = (wanted + size - 1) / size;
+    println!("seed {}, {} {} in batches of {}", seed, batches * size, what, size);
     let found = Mutex::new(nothing);
     in_batches(driver, batches, |driver, number| compare(number, driver, &found));
-    found.into_inner().expect("no thread failed")
+    (found.into_inner().expect("no thread failed"), batches * size)
 }
 
 pub fn tell(lines: &[String]) {
