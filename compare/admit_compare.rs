@@ -43,7 +43,9 @@ use paper::{
     ABOVE_LIMIT, BAD_FORM, ENDS_EARLY, LAST_REVISION, LEFT_OVER, LEG_WRONG, LINK_RANGE, LINK_TWICE, NOTHING_VIOLATED,
     NO_ROOM, REFUSED, STREAM_WRONG,
 };
-use report::{found_in, never_seen, run_with_arguments, tell, tell_caught, tell_seen, Calls, Hunt, Run};
+use report::{
+    both_sides, found_in, hex, never_seen, run_with_arguments, tell, tell_caught, tell_seen, Calls, Hunt, Run,
+};
 use std::collections::BTreeMap;
 use std::sync::{Arc, Mutex};
 
@@ -87,10 +89,6 @@ fn kind(call: &Call) -> &'static str {
     }
 }
 
-fn hex(bytes: &[u8]) -> String {
-    bytes.iter().take(600).map(|byte| format!("{:02X}", byte)).collect::<Vec<_>>().join(" ")
-}
-
 fn told(Answer { result, number, offset, new_plan }: &Answer) -> String {
     format!("result {} number {} offset {} new plan [{}]", result, number, offset, hex(new_plan))
 }
@@ -108,16 +106,8 @@ fn answers(driver: &mut Driver, cases: &[Case]) -> Vec<(Answer, Vec<String>)> {
 /// Says how the proved call differs from the plain one, if it does.
 fn difference(case: &Case, answered: &Answer, changed: &[String]) -> Option<String> {
     let Case { call, expected, .. } = case;
-    if answered == expected && changed.is_empty() {
-        return None;
-    }
-    Some(format!(
-        "DIFFERENCE: {}\n    proved: {}\n    plain:  {}\n    {}",
-        described(call),
-        told(answered),
-        told(expected),
-        changed.join(", ")
-    ))
+    let differs = answered != expected || !changed.is_empty();
+    differs.then(|| both_sides(described(call), told(answered), told(expected), changed))
 }
 
 /// Says where pieces, one after the other, give something else than the whole: the first that gives more than 'none yet'.

@@ -8,7 +8,7 @@ use crate::paper::{
     ABOVE_LIMIT, BAD_FORM, ENDS_EARLY, GRANTED, LAST_REVISION, LEFT_OVER, LEG_WRONG, LINK_RANGE, LINK_TWICE, NO_LEG,
     NO_PLACE, NO_ROOM, PAUSED, REFUSED, RULES, STALE, STREAM_WRONG, TOO_LATE,
 };
-use crate::report::{found_in, never_seen, tell, tell_seen, Calls, First, Hunt, Run};
+use crate::report::{found_in, hex, never_seen, tell, tell_seen, Calls, First, Hunt, Run};
 use crate::wrong::{all, Wrong};
 use std::collections::BTreeMap;
 use std::sync::Mutex;
@@ -35,11 +35,6 @@ struct Found {
     pairs_laid_out: u64,
     /// How often each call gave each result.
     seen: BTreeMap<(Kind, u32), u64>,
-}
-
-fn hex(bytes: &[u8]) -> String {
-    let shown: Vec<String> = bytes.iter().take(600).map(|byte| format!("{:02X}", byte)).collect();
-    format!("{}{}", shown.join(" "), if bytes.len() > 600 { " ..." } else { "" })
 }
 
 fn told(answer: &Answer) -> String {

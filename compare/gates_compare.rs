@@ -44,7 +44,9 @@ use gates_quick::quick;
 use gates_seen::{edges, seen, AFTER_SHAPE, OF_SHAPE};
 use gates_wrong::{all, Wrong};
 use paper::{BAD_FORM, ENDS_EARLY, GRANTED, NO_ROOM, REFUSED};
-use report::{found_in, never_seen, run_with_arguments, tell, tell_caught, tell_seen, Calls, Hunt, Run};
+use report::{
+    both_sides, found_in, hex, never_seen, run_with_arguments, tell, tell_caught, tell_seen, Calls, Hunt, Run,
+};
 use rules::Sent;
 use std::collections::BTreeMap;
 use std::sync::Mutex;
@@ -86,10 +88,6 @@ fn kind(call: &Call) -> &'static str {
     }
 }
 
-fn hex(bytes: &[u8]) -> String {
-    bytes.iter().take(600).map(|byte| format!("{:02X}", byte)).collect::<Vec<_>>().join(" ")
-}
-
 fn told(Answer { result, number, list, words }: &Answer) -> String {
     let words: Vec<u32> = words.iter().take(100).copied().collect();
     format!("result {} number {} list [{}] words {:?}", result, number, hex(list), words)
@@ -108,16 +106,8 @@ fn answers(driver: &mut Driver, cases: &[Case]) -> Vec<(Answer, Vec<String>)> {
 /// Says how the proved call differs from the plain one, if it does.
 fn difference(case: &Case, answered: &Answer, changed: &[String]) -> Option<String> {
     let Case { call, expected, .. } = case;
-    if answered == expected && changed.is_empty() {
-        return None;
-    }
-    Some(format!(
-        "DIFFERENCE: {}\n    proved: {}\n    plain:  {}\n    {}",
-        described(call),
-        told(answered),
-        told(expected),
-        changed.join(", ")
-    ))
+    let differs = answered != expected || !changed.is_empty();
+    differs.then(|| both_sides(described(call), told(answered), told(expected), changed))
 }
 
 /// Says how the teller by holds differs from the plain one, if it does.

@@ -26,7 +26,7 @@ use network::{
 use network_calls::{receive, send, send_flush};
 use network_cases::{batch, Case, BATCH};
 use network_wrong::{all, Wrong};
-use report::{found_in, never_seen, run_with_arguments, tell, tell_caught, tell_seen, Calls, Hunt, Run};
+use report::{both_sides, found_in, never_seen, run_with_arguments, tell, tell_caught, tell_seen, Calls, Hunt, Run};
 use std::collections::BTreeMap;
 use std::sync::{Arc, Mutex};
 
@@ -70,16 +70,8 @@ fn answers(driver: &mut Driver, cases: &[Case]) -> Vec<(Answer, Vec<String>)> {
 /// Says how the proved call differs from the plain one, if it does. A chain of the plain one has to be right, too.
 fn difference(case: &Case, answered: &Answer, changed: &[String]) -> Option<String> {
     let Case { call, expected } = case;
-    if is_right(call, expected, expected) && is_right(call, expected, answered) && changed.is_empty() {
-        return None;
-    }
-    Some(format!(
-        "DIFFERENCE: {}\n    proved: {}\n    plain:  {}\n    {}",
-        shortened(format!("{:?}", call)),
-        told(answered),
-        told(expected),
-        changed.join(", ")
-    ))
+    let is_well = is_right(call, expected, expected) && is_right(call, expected, answered) && changed.is_empty();
+    (!is_well).then(|| both_sides(shortened(format!("{:?}", call)), told(answered), told(expected), changed))
 }
 
 /// Whether the third opinion was asked of a network.

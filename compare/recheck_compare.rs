@@ -41,7 +41,9 @@ use recheck_calls::{receive, send, send_flush};
 use recheck_cases::{batch, is_refused, Before, Case, BATCH};
 use recheck_seen::{edges, impossible, seen, BEFORE_NO_LEG};
 use recheck_wrong::{all, Wrong};
-use report::{found_in, never_seen, run_with_arguments, tell, tell_caught, tell_seen, Calls, First, Hunt, Run};
+use report::{
+    both_sides, found_in, never_seen, run_with_arguments, tell, tell_caught, tell_seen, Calls, First, Hunt, Run,
+};
 use std::collections::BTreeMap;
 use std::sync::Mutex;
 
@@ -90,16 +92,8 @@ fn answers(driver: &mut Driver, cases: &[Case]) -> Vec<(Answer, Vec<String>)> {
 
 /// Says how the proved call differs from the plain one, if it does.
 fn difference(case: &Case, answered: &Answer, changed: &[String]) -> Option<String> {
-    if *answered == case.expected && changed.is_empty() {
-        return None;
-    }
-    Some(format!(
-        "DIFFERENCE: {}\n    proved: {}\n    plain:  {}\n    {}",
-        described(case),
-        told(answered),
-        told(&case.expected),
-        changed.join(", ")
-    ))
+    let differs = *answered != case.expected || !changed.is_empty();
+    differs.then(|| both_sides(described(case), told(answered), told(&case.expected), changed))
 }
 
 /// Says how the proved call differs from a whole check, where it may not. If the table before was accepted, the verdicts are

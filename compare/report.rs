@@ -123,6 +123,17 @@ pub fn found_in<F: Send>(run: &Run, nothing: F, compare: impl Fn(u64, &mut Drive
     (found.into_inner().expect("no thread failed"), batches * size)
 }
 
+/// Bytes, as a report shows them: the first ones.
+pub fn hex(bytes: &[u8]) -> String {
+    let shown: Vec<String> = bytes.iter().take(600).map(|byte| format!("{:02X}", byte)).collect();
+    format!("{}{}", shown.join(" "), if bytes.len() > 600 { " ..." } else { "" })
+}
+
+/// Says how the two sides answer a call, and what no call may change and yet was changed.
+pub fn both_sides(call: String, proved: String, plain: String, changed: &[String]) -> String {
+    format!("DIFFERENCE: {}\n    proved: {}\n    plain:  {}\n    {}", call, proved, plain, changed.join(", "))
+}
+
 pub fn tell(lines: &[String]) {
     for line in lines {
         println!("{}", line);
