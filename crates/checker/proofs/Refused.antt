@@ -25,7 +25,7 @@ move-of-table t c mv k p (inr (a, inr (b, inr (d, x)))) = largest-of-table (x .0
 
 -- Of a table of the right size.
 pub slice-refused : (t : List ℕ) (c : Cursor) (k p : ℕ) → Sized t → CursorFault t c k p → badLink ≤ k
-slice-refused t c k p z (inl f) = sized-refused t k p z f
+slice-refused t c k p z (inl f) = sized-refused t k p z f .0
 slice-refused t c k p z (inr (a, inl x)) = omega (arith, x .0)
 slice-refused t c k p z (inr (a, inr (b, x))) = omega (arith, x .0)
 

@@ -7,23 +7,14 @@ use lib.ListN.{length}
 use native.Mathlib.Omega.{arith}
 use Rattle.numbers.specs.Number.{noRoom}
 use Rattle.numbers.proofs.Rows.{file-length}
-use Rattle.shape.specs.Shape.{badLeg, ShapeFault}
+use Rattle.shape.specs.Shape.{badLeg}
+use Rattle.shape.proofs.Refused.{shape-refused}
 use Rattle.checker.specs.Accepted.{notAccepted}
 use Rattle.gate_lists.specs.Lists.{noLink, FewPairs, HasRoom, mayListRefusals, listRefusals}
 use Rattle.gate_lists.specs.Theorems.{GateListRefusal, GateListRefusalsAreThese, OneTestForAll, maxListBytes, ListRoomIsEnough}
 
-shape-refused-so : (t : List ℕ) (k p : ℕ) → ShapeFault t k p → (1 ≤ k) × (k ≤ 7)
-shape-refused-so t k p (inl (inl x)) = (omega (arith, x .0), omega (arith, x .0))
-shape-refused-so t k p (inl (inr (a, inl x))) = (omega (arith, x .0), omega (arith, x .0))
-shape-refused-so t k p (inl (inr (a, inr (b, x)))) = (omega (arith, x .0), omega (arith, x .0))
-shape-refused-so t k p (inr (z, inl x)) = (omega (arith, x .0), omega (arith, x .0))
-shape-refused-so t k p (inr (z, inr (a, inl x))) = (omega (arith, x .0), omega (arith, x .0))
-shape-refused-so t k p (inr (z, inr (a, inr (b, inl x)))) = (omega (arith, x .0), omega (arith, x .0))
-shape-refused-so t k p (inr (z, inr (a, inr (b, inr (c, inl x))))) = (omega (arith, x .0), omega (arith, x .0))
-shape-refused-so t k p (inr (z, inr (a, inr (b, inr (c, inr (d, x)))))) = (omega (arith, x .0), omega (arith, x .0))
-
 pub list-refused-so : (t : List ℕ) (l room k p : ℕ) → listRefusals t l room .Fault k p → GateListRefusal k p
-list-refused-so t l room k p (inl (inl x)) = record { which = inl (shape-refused-so t k p x) }
+list-refused-so t l room k p (inl (inl x)) = record { which = inl (shape-refused t k p x) }
 list-refused-so t l room k p (inl (inr (s, inl x))) = record { which = inr (inl (x .0), x .1) }
 list-refused-so t l room k p (inl (inr (s, inr (h, x)))) = record { which = inr (inr (inl (x .0)), x .1) }
 list-refused-so t l room k p (inr (m, inl (inl x))) = record { which = inr (inr (inr (inl (x .0))), x .1) }
@@ -38,7 +29,7 @@ one-test-for-all t l m may h = record { shape = may .shape; link = h; rules = ma
 
 -- The refusals before the list is looked at have other numbers than those after.
 pub not-before : (t : List ℕ) (l k p : ℕ) → badLeg < k → (k ≡ noLink → ⊥) → (k ≡ notAccepted → ⊥) → mayListRefusals t l .Fault k p → ⊥
-not-before t l k p a b c (inl x) = omega (arith, shape-refused-so t k p x .1)
+not-before t l k p a b c (inl x) = omega (arith, shape-refused t k p x .1)
 not-before t l k p a b c (inr (s, inl x)) = b (x .0)
 not-before t l k p a b c (inr (s, inr (h, x))) = c (x .0)
 

@@ -8,3 +8,4 @@ pub mod Cycles
 pub mod Alone
 pub mod Showing
 pub mod Existing
+pub mod AtNumbers

@@ -3,3 +3,4 @@ pub mod Pairs
 pub mod Cycle
 pub mod Steps
 pub mod Theorems
+pub mod AtNumbers

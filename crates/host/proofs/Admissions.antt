@@ -9,13 +9,12 @@ use lib.ListN.{length}
 use Rattle.numbers.specs.Number.{maxNumberBytes, bytesEnd, noRoom}
 use Rattle.table.specs.Layout.{Sized}
 use Rattle.table.specs.Size.{aboveLimit}
-use Rattle.table.proofs.Sizes.{size-one}
 use Rattle.files.specs.Reading.{leftOver, IsFile}
 use Rattle.files.specs.Plan.{PlanFault}
 use Rattle.files.specs.Theorems.{maxFileBytes}
 use Rattle.files.proofs.OneAnswer.{plan-fault-one, file-no-fault, same-file}
 use Rattle.files.proofs.Refused.{plan-refused}
-use Rattle.shape.specs.Shape.{ShapeFault}
+use Rattle.shape.proofs.Refused.{sized-refused}
 use Rattle.enlarge.specs.Enlarged.{enlargedWords}
 use Rattle.enlarge.specs.declared.Wanted.{Wanted}
 use Rattle.admission.specs.Admits.{earlyRefusals, WholeTold, PieceTold}
@@ -79,21 +78,12 @@ piece-keeps plan w route from until file a file′ (inr (t, f, x)) h = given-kee
 pub host-admissions-write-nothing : HostAdmissionsWriteNothing
 host-admissions-write-nothing = record { whole = whole-keeps; between = piece-keeps }
 
--- With which numbers a table is refused, and an admission to it. Not with those of the plan file.
-pub shape-refusal : (t : List ℕ) (k p : ℕ) → Sized t → ShapeFault t k p → (4 ≤ k) × (k ≤ 7)
-shape-refusal t k p z (inl x) = absurd (size-one t .none z x)
-shape-refusal t k p z (inr (a, inl x)) = (omega (arith, x .0), omega (arith, x .0))
-shape-refusal t k p z (inr (a, inr (b, inl x))) = (omega (arith, x .0), omega (arith, x .0))
-shape-refusal t k p z (inr (a, inr (b, inr (c, inl x)))) = (omega (arith, x .0), omega (arith, x .0))
-shape-refusal t k p z (inr (a, inr (b, inr (c, inr (d, inl x))))) = (omega (arith, x .0), omega (arith, x .0))
-shape-refusal t k p z (inr (a, inr (b, inr (c, inr (d, inr (e, x)))))) = (omega (arith, x .0), omega (arith, x .0))
-
--- 4 to 7; 11; 15; or 18 to 20.
+-- With which numbers an admission to a table of the right size is refused, and not with those of the plan file: 4 to 7; 11; 15; or 18 to 20.
 abbrev OfAdmission : ℕ → Type 0
 OfAdmission k = ((4 ≤ k) × (k ≤ 7)) ⊎ ((k ≡ 11) ⊎ ((k ≡ noRoom) ⊎ ((18 ≤ k) × (k ≤ 20))))
 
 early-refusal : (t : List ℕ) (w : Wanted) (route : List ℕ) (room k p : ℕ) → Sized t → earlyRefusals t w route room .Fault k p → OfAdmission k
-early-refusal t w route room k p z (inl f) = inl (shape-refusal t k p z f)
+early-refusal t w route room k p z (inl f) = inl (sized-refused t k p z f)
 early-refusal t w route room k p z (inr (s, inl f)) = inr (inl (f .0))
 early-refusal t w route room k p z (inr (s, inr (r, inl f))) = inr (inr (inr (omega (arith, f .0), omega (arith, f .0))))
 early-refusal t w route room k p z (inr (s, inr (r, inr (c, inl f)))) = inr (inr (inl (f .0)))
@@ -162,7 +152,7 @@ five-bytes file n = (λ h. omega arith, λ h. omega arith)
 -- 15 is told only where the stream can be added and there is no room for its words.
 early-room : (t : List ℕ) (w : Wanted) (route : List ℕ) (room k p : ℕ) → Sized t → (enlargedWords t route ≤ room) ⊎ (maxFileBytes ≤ maxNumberBytes * room)
     → k ≡ noRoom → earlyRefusals t w route room .Fault k p → ⊥
-early-room t w route room k p z enough e (inl f) = omega (arith, shape-refusal t k p z f .1)
+early-room t w route room k p z enough e (inl f) = omega (arith, sized-refused t k p z f .1)
 early-room t w route room k p z enough e (inr (s, inl f)) = omega (arith, f .0)
 early-room t w route room k p z enough e (inr (s, inr (r, inl f))) = omega (arith, f .0)
 early-room t w route room k p z (inl enough) e (inr (s, inr (r, inr (c, inl f)))) = f .2 enough

@@ -16,6 +16,7 @@ use Rattle.files.specs.Reading.{leftOver, IsFile}
 use Rattle.files.specs.Plan.{PlanFault}
 use Rattle.files.proofs.Refused.{plan-refused}
 use Rattle.shape.specs.Shape.{ShapeFault}
+use Rattle.shape.proofs.Refused.{sized-refused}
 use Rattle.gates.specs.Pairs.{maxPairs}
 use Rattle.gate_files.specs.ListFiles.{ReadsList}
 use Rattle.gate_files.specs.declared.ListRead.{ListRead}
@@ -35,7 +36,6 @@ use Rattle.host.specs.GateLists.{gatesAnswered, ListsGates, HostListsGat
 use Rattle.host.specs.GateTheorems.{HostGatesOneAnswer, HostReadGatesOneAnswer, HostGateRefusalsWriteNothing, PlanFaultsBeforeGates, GateRoomIsEnough, HostListsComeBack, GateRefusal, TellsGateRefusal, GateResultsAreThese, GatesOfThePaper}
 use Rattle.host.proofs.OneAnswer.{after-plan-one}
 use Rattle.host.proofs.Outcomes.{after-plan-keeps, first-fault}
-use Rattle.host.proofs.Admissions.{shape-refusal}
 use Rattle.host.proofs.Listing.{in-word-small, in-word-large, OfList, list-cause, written-few}
 
 -- One answer.
@@ -77,7 +77,7 @@ OfTable k = ((4 ≤ k) × (k ≤ 7)) ⊎ OfList k
 
 table-refusal : (t : List ℕ) (l room k p : ℕ) → Sized t → listRefusals t l room .Fault k p → OfTable k
 table-refusal t l room k p z f =
-    ⊎-elim (λ (g : ShapeFault t k p). inl (shape-refusal t k p z g)) (λ (x : OfList k × (p ≡ 0)). inr (x .0)) (list-cause t l room k p f)
+    ⊎-elim (λ (g : ShapeFault t k p). inl (sized-refused t k p z g)) (λ (x : OfList k × (p ≡ 0)). inr (x .0)) (list-cause t l room k p f)
 
 abbrev OfFile : ℕ → Type 0
 OfFile k = (k ≡ 2) ⊎ ((12 ≤ k) × (k ≤ 14))

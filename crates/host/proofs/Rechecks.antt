@@ -11,6 +11,7 @@ use Rattle.files.specs.Reading.{leftOver}
 use Rattle.files.specs.Plan.{PlanFault}
 use Rattle.files.proofs.OneAnswer.{plan-fault-one, file-no-fault, same-file}
 use Rattle.files.proofs.Refused.{plan-refused}
+use Rattle.shape.proofs.Refused.{sized-refused}
 use Rattle.rules.specs.declared.Rule.{Rule}
 use Rattle.rules.specs.declared.Rule.the-variants as rule
 use Rattle.recheck.specs.Rechecks.{recheckRefusals, Rechecks}
@@ -21,7 +22,6 @@ use Rattle.host.specs.declared.late_move.RecheckedAnswer.{RecheckedAnswe
 use Rattle.host.specs.Answers.{refusedResult, ruleResult}
 use Rattle.host.specs.Rechecks.{unrechecked, recheckAnswered, RechecksTable, HostRechecks}
 use Rattle.host.specs.RecheckTheorems.{HostRecheckOneAnswer, PlanFaultsBeforeRechecks, RecheckRefusal, TellsRecheckRefusal, RecheckResultsAreThese, RechecksOfThePaper}
-use Rattle.host.proofs.Admissions.{shape-refusal}
 
 abbrev result-of : RecheckedAnswer → ℕ
 result-of a = a .result
@@ -45,7 +45,7 @@ abbrev OfLeg : ℕ → Type 0
 OfLeg k = ((4 ≤ k) × (k ≤ 7)) ⊎ (k ≡ 10)
 
 leg-refusal : (t : List ℕ) (m k p : ℕ) → Sized t → recheckRefusals t m .Fault k p → OfLeg k
-leg-refusal t m k p z (inl f) = inl (shape-refusal t k p z f)
+leg-refusal t m k p z (inl f) = inl (sized-refused t k p z f)
 leg-refusal t m k p z (inr (s, f)) = inr (f .0)
 
 abbrev OfFile : ℕ → Type 0

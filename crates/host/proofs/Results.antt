@@ -46,7 +46,7 @@ of-the-plan a k p e (inr x) = refused a k p e (omega (arith, x .0)) (up-to-room 
 -- The calls on a table that was read.
 start-results : (t : List ℕ) (n : ℕ) (g : Grant) (a : Answer) → Sized t → Starts t g → a ≡ startAnswered n g → (a .result ≡ 0) ⊎ IsRefusal (a .result)
 start-results t n (grant.Granted d) a z s e = inl (ap resultAlone e)
-start-results t n (grant.Refused k p d) a z s e = inr (refused a k p e (sized-refused t k p z (s .0)) (shape-of-table t k p (s .0) .number))
+start-results t n (grant.Refused k p d) a z s e = inr (refused a k p e (sized-refused t k p z (s .0) .0) (shape-of-table t k p (s .0) .number))
 
 rule-results : (x : Rule) → SliceResult (ruleResult x)
 rule-results rule.Window = omega arith

@@ -35,11 +35,18 @@ shape-of-table t k p (inr (z, inr (a, inr (b, inr (c, inl x))))) =
 shape-of-table t k p (inr (z, inr (a, inr (b, inr (c, inr (d, x)))))) =
     of-table badLeg (omega arith) (λ h. omega (arith, h)) (x .0) (omega (arith, x .1 .inside, z .limits .legs))
 
--- A table of the right size is refused with 4 or a number above it, since 1 to 3 are of its size.
-pub sized-refused : (t : List ℕ) (k p : ℕ) → Sized t → ShapeFault t k p → badLink ≤ k
+-- A table of the right size is refused with 4 to 7, since 1 to 3 are of its size.
+pub sized-refused : (t : List ℕ) (k p : ℕ) → Sized t → ShapeFault t k p → (badLink ≤ k) × (k ≤ badLeg)
 sized-refused t k p z (inl x) = absurd (size-one t .none z x)
-sized-refused t k p z (inr (a, inl x)) = omega (arith, x .0)
-sized-refused t k p z (inr (a, inr (b, inl x))) = omega (arith, x .0)
-sized-refused t k p z (inr (a, inr (b, inr (c, inl x)))) = omega (arith, x .0)
-sized-refused t k p z (inr (a, inr (b, inr (c, inr (d, inl x))))) = omega (arith, x .0)
-sized-refused t k p z (inr (a, inr (b, inr (c, inr (d, inr (e, x)))))) = omega (arith, x .0)
+sized-refused t k p z (inr (a, inl x)) = (omega (arith, x .0), omega (arith, x .0))
+sized-refused t k p z (inr (a, inr (b, inl x))) = (omega (arith, x .0), omega (arith, x .0))
+sized-refused t k p z (inr (a, inr (b, inr (c, inl x)))) = (omega (arith, x .0), omega (arith, x .0))
+sized-refused t k p z (inr (a, inr (b, inr (c, inr (d, inl x))))) = (omega (arith, x .0), omega (arith, x .0))
+sized-refused t k p z (inr (a, inr (b, inr (c, inr (d, inr (e, x)))))) = (omega (arith, x .0), omega (arith, x .0))
+
+-- And any table with 1 to 7.
+pub shape-refused : (t : List ℕ) (k p : ℕ) → ShapeFault t k p → (noHeader ≤ k) × (k ≤ badLeg)
+shape-refused t k p (inl (inl x)) = (omega (arith, x .0), omega (arith, x .0))
+shape-refused t k p (inl (inr (a, inl x))) = (omega (arith, x .0), omega (arith, x .0))
+shape-refused t k p (inl (inr (a, inr (b, x)))) = (omega (arith, x .0), omega (arith, x .0))
+shape-refused t k p (inr (z, x)) = let r = sized-refused t k p z (inr (z, x)) in (omega (arith, r .0), r .1)
