@@ -9,6 +9,7 @@ pub mod Existing
 pub mod Meaning
 pub mod Stretches
 pub mod TwoSlots
+pub mod ManyPairs
 pub mod ShortFrames
 pub mod LikeA
 pub mod RulesLikeA

@@ -3,13 +3,13 @@ use Prim.Native.Nat.{ℕ, _≤_, _<_}
 use mathlib.Core.Path.{refl}
 use mathlib.Core.List.{[], _∷_}
 use mathlib.Core.Logic.{⊎-elim}
-use native.Mathlib.Nat.{dvd-sub, dvd-mul-left-of-dvd, le-of-dvd}
+use native.Mathlib.Nat.{dvd-sub, dvd-mul-left-of-dvd}
 use native.Mathlib.Omega.{arith}
 use Rattle.basics.proofs.Splits.{lt-or-ge}
 use Rattle.overlap.specs.Divisor.{IsGcd}
 use Rattle.overlap.proofs.Law.{shared-instant}
 use Rattle.rules.specs.Rules.{RulesHold}
-use Rattle.gates.proofs.Cycles.{lcm-is}
+use Rattle.gates.proofs.Cycles.{lcm-is, one-cycle}
 use Rattle.gate_lists.specs.GateList.{SlotOn, CycleOf, RightMask, IsGateList, with-legs}
 use Rattle.gate_lists.specs.Lists.{MayList, ShortCycle}
 use Rattle.gate_lists.specs.AtNumbers.{withPeriods, secondA, justPastA}
@@ -56,14 +56,14 @@ divisor = record {
 pub may-past : MayList justPastA 0
 may-past = rules-like.may-list 76923077 19019 0 1463 divisor (omega arith) (omega arith, omega arith) (omega arith, omega arith) 0 (omega arith)
 
-past : Two (SlotOn justPastA 0) (slot 0 76923077) (slot 672 19019)
+pub past : Two (SlotOn justPastA 0) (slot 0 76923077) (slot 672 19019)
 past = like.link-0 76923077 19019 0 672
 
+pub cycle-past : CycleOf justPastA 0 1000000001
+cycle-past = let lcm = lcm-is 76923077 19019 1463 (omega arith) (omega arith) divisor in cycle-is past 1000000001 (omega arith) (lcm .left) (lcm .right) (lcm .least)
+
 pub not-short : ShortCycle justPastA 0 → ⊥
-not-short s =
-    let common = s .is .common .divides in
-    let d = lcm-is 76923077 19019 1463 (omega arith) (omega arith) divisor .least (s .cycle) (common _ (past .first)) (common _ (past .second)) in
-    omega (arith, s .short, le-of-dvd (s .is .positive) d)
+not-short s = omega (arith, s .short, one-cycle (SlotOn justPastA 0) (s .cycle) 1000000001 (s .is) cycle-past)
 
 -- With leg 2 at 0, legs 0 and 2 hold link 0 at instant 0.
 pub not-accepted : (p q : ℕ) → RulesHold (withPeriods p q 0) → ⊥
