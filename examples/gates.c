@@ -93,5 +93,5 @@ int main(int count, char **arguments)
         return fail("read the plan", arguments[2]);
     plan_len = (size_t)length;
     int status = print_all();
-    return fflush(stdout) == EOF ? fail("write to", "standard output") : status;
+    return fflush(stdout) == EOF || ferror(stdout) ? fail("write to", "standard output") : status;
 }

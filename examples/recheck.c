@@ -159,5 +159,5 @@ int main(int count, char **words)
             read_number(words[i + n], &numbers[n]);
         status = try_move(numbers[0], numbers[1], numbers[2]);
     }
-    return fflush(stdout) == EOF ? fail("write to", "standard output") : status;
+    return fflush(stdout) == EOF || ferror(stdout) ? fail("write to", "standard output") : status;
 }

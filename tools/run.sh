@@ -323,40 +323,43 @@ find_new() { # PATH
     [[ -n $path ]] || stop "the new file is a path, and it is empty"
     [[ $path == /* ]] || path=$from/$path
     [[ ! -e $path && ! -L $path ]] || stop "$1 is there already, and is never replaced: give the new file another name"
+    [[ $path != */ ]] || stop "$1 ends with a slash, but the new file is no folder"
     cursor=$(real_path "$1") || stop "cannot find the folder of the new file $1"
     cursor=${cursor%$'\n.'}
     stop_at_kept_name "$cursor"
 }
 
-# Whether there is no file in a folder, if that is there.
-is_empty() ( # FOLDER
-    shopt -s nullglob dotglob
-    set -- "$1"/*
-    (($# == 0))
-)
-
-# The same for a folder. One that is there already has to be empty.
+# The same for a folder, whose name may end with slashes.
 find_new_folder() { # PATH
     local path=$1
     [[ -n $path ]] || stop "the new folder is a path, and it is empty"
     [[ $path == /* ]] || path=$from/$path
-    [[ -d $path || ! -e $path && ! -L ${path%/} ]] || stop "$1 is there already, and is no folder: give the new folder another name"
-    cursor=$(real_path "$1") || stop "cannot find the folder of the new folder $1"
+    while [[ $path == */ ]]; do path=${path%/}; done
+    [[ ! -e $path/ && ! -e $path && ! -L $path ]] || stop "$1 is there already, and is never replaced: give the new folder another name"
+    cursor=$(real_path "$path") || stop "cannot find the folder of the new folder $1"
     cursor=${cursor%$'\n.'}
     stop_at_kept_name "$cursor"
-    is_empty "$cursor" || stop "the folder $1 is not empty, and nothing in it is replaced: give the new folder another name"
 }
 
-# Finds the plan file that is read, $plan, and the new file, or what FIND finds, and holds their folders.
-hold_old_and_new() { # PLAN NEW [FIND]
-    local file find=${3-find_new}
+# Finds the plan file that is read, $plan, and what is new, by FIND.
+find_old_and_new() { # PLAN NEW FIND
+    local file
     find_input "plan file" "$1"
     [[ -f $file ]] || stop "$1 is not a file"
     plan=$(real_path "$1") || stop "cannot find the plan file $1"
     plan=${plan%$'\n.'}
-    "$find" "$2"
+    "$3" "$2"
+}
+
+# The same for a new file, or for what FIND finds, and holds their folders. Where a name leads elsewhere by then, nothing is written.
+hold_old_and_new() { # PLAN NEW [FIND]
+    local find=${3-find_new} found_plan found_new
+    find_old_and_new "$1" "$2" "$find"
+    found_plan=$plan found_new=$cursor
     hold
-    "$find" "$2"
+    find_old_and_new "$1" "$2" "$find"
+    [[ $plan == "$found_plan" ]] || stop "the plan $1 led to $found_plan and leads to $plan now: nothing was written. Give the plan that is meant"
+    [[ $cursor == "$found_new" ]] || stop "the name $2 led to $found_new and leads to $cursor now: nothing was written. Give the name that is meant"
 }
 
 # Converts a plan file. The layout of the old one is named, never guessed: there is one older layout so far.
@@ -552,32 +555,30 @@ drop_new() {
     fi
 }
 
-# Gives what was written beside its name, and brings that to the disk. A file is never replaced, and a folder only where it is empty.
+# Gives what was written beside its name, and brings that to the disk. Nothing is ever replaced.
 name_new() { # NEW
     local beside=$cursor.conepalhui-new
-    if [[ -d $beside ]]; then
-        sync -- "$beside" && mv -fT -- "$beside" "$cursor"
-    else
-        mv -nT -- "$beside" "$cursor" && [[ ! -e $beside ]]
-    fi || { drop_new; stop "$1 cannot be made, or is there already: nothing was written"; }
+    { [[ ! -d $beside ]] || sync -- "$beside"; } && mv -nT -- "$beside" "$cursor" && [[ ! -e $beside ]] || give_up "$1 cannot be made, or is there already: nothing was written"
     sync -- "${cursor%/*}/" || stop "$1 is there, and may not be on the disk yet"
 }
 
-# Asks the program export to write beside the new file or folder. Whatever stops it, nothing stays of that: signals are heard when it has ended.
+# Removes what was written so far, and ends: by the signal that came, if one did.
+give_up() { # SENTENCE
+    drop_new 2>/dev/null
+    [[ -z $signal ]] || { trap - $signal && kill -s $signal $$; }
+    stop "$1"
+}
+
+# Asks the program export to write beside the new file or folder. A signal that comes meanwhile is heard when the program has ended, and then nothing stays of what was written.
 consult_export() { # NEW WORD...
     local name signal=''
-    for name in HUP INT TERM; do trap "signal=$name" $name; done
     keep_private
-    drop_new || stop "cannot remove $cursor.conepalhui-new, and what is written has this name first"
-    [[ $2 != all ]] || mkdir -- "$cursor.conepalhui-new" || stop "cannot make the folder $cursor.conepalhui-new"
+    for name in HUP INT TERM; do trap "signal=$name" $name; done
+    drop_new || give_up "cannot remove $cursor.conepalhui-new, and what is written has this name first"
+    [[ $2 != all ]] || mkdir -- "$cursor.conepalhui-new" || give_up "cannot make the folder $cursor.conepalhui-new"
     wrote=$(run_program export "${@:2}" <"$plan" && printf .)
-    if take_status && ((status != 2)); then
-        name_new "$1"
-    else
-        drop_new
-        [[ -z $signal ]] || { trap - $signal && kill -s $signal $$; }
-        [[ -n $status ]] || stop "the program export gave no whole answer: nothing was written"
-    fi
+    [[ -z $signal ]] && take_status || give_up "the program export gave no whole answer: nothing was written"
+    if ((status == 2)); then drop_new; else name_new "$1"; fi
     trap - HUP INT TERM
 }
 
@@ -593,7 +594,7 @@ write_lists() { # PLAN NEW WORD...
         consult_export "$2" "${@:3}" "$cursor"
     fi
     release
-    printf '%s' "$wrote" || stop "cannot write to standard output"
+    printf '%s' "$wrote" | cat || stop "cannot write to standard output$( ((status == 2)) || printf %s ", but $2 is written, of the plan's revision ${wrote##* }")"
     read -r _ without all <<<"$why"
     [[ -z $without ]] || note "$without of $all links have no list, for the reasons above: $2 has the others"
     return $status

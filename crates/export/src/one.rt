@@ -55,6 +55,10 @@ fn print_for_tc(link: u32, words: &[u32], base: &[u8], device: &[u8]) {
         return;
     }
     why::cut_by_tc(link, words);
+    if taprio::sets_a_part(words, device) {
+        out::no_command();
+        return;
+    }
     out::for_tc(&bytes[0..n]);
 }
 
@@ -119,6 +123,10 @@ fn write_list(t: &[u32], link: u32, path: &[u8], words: &[u32], base: &[u8], dev
     why::empty(link, words);
     if 0 < base.len() {
         why::cut_by_tc(link, words);
+    }
+    if taprio::sets_a_part(words, device) {
+        out::no_command();
+        return;
     }
     write_bytes(t, link, path, words, &bytes[0..n]);
 }

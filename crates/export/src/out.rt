@@ -36,6 +36,11 @@ pub(crate) fn for_tc(bytes: &[u8]) {
     text(b"status 0\n");
 }
 
+// Internal: a list for which there is no command, since tc would set only its beginning.
+pub(crate) fn no_command() {
+    text(b"refused tc\nstatus 2\n");
+}
+
 // Internal: a plan that is not accepted, and its first violated place.
 pub(crate) fn not_accepted(at: Cursor, rule: Rule) {
     show::refused(NOT_ACCEPTED, 0);

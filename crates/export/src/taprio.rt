@@ -6,6 +6,14 @@ use crate::text::add_number;
 // Longer lists than this are cut off by tc, which says so and goes on: its message has 1,024 bytes (iproute2 6.1.0 to 7.3.0).
 pub(crate) const MOST_OF_TC: usize = 30;
 
+// Internal: whether a command for this device would set only the beginning of a list. Without a device there is no command.
+pub(crate) fn sets_a_part(words: &[u32], device: &[u8]) -> bool {
+    if device.len() == 0 {
+        return false;
+    }
+    MOST_OF_TC < words.len() / 2
+}
+
 // The end of a line, in a command and elsewhere.
 fn end_line(out: &mut [u8], n: usize, device: &[u8]) -> usize {
     if 0 < device.len() {
