@@ -399,17 +399,20 @@ conepalhui_admission conepalhui_admit_between(const uint8_t *plan, size_t plan_l
  * (crates/gate_lists/specs/Theorems.antt: GateListsRepeat). The last pair may have the mask of the first. A link that
  * no leg takes has an empty list: a file of 0 bytes, with result 0.
  *
- * WHAT THE SWITCH MUST DO BESIDES
+ * WHAT THE SWITCH MUST DO BESIDES (docs/OPERATIONS.md has more)
  *
- *   - The frames of the plan go into queue 7, and no others do.
+ *   - The frames of the plan go into queue 7, and no others do. A frame is in its queue when its gate opens.
+ *   - All ports count from one instant of the common clock. The clock precision of the plan is not in the list.
  *   - GUARD BANDS ARE NOT IN THE LIST: the other gates close at the very nanosecond at which gate 7 opens, and a frame
  *     of another queue that is still being sent then would delay the planned one. So the switch must begin no frame of
- *     another queue that cannot end, with the gap after it, before its gate closes; one that does not look at the
- *     lengths of frames has to shut those gates sooner, by the time that the longest of them takes.
+ *     another queue that cannot end, with the gap after it, before its gate closes, or it must be able to preempt such
+ *     a frame. Where it does neither, other traffic has to be taken off the link.
  *
  * Room: CONEPALHUI_LIST_BYTES are always enough. The list has at most 1,024 pairs.
  *
- * The call checks the whole plan first, as a start and slices of it do, for each link anew. It is no part of a run.
+ * The call checks the whole plan first, as a start and slices of it do, for each link anew, and on all plans of plans/ it
+ * takes hardly longer than that. A link that is held without a pause through a cycle of almost a second, by hundreds of
+ * legs, can take a second and more (docs/changes/L07.md). It is no part of a run.
  *
  * Result: 0 written, or 100 + refusal. Number: how many bytes the list file has, or the refusal's position. The
  * refusals in their order; those without a position are at 0:

@@ -284,25 +284,27 @@ numbered from 0, as 'words' prints them. Only an accepted plan has lists.
                                 each pair. A link without legs has 'pairs 0 cycle 0'
   gates PLAN LINK --out FILE    writes it to the new file FILE, in seven-bit numbers, and prints 'written link L pairs N cycle
                                 C bytes B revision R'. The list of a link without legs is an empty file
-  gates PLAN --all FOLDER       writes the lists of all links to FOLDER, which is new or empty: link-000.gates, link-001.gates
-                                and so on. It prints a line for each link, and 'written lists N of M revision R'
+  gates PLAN --all FOLDER       writes the lists of all links to the new folder FOLDER: link-000.gates, link-001.gates and
+                                so on. It prints a line for each link, and 'written lists N of M revision R'
   gates --read LIST             prints the pairs of a list file, of whatever make, as the first form does
 
   --as taprio                   with one of the first three: as the command tc of Linux takes a list, with hexadecimal masks,
                                 the words from 'base-time' on. Files are called link-000.taprio then. The list of a link
                                 without legs is no text at all
   --base-time NS                the list begins at NS, and not at 0
-  --dev NAME                    a whole command of tc, for the port NAME; not with --all
+  --dev NAME                    a whole command of tc, for the port NAME; not with --all. There is none for a list of more
+                                than 30 pairs, of which tc would set the beginning: 'refused tc'
 
-What is written is on the disk then. A FILE is never replaced, and whatever stops the command, neither FILE nor FOLDER is
+What is written is on the disk then. Nothing is ever replaced, and whatever stops the command, neither FILE nor FOLDER is
 there in part. Both are as private as PLAN. Folders are locked meanwhile ('help answers'), but not to print a list. With --all
 a long call says on standard error how far it is.
 
 'refused NUMBER AT' says that there is no list, and standard error says why: 23 there is no such link; 19 the plan is not
 accepted, and a second line has its first violated place; 21 the least common multiple of the periods on the link passes
 1000000000 ns; 22 the list would have more than 1024 pairs; others as 'check' says them. With --all, 21 and 22 stand in the
-line of the link, and the other lists are written; where there are none, nothing is. A list file is refused 12 where it ends
-too early, also in the middle of a pair, 13 for a number that is too long or too large, and 'long' above 65536 bytes.
+line of the link, and the other lists are written; if no link has a list, nothing is written. A list file is refused 12
+where it ends too early, also in the middle of a pair, 13 for a number that is too long or too large, and 'long' above
+65536 bytes.
 
 Exit status: 0 printed or written; 1 some links have no list; 2 refused, and nothing is written; 4 bad arguments, or a file
 that cannot be read or written or is there already.
