@@ -43,9 +43,7 @@ use paper::{
     ABOVE_LIMIT, BAD_FORM, ENDS_EARLY, LAST_REVISION, LEFT_OVER, LEG_WRONG, LINK_RANGE, LINK_TWICE, NOTHING_VIOLATED,
     NO_ROOM, REFUSED, STREAM_WRONG,
 };
-use report::{
-    both_sides, found_in, hex, never_seen, run_with_arguments, tell, tell_caught, tell_seen, Calls, Hunt, Run,
-};
+use report::{both_sides, faults_of, found_in, hex, never_seen, run_with_arguments, tell, tell_seen, Calls, Hunt, Run};
 use std::collections::BTreeMap;
 use std::sync::{Arc, Mutex};
 
@@ -246,15 +244,8 @@ fn keeps_the_examples() -> bool {
 
 /// Prints what a run found, and says whether all is well.
 fn report(wrong: &[Wrong], found: &Found, streams: u64, spoilers: &[String]) -> bool {
-    found.calls.tell_differences();
-    let mut faults = Vec::new();
-    if !keeps_the_examples() {
-        faults.push("DIFFERENCE of the plain admitter from what is counted by hand".to_string());
-    }
-    for (wrong, &first) in wrong.iter().zip(&found.calls.caught) {
-        tell_caught(first, &wrong.name, &mut faults);
-    }
-    faults.extend_from_slice(spoilers);
+    let names = wrong.iter().map(|wrong| wrong.name.as_str());
+    let mut faults = faults_of(&found.calls, ("admitter", keeps_the_examples()), names, spoilers);
     let in_words = |(kind, result): &(&str, u32)| format!("{} with the result {}", kind, result);
     faults.extend(never_seen(results(), &found.results, in_words));
     faults.extend(never_seen(edges(), &found.edges, ToString::to_string));

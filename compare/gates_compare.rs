@@ -44,9 +44,7 @@ use gates_quick::quick;
 use gates_seen::{edges, seen, AFTER_SHAPE, OF_SHAPE};
 use gates_wrong::{all, Wrong};
 use paper::{BAD_FORM, ENDS_EARLY, GRANTED, NO_ROOM, REFUSED};
-use report::{
-    both_sides, found_in, hex, never_seen, run_with_arguments, tell, tell_caught, tell_seen, Calls, Hunt, Run,
-};
+use report::{both_sides, faults_of, found_in, hex, never_seen, run_with_arguments, tell, tell_seen, Calls, Hunt, Run};
 use rules::Sent;
 use std::collections::BTreeMap;
 use std::sync::Mutex;
@@ -276,15 +274,8 @@ fn keeps_the_examples() -> bool {
 
 /// Prints what a run found, and says whether all is well.
 fn report(wrong: &[Wrong], found: &Found, tables: u64, spoilers: &[String]) -> bool {
-    found.calls.tell_differences();
-    let mut faults = Vec::new();
-    if !keeps_the_examples() {
-        faults.push("DIFFERENCE of the plain teller from what is counted by hand".to_string());
-    }
-    for (wrong, &first) in wrong.iter().zip(&found.calls.caught) {
-        tell_caught(first, &wrong.name, &mut faults);
-    }
-    faults.extend_from_slice(spoilers);
+    let names = wrong.iter().map(|wrong| wrong.name.as_str());
+    let mut faults = faults_of(&found.calls, ("teller", keeps_the_examples()), names, spoilers);
     let in_words = |(kind, result): &(&str, u32)| format!("{} with the result {}", kind, result);
     faults.extend(never_seen(results(), &found.results, in_words));
     faults.extend(never_seen(edges(), &found.edges, String::clone));

@@ -26,7 +26,7 @@ use network::{
 use network_calls::{receive, send, send_flush};
 use network_cases::{batch, Case, BATCH};
 use network_wrong::{all, Wrong};
-use report::{both_sides, found_in, never_seen, run_with_arguments, tell, tell_caught, tell_seen, Calls, Hunt, Run};
+use report::{both_sides, faults_of, found_in, never_seen, run_with_arguments, tell, tell_seen, Calls, Hunt, Run};
 use std::collections::BTreeMap;
 use std::sync::{Arc, Mutex};
 
@@ -147,15 +147,8 @@ fn keeps_the_example() -> bool {
 
 /// Prints what a run found, and says whether all is well.
 fn report(wrong: &[Wrong], found: &Found, networks: u64, spoilers: &[String]) -> bool {
-    found.calls.tell_differences();
-    let mut faults = Vec::new();
-    if !keeps_the_example() {
-        faults.push("DIFFERENCE of the plain solver from the example of the request".to_string());
-    }
-    for (wrong, &first) in wrong.iter().zip(&found.calls.caught) {
-        tell_caught(first, wrong.name, &mut faults);
-    }
-    faults.extend_from_slice(spoilers);
+    let names = wrong.iter().map(|wrong| wrong.name);
+    let mut faults = faults_of(&found.calls, ("solver", keeps_the_example()), names, spoilers);
     let in_words = |(kind, result): &(Kind, u32)| format!("{:?} with the result {}", kind, result);
     faults.extend(never_seen(results(), &found.seen, in_words));
     tell(&faults);

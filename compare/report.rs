@@ -148,6 +148,26 @@ pub fn tell_caught(first: First, name: &str, faults: &mut Vec<String>) {
     }
 }
 
+/// Begins the report of a run: tells its differences, and what caught each wrong one. Gives its faults so far: a plain side that
+/// is not what one counts by hand, and all that was not caught.
+pub fn faults_of<'a>(
+    calls: &Calls,
+    (plain, is_right): (&str, bool),
+    wrong: impl Iterator<Item = &'a str>,
+    spoilers: &[String],
+) -> Vec<String> {
+    calls.tell_differences();
+    let mut faults = Vec::new();
+    if !is_right {
+        faults.push(format!("DIFFERENCE of the plain {} from what is counted by hand", plain));
+    }
+    for (name, &first) in wrong.zip(&calls.caught) {
+        tell_caught(first, name, &mut faults);
+    }
+    faults.extend_from_slice(spoilers);
+    faults
+}
+
 /// Tells how often each result was seen.
 pub fn tell_seen<R>(seen: &BTreeMap<R, u64>, in_words: impl Fn(&R) -> String) {
     let counts: Vec<String> = seen.iter().map(|(result, times)| format!("{}: {}", in_words(result), times)).collect();
