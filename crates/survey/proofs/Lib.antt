@@ -1,0 +1,3 @@
+pub mod After
+pub mod Telling
+pub mod OneList
