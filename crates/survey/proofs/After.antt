@@ -25,14 +25,16 @@ first-of {t} {a} h = ⊎-elim
 
 pub within-leg : {t : List ℕ} {d : Cursor} → CursorRight t d → IsPlace t (d .leg) (d .place) → d .place + 1 < placesOf (d .leg)
     → CursorRight t (cursor (d .revision) (d .leg) (d .place + 1)) × RightAfter t d (cursor (d .revision) (d .leg) (d .place + 1))
-within-leg c i h =
-    (record { shape = c .shape; revision = c .revision; stands = inl (record { leg = i .leg; place = omega arith }) },
-    record { revision = refl; stands = inl (record { leg = i .leg; place = omega arith }); next = omega arith })
+within-leg c i h = (
+  record { shape = c .shape; revision = c .revision; stands = inl (record { leg = i .leg; place = omega arith }) },
+  record { revision = refl; stands = inl (record { leg = i .leg; place = omega arith }); next = omega arith },
+)
 
 pub past-leg : {t : List ℕ} {d : Cursor} → CursorRight t d → IsPlace t (d .leg) (d .place) → placesOf (d .leg) ≤ d .place + 1
     → CursorRight t (cursor (d .revision) (d .leg + 1) 0) × RightAfter t d (cursor (d .revision) (d .leg + 1) 0)
 past-leg {t} {d} c i h =
     let stands : PlaceOrEnd t (d .leg + 1) 0 = first-of (omega (arith, i .leg)) in
-    let last : d .place + 1 ≡ placesOf (d .leg) = omega (arith, i .place) in
-    (record { shape = c .shape; revision = c .revision; stands = stands },
-    record { revision = refl; stands = stands; next = omega (arith, next-leg (d .leg)) })
+    let last : d .place + 1 ≡ placesOf (d .leg) = omega (arith, i .place) in (
+      record { shape = c .shape; revision = c .revision; stands = stands },
+      record { revision = refl; stands = stands; next = omega (arith, next-leg (d .leg)) },
+    )

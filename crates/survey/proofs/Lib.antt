@@ -1,3 +1,4 @@
 pub mod After
+pub mod Stepping
 pub mod Telling
 pub mod OneList

@@ -16,7 +16,7 @@ not-both : (q r : Place) → Earlier (q .leg) (q .place) (r .leg) (r .place) →
 not-both q r e f = ⊎-elim
     (λ (x : q .leg < r .leg). ⊎-elim (λ (y : r .leg < q .leg). omega arith) (λ (y : (r .leg ≡ q .leg) × (r .place < q .place)). omega (arith, y .0)) f)
     (λ (x : (q .leg ≡ r .leg) × (q .place < r .place)).
-        ⊎-elim (λ (y : r .leg < q .leg). omega (arith, x .0)) (λ (y : (r .leg ≡ q .leg) × (r .place < q .place)). omega (arith, x .1, y .1)) f)
+    ⊎-elim (λ (y : r .leg < q .leg). omega (arith, x .0)) (λ (y : (r .leg ≡ q .leg) × (r .place < q .place)). omega (arith, x .1, y .1)) f)
     e
 
 -- The heads of two such lists are one: each is in the other list, and nothing there comes before its head.
@@ -24,9 +24,9 @@ same-heads : (q r : Place) (qs rs : List Place) → InOrder (q ∷ qs) → InOrd
 same-heads q r qs rs o p i j = ⊎-elim
     (λ (e : q ≡ r). e)
     (λ (k : In q rs). ⊎-elim
-        (λ (e : r ≡ q). sym e)
-        (λ (l : In r qs). absurd (not-both q r (o .0 r l) (p .0 q k)))
-        j)
+    (λ (e : r ≡ q). sym e)
+    (λ (l : In r qs). absurd (not-both q r (o .0 r l) (p .0 q k)))
+    j)
     i
 
 -- What is in a list after its head is not the head.
@@ -42,8 +42,8 @@ same-lists (q ∷ qs) [] o p to from = absurd (to q (inl refl))
 same-lists (q ∷ qs) (r ∷ rs) o p to from =
     let e = same-heads q r qs rs o p (to q (inl refl)) (from r (inl refl)) in
     let tails = same-lists qs rs (o .1) (p .1)
-        (λ s i. in-tail q s qs rs o i (subst (λ (z : Place). In s (z ∷ rs)) (sym e) (to s (inr i))))
-        (λ s i. in-tail r s rs qs p i (subst (λ (z : Place). In s (z ∷ qs)) e (from s (inr i)))) in
+    (λ s i. in-tail q s qs rs o i (subst (λ (z : Place). In s (z ∷ rs)) (sym e) (to s (inr i))))
+    (λ s i. in-tail r s rs qs p i (subst (λ (z : Place). In s (z ∷ qs)) e (from s (inr i)))) in
     cc
 
 pub one-list-of-violated : OneListOfViolated

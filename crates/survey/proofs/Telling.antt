@@ -74,10 +74,10 @@ module _ (t : List ℕ) where
     violated = λ q. ⊎-elim (λ (e : q ≡ placeAt a p). subst (λ (z : Place). PlaceHolds t (z .leg) (z .place) → ⊥) (sym e) broken) (f .violated q);
     all = λ b s j from bad. ⊎-elim
         (λ (h : rank b s < rank a p + 1).
-            let same = rank-one t b s a p (inl j) (inl i) (omega arith) in
-            let e = same .0 in
-            let g = same .1 in
-            inl cc)
+        let same = rank-one t b s a p (inl j) (inl i) (omega arith) in
+        let e = same .0 in
+        let g = same .1 in
+        inl cc)
         (λ (h : rank a p + 1 ≤ rank b s). inr (f .all b s j h bad))
         (lt-or-ge (rank b s) (rank a p + 1));
     in-order = (λ r k. order-by-leg t a p (r .leg) (r .place) (inl i) (inl (f .places-of r k)) .0 (omega (arith, f .after r k)), f .in-order);

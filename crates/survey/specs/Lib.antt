@@ -1,2 +1,3 @@
 pub mod Survey
+pub mod Steps
 pub mod Theorems
