@@ -68,6 +68,32 @@ pub fn first_violated(at: Cursor, rule: Rule) {
     text(b"\nstatus 1\n");
 }
 
+// Internal: the last line of a whole survey that noted so many violated places.
+pub fn survey_told(count: u32, legs: usize) {
+    if count == 0 {
+        accepted();
+        return;
+    }
+    labelled(b"violated ", count);
+    text(b" of ");
+    places_before(legs, 0);
+    text(b" places\nstatus 1\n");
+}
+
+// Internal: the last line of a part of a survey that noted so many violated places, where nothing is violated after them. The line is for the command alone.
+pub fn survey_over(count: u32) {
+    labelled(b"status 0 over ", count);
+    end_line();
+}
+
+// Internal: the same, where the survey goes on: from this place, before which so many places of all lie.
+pub fn survey_stands(count: u32, at: Cursor, legs: usize) {
+    labelled(b"status 3 stands ", count);
+    told::place(b"", at);
+    text(b" ");
+    passed(at, b" ", legs);
+}
+
 // Internal: a refusal of the plan on standard input.
 pub fn plan_refused(number_of: u32, at: usize) {
     refused(number_of, at);

@@ -7,10 +7,10 @@ use checker::SliceAnswer;
 use files::Cursor;
 use rules::Rule;
 
-// What the next step of a survey finds: a violated place, its rule, and where the survey goes on; where it paused; or that nothing is violated from here on. None of these is
+// What the next step of a survey finds: a violated place, how many places were looked at, its rule, and where the survey goes on; where it paused; or that nothing is violated from here on. None of these is
 // a cursor for a check: before it there may be violated places.
 pub enum Found {
-    Violated(Cursor, Rule, Cursor),
+    Violated(Cursor, u32, Rule, Cursor),
     Paused(Cursor),
     Over,
 }
@@ -42,7 +42,12 @@ pub fn step(t: &[u32], from: Cursor, budget: u32) -> Found
 {
     let told = checker::look::looked(t, from, budget);
     match told {
-        SliceAnswer::Violated(at, steps, rule) => Found::Violated(at, rule, place_after(t, at)),
+        SliceAnswer::Violated(at, steps, rule) => Found::Violated(
+            at,
+            steps,
+            rule,
+            place_after(t, at),
+        ),
         SliceAnswer::Paused(at, steps) => Found::Paused(at),
         SliceAnswer::NothingViolated(end, steps) => Found::Over,
         SliceAnswer::Refused(number, at, given) => Found::Over,
