@@ -71,6 +71,7 @@ answer() { # PROGRAM ARGUMENT...
     [[ $wrote != . ]] || stop "the program $1 printed nothing: the $read_as cannot be read"
     take_status || [[ $why == empty ]] || stop "the program $1 gave no whole answer"
     printf '%s' "$wrote" | cat || stop "cannot write to standard output"
+    [[ $status != 1 || -z ${hinted-} ]] || hint "$wrote" "$hinted"
     return $status
 }
 
@@ -97,7 +98,6 @@ take_plan() { # COMMAND [PLAN]
     fi
 }
 
-do_check() { take_plan check "$@" && answer timetable; }
 do_words() { take_plan words "$@" && answer operator words; }
 do_shape() { take_plan shape "$@" && answer operator shape; }
 

@@ -14,9 +14,9 @@ use survey::Found;
 // More than any table has places.
 const ENOUGH: u32 = 4294967295;
 
-// How a survey ended: with so many violated places, and nothing violated after them; or paused, with where it stands.
+// How a survey ended: with so many violated places, and nothing violated after them up to the end; or paused, with where it stands.
 enum Ended {
-    Over(u32),
+    Over(u32, Cursor),
     Stands(u32, Cursor),
 }
 
@@ -35,8 +35,8 @@ fn surveyed(t: &[u32], from: Cursor, budget: u32) -> Ended
     while 0 < left {
         let found = survey::step(t, c, left);
         match found {
-            Found::Over => {
-                return Ended::Over(count);
+            Found::Over(end) => {
+                return Ended::Over(count, end);
             }
             Found::Paused(at) => {
                 return Ended::Stands(count, at);
@@ -55,7 +55,7 @@ fn surveyed(t: &[u32], from: Cursor, budget: u32) -> Ended
 // The last line of a whole survey. It cannot pause: the budget is more than the places.
 fn summed_up(ended: Ended, legs: usize) {
     match ended {
-        Ended::Over(count) => {
+        Ended::Over(count, end) => {
             answers::survey_told(count, legs);
         }
         Ended::Stands(count, at) => {}
@@ -80,11 +80,11 @@ pub(crate) fn all(t: &[u32]) {
 // The last line of a part: where the survey stands, or that it is over.
 fn part_ended(ended: Ended, legs: usize) {
     match ended {
-        Ended::Over(count) => {
-            answers::survey_over(count);
+        Ended::Over(count, at) => {
+            answers::survey_part(b"status 0 over", count, at, legs);
         }
         Ended::Stands(count, at) => {
-            answers::survey_stands(count, at, legs);
+            answers::survey_part(b"status 3 stands", count, at, legs);
         }
     }
 }

@@ -80,15 +80,12 @@ pub fn survey_told(count: u32, legs: usize) {
     text(b" places\nstatus 1\n");
 }
 
-// Internal: the last line of a part of a survey that noted so many violated places, where nothing is violated after them. The line is for the command alone.
-pub fn survey_over(count: u32) {
-    labelled(b"status 0 over ", count);
-    end_line();
-}
-
-// Internal: the same, where the survey goes on: from this place, before which so many places of all lie.
-pub fn survey_stands(count: u32, at: Cursor, legs: usize) {
-    labelled(b"status 3 stands ", count);
+// Internal: the last line of a part of a survey, which is for the command alone: over, or where the survey stands, how many violated places were noted, the revision, the place, how
+// many places lie before it, and how many there are.
+pub fn survey_part(word: &[u8], count: u32, at: Cursor, legs: usize) {
+    text(word);
+    labelled(b" ", count);
+    labelled(b" ", at.revision);
     told::place(b"", at);
     text(b" ");
     passed(at, b" ", legs);

@@ -39,8 +39,8 @@ finds-violated {t} {c} {b = b} q s a = (subst (Slices t c b) q s, (a .1, a .0))
 pub finds-paused : {t : List ℕ} {c d : Cursor} {b n : ℕ} {told : SliceAnswer} → told ≡ answer.Paused d n → Slices t c b told → Finds t c b (found.Paused d)
 finds-paused {t} {c} {b = b} {n = n} q s = (n, subst (Slices t c b) q s)
 
-pub finds-over : {t : List ℕ} {c d : Cursor} {b n : ℕ} {told : SliceAnswer} → told ≡ answer.NothingViolated d n → Slices t c b told → Finds t c b found.Over
-finds-over {t} {c} {d} {b} {n} q s = (d, (n, subst (Slices t c b) q s))
+pub finds-over : {t : List ℕ} {c d : Cursor} {b n : ℕ} {told : SliceAnswer} → told ≡ answer.NothingViolated d n → Slices t c b told → Finds t c b (found.Over d)
+finds-over {t} {c} {b = b} {n = n} q s = (n, subst (Slices t c b) q s)
 
 pub never-refused : {t : List ℕ} {c : Cursor} (b : ℕ) {d : Cursor} {k p : ℕ} {told : SliceAnswer} → CursorRight t c → told ≡ answer.Refused k p d → Slices t c b told → ⊥
 never-refused {t} {c} b {d} {k} {p} r q s =

@@ -13,4 +13,4 @@ use Rattle.survey.specs.declared.Found.the-variants as found
 abbrev pub Finds : List ℕ → Cursor → ℕ → Found → Type 0
 Finds t c budget (found.Violated d n r e) = Slices t c budget (answer.Violated d n r) × (RightAfter t d e × CursorRight t e)
 Finds t c budget (found.Paused d) = (n : ℕ) × Slices t c budget (answer.Paused d n)
-Finds t c budget found.Over = (d : Cursor) × ((n : ℕ) × Slices t c budget (answer.NothingViolated d n))
+Finds t c budget (found.Over d) = (n : ℕ) × Slices t c budget (answer.NothingViolated d n)

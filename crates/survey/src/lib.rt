@@ -7,12 +7,12 @@ use checker::SliceAnswer;
 use files::Cursor;
 use rules::Rule;
 
-// What the next step of a survey finds: a violated place, how many places were looked at, its rule, and where the survey goes on; where it paused; or that nothing is violated from here on. None of these is
+// What the next step of a survey finds: a violated place, how many places were looked at, its rule, and where the survey goes on; where it paused; or the end, since nothing is violated from here on. None of these is
 // a cursor for a check: before it there may be violated places.
 pub enum Found {
     Violated(Cursor, u32, Rule, Cursor),
     Paused(Cursor),
-    Over,
+    Over(Cursor),
 }
 
 // Where a survey goes on after a violated place: at the next place, or at the end.
@@ -49,7 +49,7 @@ pub fn step(t: &[u32], from: Cursor, budget: u32) -> Found
             place_after(t, at),
         ),
         SliceAnswer::Paused(at, steps) => Found::Paused(at),
-        SliceAnswer::NothingViolated(end, steps) => Found::Over,
-        SliceAnswer::Refused(number, at, given) => Found::Over,
+        SliceAnswer::NothingViolated(end, steps) => Found::Over(end),
+        SliceAnswer::Refused(number, at, given) => Found::Over(given),
     }
 }

@@ -18,20 +18,20 @@ loop-holds c = search needs
 step-requires : tie.Need-step-requires Inv-loop μ-loop
 step-requires c κs = search needs
 
-enum-told : tie.Need-enum-told Inv-loop μ-loop
-enum-told c = search needs
+enum-known-found : tie.Need-enum-known-found Inv-loop μ-loop
+enum-known-found c = search needs
 
 returns : tie.Need-returns Inv-loop μ-loop
 returns c = search needs
 
-enum-known-found : tie.Need-enum-known-found Inv-loop μ-loop
-enum-known-found c = search needs
+enum-known-found-2 : tie.Need-enum-known-found-2 Inv-loop μ-loop
+enum-known-found-2 c = search needs
 
 returns-2 : tie.Need-returns-2 Inv-loop μ-loop
 returns-2 c = search needs
 
-enum-known-found-2 : tie.Need-enum-known-found-2 Inv-loop μ-loop
-enum-known-found-2 c = search needs
+enum-known-found-3 : tie.Need-enum-known-found-3 Inv-loop μ-loop
+enum-known-found-3 c = search needs
 
 noted-requires : tie.Need-noted-requires Inv-loop μ-loop
 noted-requires c κs = search needs
@@ -40,7 +40,7 @@ sub-left : tie.Need-sub-left Inv-loop μ-loop
 sub-left c =
     let stepped : tie.After-step Inv-loop μ-loop = search in
     let printed : tie.After-noted Inv-loop μ-loop = search in
-    let on = advances (stepped .before .before .loop .c) (printed .before .before .found2 .given .1) (stepped .step .ensures) in
+    let on = advances (stepped .before .before .loop .c) (printed .before .before .found3 .given .1) (stepped .step .ensures) in
     on .within
 
 wrapping-add-u32-requires : tie.Need-wrapping-add-u32-requires Inv-loop μ-loop
@@ -50,14 +50,14 @@ loop-less : tie.Need-loop-less Inv-loop μ-loop
 loop-less c =
     let stepped : tie.After-step Inv-loop μ-loop = search in
     let printed : tie.After-noted Inv-loop μ-loop = search in
-    let on = advances (stepped .before .before .loop .c) (printed .before .before .found2 .given .1) (stepped .step .ensures) in
+    let on = advances (stepped .before .before .loop .c) (printed .before .before .found3 .given .1) (stepped .step .ensures) in
     omega (arith, on .some, on .within)
 
 loop-again : tie.Need-loop-again Inv-loop μ-loop
 loop-again c =
     let stepped : tie.After-step Inv-loop μ-loop = search in
     let printed : tie.After-noted Inv-loop μ-loop = search in
-    let on = advances (stepped .before .before .loop .c) (printed .before .before .found2 .given .1) (stepped .step .ensures) in
+    let on = advances (stepped .before .before .loop .c) (printed .before .before .found3 .given .1) (stepped .step .ensures) in
     on .right
 
 returns-3 : tie.Need-returns-3 Inv-loop μ-loop
@@ -71,11 +71,11 @@ surveyed-spec =
     μ-loop
     loop-holds
     step-requires
-    enum-told
-    returns
     enum-known-found
-    returns-2
+    returns
     enum-known-found-2
+    returns-2
+    enum-known-found-3
     noted-requires
     sub-left
     wrapping-add-u32-requires
