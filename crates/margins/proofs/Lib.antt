@@ -1,0 +1,4 @@
+pub mod Numbering
+pub mod SpareLaws
+pub mod Deciding
+pub mod AtNumbers

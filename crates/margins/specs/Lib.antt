@@ -1,0 +1,6 @@
+pub mod Asking
+pub mod Spares
+pub mod Margins
+pub mod Steps
+pub mod Theorems
+pub mod AtNumbers
