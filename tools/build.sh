@@ -76,6 +76,7 @@ run_rt() { # COMMAND CRATE LOG
     temporal) what="the program for temporal networks" time=five ;;
     slots) what="the program for new streams" time=five ;;
     export) what="the program for gate lists" time=five ;;
+    desk) what="the program for explanations and surveys" time=five ;;
     host) what="the calls for C" ;;
     network_host) what="the calls for C of temporal networks" ;;
     esac
@@ -223,11 +224,12 @@ do_install() {
     build temporal
     build slots
     build export
+    build desk
     build_library
     umask 022
     make_temp && write_copy || stop "cannot make the copy"
-    for name in timetable operator temporal slots export; do put ".built/$name" "lib/conepalhui/$name" 755; done
-    for name in help run; do put "tools/$name.sh" "lib/conepalhui/$name.sh"; done
+    for name in timetable operator temporal slots export desk; do put ".built/$name" "lib/conepalhui/$name" 755; done
+    for name in help run desk; do put "tools/$name.sh" "lib/conepalhui/$name.sh"; done
     for name in conepalhui conepalhui-network; do
         put ".built/lib$name.a" "lib/lib$name.a"
         put "include/$name.h" "include/$name.h"

@@ -16,11 +16,12 @@ hint() { # VERDICT [PLAN]
 # ---- Every violated place
 
 do_check() {
-    local word all='' files=() hinted=check
+    local word all='' files=() hinted
     for word; do
         if [[ $word == --all ]]; then all=--all; else files+=("$word"); fi
     done
     take_plan check "${files[@]}"
+    hinted=${files-}
     if [[ -n $all ]]; then answer desk all; else answer timetable; fi
 }
 

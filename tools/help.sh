@@ -3,12 +3,15 @@
 # One line for each command: NAME|ARGUMENTS|SUMMARY. A command NAME has a function do_NAME, which does it,
 # and a function about_NAME, which prints what 'help NAME' says of it.
 commands=(
-    'check|[PLAN]|check a plan whole: accepted, or the first violated place'
+    'check|[PLAN] [--all]|check a plan whole: accepted, or the first violated place, or all'
+    'explain|PLAN [CURSOR | LEG PLACE]|say why a place is violated, by how much, and what would mend it'
+    'slack|[PLAN]|say where an accepted plan is thin: how many ns are left'
     'start|PLAN CURSOR [--anew]|start a check in slices: CURSOR keeps how far it is'
     'slice|PLAN CURSOR BUDGET|look at the next BUDGET places'
     'move|PLAN CURSOR LEG OFFSET [PERIODS]|give one leg another offset, in ns, and period word'
     'recheck|PLAN CURSOR LEG [OFFSET [PERIODS]]|move one leg of an accepted plan, and look at what that changes'
     'run|PLAN CURSOR --budget N [--rate R]|slices of N places until there is a verdict'
+    'survey|PLAN NOTES --budget N [--rate R] [--anew]|the same, but note each violated place and go on'
     'words|[PLAN]|print the numbers of a plan, one record per line'
     'shape|[PLAN]|say whether a plan is well-formed'
     'convert|OLD NEW [first]|write a plan file of versions 1 and 2 anew, for this version'
@@ -94,6 +97,34 @@ Reads the plan file PLAN, or standard input, and checks it whole. It prints two 
 2 deadline, and 3 + b for the overlap with each leg b below it. docs/ACCEPTED.md says what the rules are and what
 'accepted' does not cover. A plan that cannot be checked gives one line, 'refused NUMBER AT' (AT is a record or a
 byte), and standard error says why. Exit status: 0 accepted, 1 violated, 2 refused, 4 where the plan cannot be read.
+
+With --all it prints a line for every violated place, in order, and then how many there are, 'violated M of N places'.
+After a violated verdict standard error has the call of 'explain' that says why.
+END
+}
+
+about_explain() {
+    cat <<'END'
+Says what the rule at a place of the plan PLAN asks, with the plan's own numbers put in, and by how many ns it is kept or
+fails: at the place LEG PLACE, at the place where CURSOR stands, or, with neither, at the first violated place. For an
+overlap it gives the first instant at which both frames hold the link, and their repeats, so that a pocket calculator can
+follow. Where another offset of that one leg would mend that one place, it gives the nearest ones below and above with
+which the leg also keeps its window; its period word stays as it is. Other places may be violated then: check again.
+
+docs/EXPLAINED.md goes through an example, and says which of these numbers are proved. Nodes and streams have the names of
+PLAN.names, where there is one ('help encode').
+
+Exit status: 0 the place holds, or nothing is violated; 1 it is violated; 2 the plan, the cursor or the place is refused
+(10 and 9: no such leg or place); 4 bad arguments, or a file that cannot be read.
+END
+}
+
+about_slack() {
+    cat <<'END'
+Reads the plan file PLAN, or standard input, and prints of an accepted plan where it is thin: of the windows, hops and
+deadlines the ten each with the fewest ns left, least first. A plan that is not accepted gives its first violated place.
+docs/EXPLAINED.md says what the numbers mean. Exit status: 0 accepted, 1 violated, 2 refused, 4 where the plan cannot be
+read.
 END
 }
 
@@ -209,6 +240,23 @@ leads to another file before the next slice, the run ends with 4. It can be stop
 there. Standard error says how far it is: on a terminal after each slice, elsewhere about every ten seconds.
 END
     see_answers
+}
+
+about_survey() {
+    cat <<'END'
+Looks at all places in slices of N, as 'run' does, but notes each violated place and goes on behind it, so that by the
+morning all of them are known. It prints them as 'check --all' does, and the revision. R is places per second: slices
+begin at least N / R seconds apart. It can be stopped at any time, and goes on from there.
+
+NOTES is a text that this command makes: of which plan it is, the places noted so far, and where the survey stands. THAT IS
+NO CURSOR: before it there may be violated places, and no command takes these notes for a cursor. Nor does a survey change
+any cursor. Where the plan is changed while it runs, by a move or otherwise, the survey begins anew, since what it had
+passed was of another plan. Notes of another plan, or of this one before a change, are only dropped with --anew; a file
+that is no notes is never replaced, and notes that somebody altered are not believed.
+
+Exit status: 0 no place is violated, 1 some are, 2 the plan is refused, 4 bad arguments, or a file that cannot be read or
+written.
+END
 }
 
 about_words() {

@@ -71,7 +71,7 @@ answer() { # PROGRAM ARGUMENT...
     [[ $wrote != . ]] || stop "the program $1 printed nothing: the $read_as cannot be read"
     take_status || [[ $why == empty ]] || stop "the program $1 gave no whole answer"
     printf '%s' "$wrote" | cat || stop "cannot write to standard output"
-    [[ $status != 1 || -z ${hinted-} ]] || hint "$wrote" "$hinted"
+    [[ $status != 1 || -z ${hinted+plan} ]] || hint "$wrote" "$hinted"
     return $status
 }
 
@@ -250,6 +250,7 @@ start_by_hand() { # PLAN CURSOR
 pass_on() { # PLAN CURSOR
     local leg place revision edition present other="this is not the plan that was last seen with this cursor: something other than a move changed it, or $cursor.seen was damaged."
     printf '%s' "$wrote" || stop "cannot write to standard output"
+    ((status != 1)) || hint "$wrote" "$1"
     case $why in
     changed) note "$other $(start_anew "$@")" ;;
     damaged) note "$other $(start_by_hand "$@")" ;;
