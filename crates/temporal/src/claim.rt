@@ -1,15 +1,15 @@
 // A claim read: times of events, or the constraints of a chain by their lines. What is wrong in it is said on standard error.
 use crate::sentences;
+use lines::shown::shown;
+use lines::words;
 use reasons::begin;
 use reasons::say;
 use reasons::text;
 use wishes::bounds;
 use wishes::forms;
 use wishes::forms::Claim;
-use wishes::lines;
 use wishes::names;
 use wishes::reading::Counts;
-use wishes::words;
 
 // What was read: how many times, and how many constraints of a chain; the first line that is wrong, or 0; and whether a line that says something was passed.
 pub(crate) struct Claimed {
@@ -57,7 +57,7 @@ fn with_head(got: Claimed, line: &[u8], n: u32) -> Claimed {
 fn far_time(got: Claimed, line: &[u8], n: u32) -> Claimed {
     begin();
     say(b"line # of the claim has the time ", &[n]);
-    sentences::shown(words::word(line, 2));
+    shown(words::word(line, 2));
     text(b", but times are -9223372036854775808 to 9223372036854775807\n");
     with_wrong(got, n)
 }
@@ -66,7 +66,7 @@ fn far_time(got: Claimed, line: &[u8], n: u32) -> Claimed {
 fn bad_event(got: Claimed, line: &[u8], n: u32, what: &[u8]) -> Claimed {
     begin();
     say(b"line # of the claim gives a time to ", &[n]);
-    sentences::shown(words::word(line, 1));
+    shown(words::word(line, 1));
     text(what);
     with_wrong(got, n)
 }
@@ -147,7 +147,7 @@ fn with_time(
 fn no_constraint(got: Claimed, line: &[u8], n: u32) -> Claimed {
     begin();
     say(b"line # of the claim is ", &[n]);
-    sentences::shown(line);
+    shown(line);
     text(b", but there is no constraint in that line of the network\n");
     with_wrong(got, n)
 }

@@ -4,7 +4,6 @@
 use durable::FileRead;
 use libc::STDIN_FILENO;
 use wishes::bounds;
-use wishes::lines;
 use wishes::reading;
 use wishes::reading::Counts;
 

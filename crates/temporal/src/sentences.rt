@@ -1,6 +1,8 @@
 // Why a network is refused, on standard error.
 use crate::out;
 use libc::STDERR_FILENO;
+use lines::shown::shown;
+use lines::words;
 use reasons::begin;
 use reasons::line;
 use reasons::say;
@@ -9,49 +11,12 @@ use reasons::text;
 use wishes::bounds;
 use wishes::forms;
 use wishes::forms::Wish;
-use wishes::lines;
 use wishes::names;
 use wishes::reading::Counts;
 use wishes::sums::Sum;
-use wishes::words;
 
 // The refusal of too many events or constraints. The other one is of a constraint out of range.
 const TOO_MANY: u32 = 27;
-
-// How much is shown of a line.
-const SHOWN: usize = 60;
-
-fn shown_byte(byte: u8) {
-    if byte < 32 {
-        text(b"?");
-        return;
-    }
-    if byte == 127 {
-        text(b"?");
-        return;
-    }
-    text(&[byte]);
-}
-
-fn shown_bytes(bytes: &[u8]) {
-    let mut i: usize = 0;
-    while i < bytes.len() {
-        shown_byte(bytes[i]);
-        i = i + 1;
-    }
-}
-
-// Says what stands somewhere, without what a terminal would act on.
-pub(crate) fn shown(bytes: &[u8]) {
-    text(b"'");
-    if bytes.len() <= SHOWN {
-        shown_bytes(bytes);
-        text(b"'");
-        return;
-    }
-    shown_bytes(&bytes[0..SHOWN]);
-    text(b"...'");
-}
 
 pub(crate) fn sum(s: Sum) {
     if s.below {

@@ -5,6 +5,7 @@ use crate::sentences;
 use crate::solution;
 use claims::ChainTest;
 use claims::TimesTest;
+use lines::shown::shown;
 use reasons::begin;
 use reasons::line;
 use reasons::say;
@@ -186,12 +187,12 @@ fn say_unlinked(
 ) {
     begin();
     say(b"line # ends at ", &[bounds::line(in_lines, k)]);
-    sentences::shown(names::name(network, at, bounds::to(constraints, k)));
+    shown(names::name(network, at, bounds::to(constraints, k)));
     say(
         b", but line #, which follows, begins at ",
         &[bounds::line(in_lines, next)],
     );
-    sentences::shown(names::name(network, at, bounds::from(constraints, next)));
+    shown(names::name(network, at, bounds::from(constraints, next)));
     text(b"\n");
 }
 
@@ -223,7 +224,7 @@ fn repeated(constraints: &[i64], chain: &[u32]) -> usize {
 fn say_repeated(network: &[u8], at: &[usize], event: usize) {
     begin();
     text(b"the event ");
-    sentences::shown(names::name(network, at, event));
+    shown(names::name(network, at, event));
     text(b" is in the chain twice\n");
 }
 

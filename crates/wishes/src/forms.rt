@@ -1,12 +1,12 @@
 // The forms of a line. They are told apart by the number of words and the second word, so that an event may have any word for its name.
-use crate::lines::place_of;
 use crate::number;
 use crate::number::Number;
-use crate::words::are_same;
-use crate::words::count;
-use crate::words::has_control;
-use crate::words::word;
 use decimal::Decimal;
+use lines::place_of;
+use lines::words::are_same;
+use lines::words::count;
+use lines::words::has_control;
+use lines::words::word;
 
 // What a line of a network says: nothing; the name of an event; that the first name minus the third word is at most a number, or the third word minus the
 // first name; or what is none of these.

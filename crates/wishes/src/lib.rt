@@ -2,12 +2,10 @@
 // names first appear.
 pub mod bounds;
 pub mod forms;
-pub mod lines;
 pub mod names;
 pub mod number;
 pub mod reading;
 pub mod sums;
-pub mod words;
 
 // How many bytes a text may have.
 pub const MAX_BYTES: usize = 262144;

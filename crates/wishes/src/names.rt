@@ -1,7 +1,7 @@
 // The names of events. Of each event it is kept where its name lies in the text: the beginning and the end.
 ghost use Prim.Native.Nat.{_≤_};
 use crate::NAME_WORDS;
-use crate::words::are_same;
+use lines::words::are_same;
 
 fn word_at(words: &[usize], at: usize) -> usize {
     if at < words.len() {

@@ -2,10 +2,9 @@
 use crate::CONSTRAINT_WORDS;
 use crate::forms;
 use crate::forms::Wish;
-use crate::lines;
 use crate::names;
 use crate::number;
-use crate::words;
+use lines::words;
 
 // What was read: how many events, one past the limit at most; how many constraints; and the first line that has none of the forms, or 0.
 pub struct Counts {

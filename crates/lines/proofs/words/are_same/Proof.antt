@@ -1,10 +1,10 @@
--- `wishes::words::are_same` is safe and ends: the index stays below the length of both. Assumes nothing.
+-- `lines::words::are_same` is safe and ends: the index stays below the length of both. Assumes nothing.
 use Prim.Native.Nat.{_-_, _≤_}
 use mathlib.Core.Path.{_≡_}
 use borrow.Author.Needs.{needs}
 use lib.ListN.{length}
-use Rattle.wishes.proofs.words.are_same.Statement.{statement}
-use Rattle.wishes.proofs.words.are_same.Tie as tie
+use Rattle.lines.proofs.words.are_same.Statement.{statement}
+use Rattle.lines.proofs.words.are_same.Tie as tie
 
 abbrev Inv-loop : tie.InvT-loop
 Inv-loop word other i₀ i = (i ≤ length word) × (length word ≡ length other)

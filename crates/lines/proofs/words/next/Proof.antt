@@ -1,9 +1,9 @@
--- `wishes::words::next` meets its contract: the position goes up from the given one to the end at most. Assumes nothing.
+-- `lines::words::next` meets its contract: the position goes up from the given one to the end at most. Assumes nothing.
 use Prim.Native.Nat.{_-_, _≤_}
 use borrow.Author.Needs.{needs}
 use lib.ListN.{length}
-use Rattle.wishes.proofs.words.next.Statement.{statement}
-use Rattle.wishes.proofs.words.next.Tie as tie
+use Rattle.lines.proofs.words.next.Statement.{statement}
+use Rattle.lines.proofs.words.next.Tie as tie
 
 abbrev Inv-loop : tie.InvT-loop
 Inv-loop line start blank i₀ i = (start ≤ i) × (i ≤ length line)

@@ -1,24 +1,21 @@
--- `wishes::words::has_control` is safe and ends: the index stays below the length. Assumes nothing.
+-- `lines::place_of` meets its contract: the position goes up from the given one to the end at most. Assumes nothing.
 use Prim.Native.Nat.{_-_, _≤_}
 use borrow.Author.Needs.{needs}
 use lib.ListN.{length}
-use Rattle.wishes.proofs.words.has_control.Statement.{statement}
-use Rattle.wishes.proofs.words.has_control.Tie as tie
+use Rattle.lines.proofs.place_of.Statement.{statement}
+use Rattle.lines.proofs.place_of.Tie as tie
 
 abbrev Inv-loop : tie.InvT-loop
-Inv-loop line i₀ i = i ≤ length line
+Inv-loop text start byte i₀ i = (start ≤ i) × (i ≤ length text)
 
 abbrev μ-loop : tie.MeasureT-loop
-μ-loop line i₀ i = length line - i
+μ-loop text start byte i₀ i = length text - i
 
 loop-holds : tie.Need-loop-holds Inv-loop μ-loop
 loop-holds c = search needs
 
-shared-slice-read-is-control : tie.Need-shared-slice-read-is-control Inv-loop μ-loop
-shared-slice-read-is-control c = search needs
-
-is-control-requires : tie.Need-is-control-requires Inv-loop μ-loop
-is-control-requires c κs = search needs
+shared-slice-read-if1 : tie.Need-shared-slice-read-if1 Inv-loop μ-loop
+shared-slice-read-if1 c = search needs
 
 returns : tie.Need-returns Inv-loop μ-loop
 returns c = search needs
@@ -35,15 +32,14 @@ loop-again c = search needs
 returns-2 : tie.Need-returns-2 Inv-loop μ-loop
 returns-2 c = search needs
 
-pub has-control-spec : {M : Type 1} → statement M
-has-control-spec =
+pub place-of-spec : {M : Type 1} → statement M
+place-of-spec =
     tie.close
     (tie.spec
     Inv-loop
     μ-loop
     loop-holds
-    shared-slice-read-is-control
-    is-control-requires
+    shared-slice-read-if1
     returns
     add-i
     loop-less

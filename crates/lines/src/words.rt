@@ -1,7 +1,7 @@
 // The words of a line, which have blanks between them.
 ghost use Prim.Native.Nat.{_≤_, _<_};
 ghost use lib.ListN.{length};
-ghost use Rattle.wishes.specs.Words.{Inside};
+ghost use Rattle.lines.specs.Words.{Inside};
 
 // Where a word lies in its line.
 pub struct Part {

@@ -1,9 +1,12 @@
-// The lines of a text. A line ends at a line feed, or at the end of the text.
+// Texts that a person writes, by lines and words. A line ends at a line feed, or at the end of the text.
 ghost use Prim.Native.Nat.{_≤_};
 ghost use lib.ListN.{length};
 
-// Where a byte stands first from a position on, or the end.
-pub(crate) fn place_of(text: &[u8], start: usize, byte: u8) -> usize
+pub mod shown;
+pub mod words;
+
+// Internal: where a byte stands first from a position on, or the end.
+pub fn place_of(text: &[u8], start: usize, byte: u8) -> usize
     requires { ⌜ start ≤ length (now text) ⌝ }
     ensures { λ r. ⌜ start ≤ r ⌝ }
     ensures { λ r. ⌜ r ≤ length (now (text .entry)) ⌝ }

@@ -1,9 +1,9 @@
--- `wishes::words::word_start` meets its contract: each word begins inside the line, or at its end. Assumes nothing.
+-- `lines::words::word_start` meets its contract: each word begins inside the line, or at its end. Assumes nothing.
 use Prim.Native.Nat.{_-_, _≤_}
 use borrow.Author.Needs.{needs}
 use lib.ListN.{length}
-use Rattle.wishes.proofs.words.word_start.Statement.{statement}
-use Rattle.wishes.proofs.words.word_start.Tie as tie
+use Rattle.lines.proofs.words.word_start.Statement.{statement}
+use Rattle.lines.proofs.words.word_start.Tie as tie
 
 abbrev Inv-loop : tie.InvT-loop
 Inv-loop line k start₀ i₀ start i = start ≤ length line

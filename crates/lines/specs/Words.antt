@@ -2,7 +2,7 @@
 use Prim.Native.Nat.{ℕ, _≤_}
 use mathlib.Core.List.{List}
 use lib.ListN.{length}
-use Rattle.wishes.specs.declared.words.Part.{Part}
+use Rattle.lines.specs.declared.words.Part.{Part}
 
 -- A word lies inside its line.
 pub record Inside (line : List ℕ) (p : Part) : Type 0 where

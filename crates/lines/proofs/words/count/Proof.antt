@@ -1,9 +1,9 @@
--- `wishes::words::count` is safe and ends: the index stays below the length. Assumes nothing.
+-- `lines::words::count` is safe and ends: the index stays below the length. Assumes nothing.
 use Prim.Native.Nat.{_-_, _≤_}
 use borrow.Author.Needs.{needs}
 use lib.ListN.{length}
-use Rattle.wishes.proofs.words.count.Statement.{statement}
-use Rattle.wishes.proofs.words.count.Tie as tie
+use Rattle.lines.proofs.words.count.Statement.{statement}
+use Rattle.lines.proofs.words.count.Tie as tie
 
 abbrev Inv-loop : tie.InvT-loop
 Inv-loop line n₀ i₀ n i = i ≤ length line

@@ -1,9 +1,9 @@
--- `temporal::sentences::shown_bytes` is safe and ends: the index stays below the length. Assumes nothing.
+-- `lines::shown::shown_bytes` is safe and ends: the index stays below the length. Assumes nothing.
 use Prim.Native.Nat.{_-_, _≤_}
 use borrow.Author.Needs.{needs}
 use lib.ListN.{length}
-use Rattle.temporal.proofs.sentences.shown_bytes.Statement.{statement}
-use Rattle.temporal.proofs.sentences.shown_bytes.Tie as tie
+use Rattle.lines.proofs.shown.shown_bytes.Statement.{statement}
+use Rattle.lines.proofs.shown.shown_bytes.Tie as tie
 
 abbrev Inv-loop : tie.InvT-loop
 Inv-loop bytes i₀ i = i ≤ length bytes

@@ -1,9 +1,9 @@
--- `wishes::lines::line_start` meets its contract: each line begins inside the text or at its end. Assumes nothing.
+-- `lines::line_start` meets its contract: each line begins inside the text or at its end. Assumes nothing.
 use Prim.Native.Nat.{_-_, _≤_}
 use borrow.Author.Needs.{needs}
 use lib.ListN.{length}
-use Rattle.wishes.proofs.lines.line_start.Statement.{statement}
-use Rattle.wishes.proofs.lines.line_start.Tie as tie
+use Rattle.lines.proofs.line_start.Statement.{statement}
+use Rattle.lines.proofs.line_start.Tie as tie
 
 abbrev Inv-loop : tie.InvT-loop
 Inv-loop text n start₀ i₀ start i = start ≤ length text
