@@ -1,6 +1,8 @@
 // Plans as a person writes them: a record to a line (docs/TEXTS.md). A text is read into a draft: the records of the plan, each kind at a place of its own, and
 // where the names lie in the text. What is wrong with a line is said on standard error. No contract can say what a call of the operating system writes, so these
-// promise to be safe and to end; what a time and a rate are worth is promised in units.rt.
+// promise to be safe and to end.
+ghost use Prim.Native.Nat.{_≤_};
+
 pub mod assembling;
 mod faults;
 mod fields;
@@ -9,7 +11,6 @@ mod nodes;
 pub mod reading;
 mod records;
 mod routes;
-pub mod units;
 pub mod writing;
 
 // How many bytes a text may have, and the room to read it: one byte more, so that a byte left over is seen.
@@ -76,22 +77,32 @@ pub(crate) fn raise(draft: &mut [u32], at: usize) {
     set(draft, at, more);
 }
 
-pub(crate) fn link_at(i: u32) -> usize {
+pub(crate) fn link_at(i: u32) -> usize
+    ensures { λ r. ⌜ r ≤ 25769803776 ⌝ }
+{
     LINKS_FROM + table::LINK_WORDS * table::wide(i)
 }
 
-pub(crate) fn stream_at(i: u32) -> usize {
+pub(crate) fn stream_at(i: u32) -> usize
+    ensures { λ r. ⌜ r ≤ 25769803776 ⌝ }
+{
     STREAMS_FROM + table::STREAM_WORDS * table::wide(i)
 }
 
-pub(crate) fn leg_at(i: u32) -> usize {
+pub(crate) fn leg_at(i: u32) -> usize
+    ensures { λ r. ⌜ r ≤ 25769803776 ⌝ }
+{
     LEGS_FROM + table::LEG_WORDS * table::wide(i)
 }
 
-pub(crate) fn node_at(i: u32) -> usize {
+pub(crate) fn node_at(i: u32) -> usize
+    ensures { λ r. ⌜ r ≤ 25769803776 ⌝ }
+{
     NODES_FROM + 4 * table::wide(i)
 }
 
-pub(crate) fn stream_name_at(i: u32) -> usize {
+pub(crate) fn stream_name_at(i: u32) -> usize
+    ensures { λ r. ⌜ r ≤ 25769803776 ⌝ }
+{
     STREAM_NAMES_FROM + 2 * table::wide(i)
 }
