@@ -1,6 +1,6 @@
 -- A first meeting is one: of two, neither is later, and one repeat is the last that has begun. Assumes nothing.
 use Prim.Native.Nat.{ℕ, _+_, _*_, _≤_, _<_}
-use mathlib.Core.Path.{_≡_, refl, _∙_, ap}
+use mathlib.Core.Path.{_≡_, refl}
 use mathlib.Core.Logic.{⊎-elim}
 use native.Mathlib.Nat.{lt-of-mul-lt-mul-right}
 use native.Mathlib.Omega.{arith}
@@ -20,20 +20,14 @@ no-later s k m x p q = let h : k < m + 1 = lt-of-mul-lt-mul-right (s .period) (o
 pub one-repeat : (s : Slot) (k m x : ℕ) → LastBegun s k x → LastBegun s m x → k ≡ m
 one-repeat s k m x p q = let h = no-later s k m x p q in let g = no-later s m k x q p in omega arith
 
-same-meeting : {m n : Meeting} → m .first ≡ n .first → m .second ≡ n .second → m .instant ≡ n .instant → m ≡ n
-same-meeting {m} {n} f s e =
-    ap (λ (k : ℕ). record { first = k; second = m .second; instant = m .instant }) f
-    ∙ ap (λ (k : ℕ). record { first = n .first; second = k; instant = m .instant }) s
-    ∙ ap (λ (x : ℕ). record { first = n .first; second = n .second; instant = x }) e
-
-one-meeting : (a b : Slot) (m n : Meeting) → IsFirstMeeting a b m → IsFirstMeeting a b n → m ≡ n
+pub one-meeting : (a b : Slot) (m n : Meeting) → IsFirstMeeting a b m → IsFirstMeeting a b n → m ≡ n
 one-meeting a b m n p q =
     let up = p .earliest (n .first) (n .second) (n .instant) (q .first-holds) (q .second-holds) in
     let down = q .earliest (m .first) (m .second) (m .instant) (p .first-holds) (p .second-holds) in
     let e : m .instant ≡ n .instant = omega arith in
     let f : m .first ≡ n .first = one-repeat a (m .first) (n .first) (m .instant) (p .first-last) (rw e (q .first-last)) in
     let s : m .second ≡ n .second = one-repeat b (m .second) (n .second) (m .instant) (p .second-last) (rw e (q .second-last)) in
-    same-meeting f s e
+    λ i. record { first = f i; second = s i; instant = e i }
 
 met-meets : (a b : Slot) (met : Meeting) → IsFirstMeeting a b met → NeverMeet a b → ⊥
 met-meets a b met p never = shared-instant a b (met .first) (met .second) (met .instant) (p .first-holds) (p .second-holds) never

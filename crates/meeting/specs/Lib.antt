@@ -1,0 +1,4 @@
+pub mod Meets
+pub mod Steps
+pub mod Theorems
+pub mod AtNumbers
