@@ -1,6 +1,8 @@
 pub mod Asking
 pub mod Spares
 pub mod Margins
+pub mod Nearest
+pub mod Ranges
 pub mod Steps
 pub mod Theorems
 pub mod AtNumbers

@@ -1,15 +1,17 @@
--- What is proved of margins.
+-- What is proved of margins and of the nearest offsets.
 use Prim.Native.Nat.{ℕ}
 use mathlib.Core.Path.{_≡_}
 use mathlib.Core.List.{List}
 use Rattle.rules.specs.Places.{PlaceHolds}
 use Rattle.margins.specs.Asking.{CanAsk}
 use Rattle.margins.specs.Margins.{MarginOf, Margins}
+use Rattle.margins.specs.Nearest.{Nears}
 use Rattle.margins.specs.Spares.{Kept, IsSpare}
 use Rattle.margins.specs.declared.Margin.{Margin}
 use Rattle.margins.specs.declared.Spare.{Spare}
 use Rattle.margins.specs.declared.Spare.the-variants as spare
 use Rattle.margins.specs.declared.MarginAnswer.{MarginAnswer}
+use Rattle.margins.specs.declared.NearestAnswer.{NearestAnswer}
 
 -- The numbers decide: a place holds exactly where its numbers keep the rule.
 abbrev pub MarginsDecide : Type 0
@@ -27,3 +29,6 @@ SpareOneAnswer = (m : Margin) (s s′ : Spare) → IsSpare m s → IsSpare m s�
 
 abbrev pub MarginOneAnswer : Type 0
 MarginOneAnswer = (t : List ℕ) (a p : ℕ) (r r′ : MarginAnswer) → Margins t a p r → Margins t a p r′ → r ≡ r′
+
+abbrev pub NearestOneAnswer : Type 0
+NearestOneAnswer = (t : List ℕ) (a p : ℕ) (r r′ : NearestAnswer) → Nears t a p r → Nears t a p r′ → r ≡ r′

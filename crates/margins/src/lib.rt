@@ -1,10 +1,15 @@
-// What a rule needs and has at a place of a table.
+// What a rule needs and has at a place of a table, and the nearest offsets with which it is kept there.
 ghost use Rattle.margins.specs.Margins.{Margins};
+ghost use Rattle.margins.specs.Nearest.{Nears};
 use basics::Checked;
+use offsets::Condition;
 
 pub mod asking;
+pub mod near;
 pub mod numbers_at;
+pub mod ranges;
 pub mod sparing;
+pub mod turning;
 
 // The two sides of a rule, in nanoseconds: what it needs, and what it has. It is kept where it needs no more than it has.
 pub struct Sides {
@@ -49,5 +54,41 @@ pub fn margin_at(t: &[u32], leg: u32, place: u32) -> MarginAnswer
     match told {
         Checked::Refused(number, at) => MarginAnswer::Refused(number, at),
         Checked::Clear => numbers_at::answer(t, table::wide(leg), table::wide(place)),
+    }
+}
+
+// Offsets from one number up to but without another, and of those the ones that a condition allows.
+pub struct Range {
+    pub from: u64,
+    pub end: u64,
+    pub turn: Condition,
+}
+
+// An offset of a leg, or that there is none.
+pub enum Offset {
+    At(u32),
+    None,
+}
+
+// The nearest offsets of a leg, below and above its own.
+pub struct Nearest {
+    pub below: Offset,
+    pub above: Offset,
+}
+
+// What is answered of a place: the nearest offsets of its leg with which it holds, or a refusal's number and position.
+pub enum NearestAnswer {
+    At(Nearest),
+    Refused(u32, usize),
+}
+
+// The nearest offsets of a leg, below and above its own, with which it keeps its window and this place of it holds, its period word staying as it is.
+pub fn nearest_at(t: &[u32], leg: u32, place: u32) -> NearestAnswer
+    ensures { λ r. ⌜ Nears (now (t .entry)) leg place r ⌝ }
+{
+    let told = asking::judged(t, leg, place);
+    match told {
+        Checked::Refused(number, at) => NearestAnswer::Refused(number, at),
+        Checked::Clear => NearestAnswer::At(near::nearest(t, table::wide(leg), table::wide(place))),
     }
 }

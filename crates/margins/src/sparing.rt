@@ -28,7 +28,7 @@ pub(crate) fn over(x: u64, y: u64) -> u64
     x - y
 }
 
-fn lesser(x: u64, y: u64) -> u64
+pub(crate) fn lesser(x: u64, y: u64) -> u64
     ensures { λ r. ⌜ LesserOf x y r ⌝ }
 {
     if x < y {
@@ -37,7 +37,7 @@ fn lesser(x: u64, y: u64) -> u64
     y
 }
 
-fn greater(x: u64, y: u64) -> u64
+pub(crate) fn greater(x: u64, y: u64) -> u64
     ensures { λ r. ⌜ GreaterOf x y r ⌝ }
 {
     if x < y {
