@@ -9,6 +9,15 @@ pub(crate) const PLACE_AT: usize = 3;
 
 pub(crate) const BUDGET_AT: usize = 4;
 
+// Where names are used, the plan's path comes first.
+pub(crate) const PLAN_AT: usize = 2;
+
+pub(crate) const CURSOR_AT: usize = 3;
+
+pub(crate) const GIVEN_LEG_AT: usize = 3;
+
+pub(crate) const GIVEN_PLACE_AT: usize = 4;
+
 // An argument that has to be a number.
 pub(crate) enum Word {
     Given(u32),

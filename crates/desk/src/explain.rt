@@ -151,18 +151,24 @@ fn turns(leg: u32, other: u32, f: Frame, g: Frame, s: Turns) {
     numbered(b" ns after leg ", leg as u64);
     numbered(b", which holds the link for ", s.hold);
     numbered(b" ns, and leg ", leg as u64);
-    numbered(
-        b" begins ",
-        std::num::wrapping_sub_u64(s.divisor, s.after),
-    );
+    numbered(b" begins ", std::num::wrapping_sub_u64(s.divisor, s.after));
     numbered(b" ns after leg ", other as u64);
     numbered(b", which holds it for ", s.other);
     text(b" ns\n");
 }
 
+// When the repeat of a leg that holds its link at an instant began: that lies a whole number of periods after its offset, and less than a period before the instant.
+fn begun_at(f: Frame, instant: u64) -> u64 {
+    if f.period == 0 {
+        return instant;
+    }
+    let since = std::num::wrapping_sub_u64(instant, f.offset);
+    std::num::wrapping_sub_u64(instant, since % f.period)
+}
+
 // One leg at a meeting: its repeat, when that begins, and when it ends.
-fn repeat(leg: u32, f: Frame, k: u64) {
-    let begun = std::num::wrapping_add_u64(f.offset, std::num::wrapping_mul_u64(k, f.period));
+fn repeat(leg: u32, f: Frame, k: u64, instant: u64) {
+    let begun = begun_at(f, instant);
     numbered(b"leg ", leg as u64);
     numbered(b" in its repeat ", k);
     numbered(b", from ", f.offset);
@@ -176,9 +182,9 @@ fn repeat(leg: u32, f: Frame, k: u64) {
 fn meeting_line(leg: u32, other: u32, f: Frame, g: Frame, met: Meeting) {
     numbered(b"both hold the link at ", met.instant);
     text(b" ns, and at no earlier instant: ");
-    repeat(leg, f, met.first);
+    repeat(leg, f, met.first, met.instant);
     text(b"; ");
-    repeat(other, g, met.second);
+    repeat(other, g, met.second, met.instant);
     text(b"\n");
 }
 
@@ -275,7 +281,15 @@ fn ended(t: &[u32], leg: u32, place: u32, spare: Spare) {
 }
 
 // A place that the plan has.
-fn told(t: &[u32], names_text: &[u8], draft: &[u32], leg: u32, place: u32, m: Margin, spare: Spare) {
+fn told(
+    t: &[u32],
+    names_text: &[u8],
+    draft: &[u32],
+    leg: u32,
+    place: u32,
+    m: Margin,
+    spare: Spare,
+) {
     verdict(leg, place, spare);
     if let Framed::Of(f) = legs::frame_of(t, leg) {
         legs::line(t, names_text, draft, leg, f);

@@ -1,0 +1,68 @@
+// The place at which a saved cursor stands.
+use crate::explain;
+use basics::Checked;
+use durable::FileRead;
+use files::Cursor;
+use files::CursorRead;
+use reasons::records;
+use show::answers;
+use show::answers::Part;
+
+// The bytes of the longest cursor and one more, so that a byte left over is seen.
+const CURSOR_ROOM: usize = 16;
+
+fn standing(t: &[u32], names_text: &[u8], draft: &[u32], at: Cursor) {
+    if records::header_word(t, table::LEGS_AT) == at.leg {
+        show::text(b"the cursor is at the end: there is no place to explain\nstatus 0\n");
+        return;
+    }
+    explain::place(t, names_text, draft, at.leg, at.place);
+}
+
+// A cursor that was read: 8 and 9 are the cursor's, what comes before them the plan's.
+fn judged(t: &[u32], names_text: &[u8], draft: &[u32], at: Cursor) {
+    let told = checker::cursors::judged_cursor(t, at);
+    match told {
+        Checked::Refused(number, position) => {
+            if number < checker::cursors::STALE_CURSOR {
+                records::why(t, number, position);
+                answers::plan_refused(number, position);
+                return;
+            }
+            let revision = records::header_word(t, table::REVISION_AT);
+            answers::judged(number, position, revision, Part::Cursor);
+        }
+        Checked::Clear => {
+            standing(t, names_text, draft, at);
+        }
+    }
+}
+
+fn read(t: &[u32], names_text: &[u8], draft: &[u32], bytes: &[u8]) {
+    let saved = files::read_cursor(bytes);
+    match saved {
+        CursorRead::Saved(at) => {
+            judged(t, names_text, draft, at);
+        }
+        CursorRead::Refused(number, position) => {
+            answers::unread(number, position, Part::Cursor);
+        }
+    }
+}
+
+// Explains the place at which the cursor in a file stands.
+pub(crate) fn place(t: &[u32], names_text: &[u8], draft: &[u32], path: &[u8]) {
+    let mut bytes = [0u8; CURSOR_ROOM];
+    let got = durable::file(path, &mut bytes);
+    match got {
+        FileRead::Bytes(n) => {
+            if n <= bytes.len() {
+                read(t, names_text, draft, &bytes[..n]);
+            }
+        }
+        FileRead::Missing => {
+            os::fail(path);
+        }
+        FileRead::Failed => {}
+    }
+}
