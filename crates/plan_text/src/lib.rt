@@ -13,8 +13,9 @@ mod records;
 mod routes;
 pub mod writing;
 
-// How many bytes a text may have, and the room to read it: one byte more, so that a byte left over is seen.
-pub const MAX_BYTES: usize = 1048576;
+// How many bytes a text may have, and the room to read it: one byte more, so that a byte left over is seen. No plan is written without names in more than 249,645
+// bytes: 45 for the header, 79 for a link, 104 for a stream and 86 for a leg.
+pub const MAX_BYTES: usize = 262144;
 
 pub const TEXT_ROOM: usize = MAX_BYTES + 1;
 

@@ -101,7 +101,7 @@ fn is_fit(path: &[u8], text: &[u8], t: &[u32], draft: &mut [u32]) -> bool {
     if crate::MAX_BYTES < text.len() {
         return said(
             path,
-            b" has more than 1048576 bytes: numbers are used in place of its names\n",
+            b" has more than 262144 bytes: numbers are used in place of its names\n",
         );
     }
     if 0 < reading::read(text, true, draft) {

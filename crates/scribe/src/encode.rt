@@ -4,7 +4,6 @@ use numbers::Written;
 use plan_text::assembling;
 use plan_text::names;
 use plan_text::reading;
-use plan_text::writing;
 use reasons::records;
 
 // Puts bytes under a name: a new one, or one that may be there.
@@ -26,30 +25,14 @@ fn without_names(path: &[u8], replacing: bool) -> bool {
     true
 }
 
-// Puts the names in their place, where there are some.
-fn names_put(path: &[u8], text: &[u8], draft: &[u32], t: &[u32], replacing: bool) -> bool {
+// Puts the names in their place, where there are some: the text itself, which the same reader reads.
+fn names_put(path: &[u8], text: &[u8], draft: &[u32], replacing: bool) -> bool {
     let mut name = io::buffer();
     let n = names::path_of(path, &mut name);
-    if !names::are_some(draft) {
-        return without_names(&name[..n], replacing);
+    if names::are_some(draft) {
+        return put(&name[..n], text, replacing);
     }
-    let mut out = [0u8; plan_text::MAX_BYTES];
-    let m = writing::write(text, draft, &mut out);
-    if out.len() < m {
-        return false;
-    }
-    put_names(&name[..n], &out[0..m], t, replacing)
-}
-
-fn put_names(path: &[u8], text: &[u8], t: &[u32], replacing: bool) -> bool {
-    if assembling::is_text_of(text, t) {
-        return put(path, text, replacing);
-    }
-    reasons::line(
-        b"the text of the names does not give this plan back: nothing is written",
-        &[],
-    );
-    false
+    without_names(&name[..n], replacing)
 }
 
 fn told(t: &[u32], bytes: usize) {
@@ -77,7 +60,7 @@ fn names_dropped(path: &[u8], replacing: bool) {
 }
 
 fn on_file(path: &[u8], text: &[u8], draft: &[u32], t: &[u32], file: &[u8], replacing: bool) {
-    if !names_put(path, text, draft, t, replacing) {
+    if !names_put(path, text, draft, replacing) {
         return;
     }
     if put(path, file, replacing) {
