@@ -1,5 +1,8 @@
 # Proves and builds the programs and the calls for C, and installs them. The command conepalhui reads this file in the repository.
 
+# The programs that a copy needs.
+all_programs=(timetable operator temporal slots export desk scribe)
+
 has_rt() {
     has rt || { note "the command rt is not on the PATH: install the Rattle kit"; return 1; }
 }
@@ -77,6 +80,7 @@ run_rt() { # COMMAND CRATE LOG
     slots) what="the program for new streams" time=five ;;
     export) what="the program for gate lists" time=five ;;
     desk) what="the program for explanations and surveys" time=five ;;
+    scribe) what="the program for plans as text" time=five ;;
     host) what="the calls for C" ;;
     network_host) what="the calls for C of temporal networks" ;;
     esac
@@ -219,16 +223,11 @@ do_install() {
     [[ $to == /* ]] || to=$from/$to
     # The command finds its parts from where it really stands.
     [[ ! -L $to/bin && ! -L $to/lib ]] || stop "$to/bin or $to/lib is a link: give the folder that it leads to"
-    build timetable
-    build operator
-    build temporal
-    build slots
-    build export
-    build desk
+    for name in "${all_programs[@]}"; do build "$name"; done
     build_library
     umask 022
     make_temp && write_copy || stop "cannot make the copy"
-    for name in timetable operator temporal slots export desk; do put ".built/$name" "lib/conepalhui/$name" 755; done
+    for name in "${all_programs[@]}"; do put ".built/$name" "lib/conepalhui/$name" 755; done
     for name in help run desk; do put "tools/$name.sh" "lib/conepalhui/$name.sh"; done
     for name in conepalhui conepalhui-network; do
         put ".built/lib$name.a" "lib/lib$name.a"

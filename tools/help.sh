@@ -14,6 +14,8 @@ commands=(
     'survey|PLAN NOTES --budget N [--rate R] [--anew]|the same, but note each violated place and go on'
     'words|[PLAN]|print the numbers of a plan, one record per line'
     'shape|[PLAN]|say whether a plan is well-formed'
+    'encode|TEXT PLAN [--replace]|write a plan file from its text, and its names beside it'
+    'decode|[PLAN]|print the text of a plan, with names and units'
     'convert|OLD NEW [first]|write a plan file of versions 1 and 2 anew, for this version'
     'admit|PLAN NEW OPTION...|find slots for new streams, and write the plan with them to NEW'
     'gates|PLAN LINK [OPTION...]|print or write the gate lists of an accepted plan, for its switches'
@@ -271,6 +273,43 @@ about_shape() {
     cat <<'END'
 Reads the plan file PLAN, or standard input, and prints 'well-formed', or one line, 'refused NUMBER AT', with the exit
 status 2; standard error says why. The rules are not judged: that is 'check'.
+END
+}
+
+about_encode() {
+    cat <<'END'
+Reads TEXT, a plan as a person writes it, and writes the plan file PLAN; - is standard input. A text has a record to a line:
+
+  plan revision 0 precision 100ns
+  node press 1
+  link press -> switch rate 1G propagation 500ns
+  stream stop period 100us deadline 2352ns octets 64
+  leg press -> switch offset 0ns periods 0
+
+'plan' comes first, and may be left out. Nodes are numbers or names; 'node' gives a number its name. Legs stand below their stream and name
+their link by its ends. Times have a unit: ns, us, ms or s. Rates are 10M, 100M, 1G, or as in 7ns/octet. # begins a comment.
+docs/TEXTS.md has all of it.
+
+It prints 'encoded links N streams S legs G bytes B revision R'; PLAN is on the disk then. Where the text has names it is kept
+as PLAN.names, where other commands find them. Neither file is replaced if it is there, unless with --replace; each is then
+replaced whole, PLAN.names first. The plan is not judged: check PLAN.
+
+Where lines are wrong it prints 'refused lines N', how many they are, and standard error says of each what stands there and what
+is expected. Nothing is written then. A text of more than 262144 bytes is 'refused long'. Exit status: 0 encoded, 2 refused, 4
+bad arguments, or a file that cannot be read or written or is there already.
+END
+}
+
+about_decode() {
+    cat <<'END'
+Reads the plan file PLAN, or standard input, and prints its text, which 'encode' writes as the same file, byte for byte, whether
+it is well-formed or not. Times have the largest unit in which they are whole. Names come from PLAN.names, which 'encode' keeps
+beside a plan; where that is of another plan, standard error says so, and numbers are printed. Moves change neither the names nor
+PLAN.names. The text is read again before it is printed, and is printed only if it gives the same plan back. docs/TEXTS.md has
+the form.
+
+Bytes that are no plan file give one line, 'refused NUMBER AT', and the exit status 2; standard error says why. Exit status: 0
+printed, 2 refused, 4 where the plan cannot be read.
 END
 }
 

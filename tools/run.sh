@@ -140,7 +140,8 @@ real_path() { # PATH
 
 # Ends a call that is given a name of the commands' own files.
 stop_at_kept_name() { # PATH
-    [[ $1 != *.conepalhui-new && $1 != *.seen && $1 != *.accepted ]] || stop "names that end in .conepalhui-new, .seen or .accepted are kept for files of these commands: give $1 another name"
+    [[ $1 != *.conepalhui-new && $1 != *.seen && $1 != *.accepted && $1 != *.names ]] ||
+        stop "names that end in .conepalhui-new, .seen, .accepted or .names are kept for files of these commands: give $1 another name"
 }
 
 # Finds the files $plan and $cursor. Links are followed, so that a file is replaced and not the link to it.
@@ -651,6 +652,76 @@ do_gates() {
     else
         take_plan gates "$words" && answer export print "$base" "$device" "$number"
     fi
+}
+
+# ---- Plans as text
+
+# Prints the text of a plan, with the names that stand beside it.
+do_decode() {
+    local path=''
+    take_plan decode "$@"
+    (($# == 0)) || { path=$(real_path "$1") && path=${path%$'\n.'}; } || stop "cannot find the plan $1"
+    answer scribe decode "$path"
+}
+
+# Makes the text that encode is given its standard input. What is made is as private as the text, where that is a file.
+take_text() { # TEXT
+    local file plan
+    if [[ $1 == - ]]; then
+        [[ -e /dev/fd/0 ]] || stop "standard input is closed: the text cannot be read"
+        [[ ! -t 0 ]] || note "the text is read from this terminal"
+        return
+    fi
+    find_input text "$1"
+    exec <"$file" || stop "the text $file may not be read"
+    [[ ! -f $file ]] || { plan=$file && keep_private; }
+}
+
+# Finds the plan file that is written, $cursor, and sees to it that its name and that of its names are free.
+find_new_plan() { # PLAN
+    find_new "$1"
+    [[ ! -e $cursor.names && ! -L $cursor.names ]] || stop "$1.names is there already, and is never replaced: give the plan another name, or remove it"
+}
+
+# The same for a plan file that may be there. Links are followed, so that a file is replaced and not the link to it.
+find_plan_to_replace() { # PLAN
+    [[ -n $1 ]] || stop "the plan is a path, and it is empty"
+    cursor=$(real_path "$1") || stop "cannot find the folder of the plan $1"
+    cursor=${cursor%$'\n.'}
+    stop_at_kept_name "$cursor"
+    [[ ! -e $cursor || -f $cursor && -w $cursor ]] || stop "$1 is not a file that can be written"
+    [[ ! -L $cursor.names && (-f $cursor.names || ! -e $cursor.names) ]] || stop "$cursor.names is no file, and the names of the plan are kept there: remove it, or give the plan another name"
+}
+
+# Asks the program scribe for the plan of the text on standard input.
+consult_scribe() { # PLAN [--replace]
+    wrote=$(run_program scribe encode "$cursor" "${@:2}" && printf .) && take_status && return
+    stop "the program scribe gave no whole answer: $1 is as it was, or was written whole. Look at it"
+}
+
+# Writes a plan file from its text, and the names beside it.
+do_encode() {
+    local word plan cursor found held wrote status why find=find_new_plan replace=() files=()
+    for word; do
+        case $word in
+        --replace) find=find_plan_to_replace replace=(--replace) ;;
+        -?*) stop "encode has no option $word: $(usage encode)" ;;
+        *) files+=("$word") ;;
+        esac
+    done
+    ((${#files[@]} == 2)) || stop "encode takes a text and a name for the plan: $(usage encode)"
+    prepare scribe
+    take_text "${files[0]}"
+    "$find" "${files[1]}"
+    found=$cursor plan=$cursor
+    hold
+    "$find" "${files[1]}"
+    [[ $cursor == "$found" ]] || stop "the name ${files[1]} led to $found and leads to $cursor now: nothing was written. Give the name that is meant"
+    consult_scribe "${files[1]}" "${replace[@]}"
+    release
+    printf '%s' "$wrote" || stop "cannot write to standard output"
+    ((status != 0)) || note "${files[1]} is written as the text has it, and is not judged. To check it: $(shown_call check "${files[1]}")"
+    return $status
 }
 
 # ---- A run
