@@ -5,7 +5,7 @@ use mathlib.Core.List.{List}
 use native.Mathlib.Nat.{mod-eq-of-lt}
 use native.Mathlib.Omega.{arith}
 use Rattle.numbers.specs.Number.{maxWord}
-use Rattle.shape.specs.Legs.{firstOf}
+use Rattle.shape.specs.Legs.{firstOf, endOf}
 use Rattle.overlap.specs.Meeting.{NeverMeet}
 use Rattle.overlap.specs.Divisor.{IsGcd, Repeats}
 use Rattle.overlap.specs.declared.Slot.{Slot}
@@ -17,7 +17,7 @@ use Rattle.rules.specs.Steps.{LegIn, FrameOf, ReadyOf}
 use Rattle.rules.specs.declared.Asked.{Asked}
 use Rattle.rules.specs.declared.Asked.the-variants as asked
 use Rattle.rules.specs.declared.Frame.{Frame}
-use Rattle.margins.specs.Ranges.{Among, Between, InWindow, Moving, RangeFor, StandsAt, TurnedFrom}
+use Rattle.margins.specs.Ranges.{Among, Between, InWindow, LateFrom, Moving, RangeFor, StandsAt, TurnedFrom}
 use Rattle.margins.specs.Steps.{LesserOf}
 use Rattle.margins.specs.declared.Range.{Range}
 use Rattle.margins.proofs.Standing.{starts-late, window-to, window-from, hop-first, hop-to, hop-from, deadline-not-last, deadline-to, deadline-from, deadline-only-to, deadline-only-from, other-links, overlap-to, overlap-from, slotAt}
@@ -86,48 +86,49 @@ module _ (t : List ℕ) (a : ℕ) (f : Frame) (m : Moving t a f) where
   not-last-range r lt =
       free-range asked.Deadline r (λ x h. record { window = h .window; asked = deadline-not-last t a (m .shape) (m .leg .leg) x (omega (arith, m .frame .end)) })
 
-  module _ (g : Frame) (n : ℕ) (r : Range) (last : f .end ≤ a + 1) (is-first : FrameOf t (f .first) g) (at : ReadyOf t a n) where
-    first-start : g .start ≡ startOf t (f .first)
-    first-start = is-first .start
+  pub late-from : (g : Frame) (n r : ℕ) → FrameOf t (f .first) g → ReadyOf t a n → r ≡ f .deadline + g .start + 1 - (n - f .offset) → LateFrom t a r
+  late-from g n r is-first at e =
+      let s = is-first .start ∙ ap (startOf t) (m .frame .first) in
+      let o = offset-before-ready t a n f (m .frame) at in
+      let d = m .frame .deadline in
+      let p = m .frame .offset in
+      record { in-time = λ x h. omega (arith, at .same); before = λ x h. omega (arith, at .same) }
 
-    pub due-range : (late windows end : ℕ) → f .first < a → late ≡ f .deadline + g .start + 1 - (n - f .offset) → windows ≡ f .period + 1 - f .hold → LesserOf windows late end
-        → RangeFor (Between 0 end) r → RangeFor (StandsAt t a asked.Deadline) r
-    due-range late windows end many is-late is-windows least =
-        let s = ap (startOf t) (m .frame .first) in
-        let o = offset-before-ready t a n f (m .frame) at in
-        let k = m .leg .table .leg a (m .leg .leg) .to-last in
+  is-last : f .end ≤ a + 1 → a + 1 ≡ endOf t a
+  is-last last = omega (arith, m .frame .end, m .leg .table .leg a (m .leg .leg) .to-last)
+
+  pub due-range : (late windows end : ℕ) (r : Range) → f .end ≤ a + 1 → f .first < a → LateFrom t a late → windows ≡ f .period + 1 - f .hold → LesserOf windows late end
+      → RangeFor (Between 0 end) r → RangeFor (StandsAt t a asked.Deadline) r
+  due-range late windows end r last many from is-windows least =
+      let other : firstOf t a < a = omega (arith, m .frame .first) in
+      in-words _ _ r
+      (λ x h. record {
+        window = to-window x (omega (arith, h .below, least .first)) .window;
+        asked = deadline-to t a (m .shape) (m .leg .leg) x other (from .in-time x (omega (arith, h .below, least .second)));
+      })
+      (λ x h.
+      let d = from .before x (deadline-from t a (m .shape) (m .leg .leg) x other (is-last last) (h .asked)) in
+      let v = from-window x (record { window = h .window }) in
+      let i = least .most (x + 1) (omega arith) (omega arith) in
+      record { above = omega arith; below = omega arith })
+
+  module _ (n : ℕ) (r : Range) (last : f .end ≤ a + 1) (at : ReadyOf t a n) (only : a ≤ f .first) where
+    only-leg : firstOf t a ≡ a
+    only-leg = omega (arith, m .frame .first, m .leg .table .leg a (m .leg .leg) .from-first)
+
+    own-start : f .start ≡ startOf t (firstOf t a)
+    own-start = m .frame .start ∙ ap (startOf t) (sym only-leg)
+
+    pub kept-range : n ≤ f .deadline + f .start → RangeFor (InWindow t a) r → RangeFor (StandsAt t a asked.Deadline) r
+    kept-range le =
+        free-range asked.Deadline r
+        (λ x h. record { window = h .window; asked = deadline-only-to t a (m .shape) (m .leg .leg) x only-leg (omega (arith, at .same, m .frame .deadline, own-start)) })
+
+    pub lost-range : f .deadline + f .start < n → RangeFor (Between 0 0) r → RangeFor (StandsAt t a asked.Deadline) r
+    lost-range lt =
         in-words _ _ r
-        (λ x h. record {
-          window = to-window x (omega (arith, h .below, least .first)) .window;
-          asked = deadline-to t a (m .shape) (m .leg .leg) x (omega (arith, m .frame .first)) (omega (arith, h .below, least .second, at .same, m .frame .deadline, m .frame .offset, first-start));
-        })
-        (λ x h.
-        let d = deadline-from t a (m .shape) (m .leg .leg) x (omega (arith, m .frame .first)) (omega (arith, m .frame .end)) (h .asked) in
-        let v = from-window x (record { window = h .window }) in
-        let i = least .most (x + 1) (omega arith) (omega (arith, at .same, m .frame .deadline, m .frame .offset, first-start)) in
-        record { above = omega arith; below = omega arith })
-
-    module _ (only : a ≤ f .first) where
-      only-leg : firstOf t a ≡ a
-      only-leg = omega (arith, m .frame .first, m .leg .table .leg a (m .leg .leg) .from-first)
-
-      pub kept-range : n ≤ f .deadline + g .start → RangeFor (InWindow t a) r → RangeFor (StandsAt t a asked.Deadline) r
-      kept-range le =
-          let s = ap (startOf t) (m .frame .first) in
-          free-range asked.Deadline r (λ x h. record {
-            window = h .window;
-            asked = deadline-only-to t a (m .shape) (m .leg .leg) x only-leg (omega (arith, at .same, m .frame .deadline, first-start));
-          })
-
-      pub lost-range : f .deadline + g .start < n → RangeFor (Between 0 0) r → RangeFor (StandsAt t a asked.Deadline) r
-      lost-range lt =
-          let s = ap (startOf t) (m .frame .first) in
-          let k = m .leg .table .leg a (m .leg .leg) .to-last in
-          in-words _ _ r
-          (λ x h. absurd (omega (arith, h .below)))
-          (λ x h.
-          let d = deadline-only-from t a (m .shape) (m .leg .leg) x only-leg (omega (arith, m .frame .end)) (h .asked) in
-          absurd (omega (arith, at .same, m .frame .deadline, first-start)))
+        (λ x h. absurd (omega (arith, h .below)))
+        (λ x h. absurd (omega (arith, deadline-only-from t a (m .shape) (m .leg .leg) x only-leg (is-last last) (h .asked), at .same, m .frame .deadline, own-start)))
 
   module _ (b : ℕ) (o : Frame) (r : Range) (below : b < a) (so : FrameOf t b o) where
     pub other-link-range : (f .link ≡ o .link → ⊥) → RangeFor (InWindow t a) r → RangeFor (StandsAt t a (asked.Overlap b)) r

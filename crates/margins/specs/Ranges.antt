@@ -3,11 +3,12 @@ use Prim.Native.Nat.{ℕ, _+_, _%_, _≤_, _<_}
 use mathlib.Core.Path.{_≡_}
 use mathlib.Core.List.{List}
 use Rattle.numbers.specs.Number.{maxWord}
+use Rattle.shape.specs.Legs.{streamOf, firstOf}
 use Rattle.shape.specs.Shape.{WellFormedTable}
 use Rattle.offsets.specs.Conditions.{Allows, Sound}
 use Rattle.offsets.specs.Search.{NoneFrom}
 use Rattle.offsets.specs.declared.Condition.{Condition}
-use Rattle.rules.specs.Times.{maxReady}
+use Rattle.rules.specs.Times.{maxReady, offsetOf, startOf, readyOf}
 use Rattle.rules.specs.Rules.{Window}
 use Rattle.rules.specs.Places.{AskedHolds}
 use Rattle.rules.specs.Steps.{LegIn, FrameOf}
@@ -77,6 +78,11 @@ pub record Moving (t : List ℕ) (a : ℕ) (f : Frame) : Type 0 where
   pub shape : WellFormedTable t
   pub leg : LegIn t a
   pub frame : FrameOf t a f
+
+-- From offset r on leg a is late: it is then ready after its deadline, counted from the first leg of its stream, where that is another.
+pub record LateFrom (t : List ℕ) (a r : ℕ) : Type 0 where
+  pub in-time : (x : ℕ) → x < r → readyOf t a + x ≤ streamOf t a .deadline + startOf t (firstOf t a) + offsetOf t a
+  pub before : (x : ℕ) → readyOf t a + x ≤ streamOf t a .deadline + startOf t (firstOf t a) + offsetOf t a → x < r
 
 -- At offset x leg a keeps its window.
 pub record InWindow (t : List ℕ) (a x : ℕ) : Type 0 where

@@ -7,7 +7,7 @@ ghost use Rattle.rules.specs.Times.{maxReady};
 ghost use Rattle.rules.specs.Places.{AskedOf};
 ghost use Rattle.rules.specs.Steps.{FrameOf};
 ghost use Rattle.rules.specs.declared.Asked.the-variants as asked;
-ghost use Rattle.margins.specs.Ranges.{Among, Between, InWindow, Moving, RangeFor, StandsAt};
+ghost use Rattle.margins.specs.Ranges.{Among, Between, InWindow, LateFrom, Moving, RangeFor, StandsAt};
 use crate::Range;
 use crate::sparing;
 use crate::turning;
@@ -75,23 +75,35 @@ fn hop(t: &[u32], a: usize, f: Frame) -> Range
     )
 }
 
-// The deadline of the last leg of a stream. Where it is the first too, its offset changes nothing.
-fn due(t: &[u32], a: usize, f: Frame) -> Range
+// The first offset with which a leg is late, where its deadline counts from another one.
+fn late_from(t: &[u32], a: usize, f: Frame) -> u64
     requires { ⌜ Moving (now t) a f ⌝ }
-    requires { ⌜ f .end ≤ a + 1 ⌝ }
-    ensures { λ r. ⌜ RangeFor (StandsAt (now (t .entry)) a asked.Deadline) r ⌝ }
+    ensures { λ r. ⌜ LateFrom (now (t .entry)) a r ⌝ }
 {
     let first = rules::times::frame(t, f.first);
-    let needs = rules::judge::ready(t, a, f);
-    let has = f.deadline + first.start;
-    if f.first < a {
-        let late = sparing::over(has + 1, needs - f.offset);
-        return between(0, sparing::lesser(window_end(t, a, f), late));
+    let needs = rules::judge::ready(t, a, f) - f.offset;
+    sparing::over(f.deadline + first.start + 1, needs)
+}
+
+// The deadline of the last leg of a stream that has others: it counts from the first.
+fn due(t: &[u32], a: usize, f: Frame) -> Range
+    requires { ⌜ Moving (now t) a f ⌝ }
+    requires { ⌜ (f .end ≤ a + 1) × (f .first < a) ⌝ }
+    ensures { λ r. ⌜ RangeFor (StandsAt (now (t .entry)) a asked.Deadline) r ⌝ }
+{
+    between(0, sparing::lesser(window_end(t, a, f), late_from(t, a, f)))
+}
+
+// The deadline of the only leg of a stream: its offset changes nothing.
+fn due_alone(t: &[u32], a: usize, f: Frame) -> Range
+    requires { ⌜ Moving (now t) a f ⌝ }
+    requires { ⌜ (f .end ≤ a + 1) × (a ≤ f .first) ⌝ }
+    ensures { λ r. ⌜ RangeFor (StandsAt (now (t .entry)) a asked.Deadline) r ⌝ }
+{
+    if f.deadline + f.start < rules::judge::ready(t, a, f) {
+        return between(0, 0);
     }
-    if needs <= has {
-        return whole(t, a, f);
-    }
-    between(0, 0)
+    whole(t, a, f)
 }
 
 fn deadline(t: &[u32], a: usize, f: Frame) -> Range
@@ -101,7 +113,10 @@ fn deadline(t: &[u32], a: usize, f: Frame) -> Range
     if a + 1 < f.end {
         return whole(t, a, f);
     }
-    due(t, a, f)
+    if f.first < a {
+        return due(t, a, f);
+    }
+    due_alone(t, a, f)
 }
 
 // The overlap with a leg b of the same link.

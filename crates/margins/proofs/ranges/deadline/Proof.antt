@@ -19,5 +19,13 @@ due-requires c κs = search needs
 returns-2 : tie.Need-returns-2
 returns-2 c = search needs
 
+due-alone-requires : tie.Need-due-alone-requires
+due-alone-requires c κs = search needs
+
+returns-3 : tie.Need-returns-3
+returns-3 c = search needs
+
 pub deadline-spec : {M : Type 1} → statement M
-deadline-spec = tie.close (tie.spec add-if1 whole-requires returns due-requires returns-2)
+deadline-spec =
+    tie.close
+    (tie.spec add-if1 whole-requires returns due-requires returns-2 due-alone-requires returns-3)
