@@ -1,17 +1,15 @@
 -- Margins of Plan A, Plan B and their neighbours: the numbers of their frames. Assumes nothing.
-use Prim.Native.Nat.{ℕ, _+_, _%_, _≤_, _<_}
-use mathlib.Core.Path.{_≡_, refl, _∙_, sym, ap, subst}
+use Prim.Native.Nat.{ℕ, _+_, _≤_, _<_}
+use mathlib.Core.Path.{_≡_, refl, sym, ap, subst}
 use mathlib.Core.List.{List}
 use mathlib.Core.Logic.{inl, inr}
 use native.Mathlib.Nat.{dvd-sub}
 use native.Mathlib.Omega.{arith}
-use Rattle.table.specs.Layout.{legCount}
-use Rattle.table.specs.PlanA.{PlanNumbers, planWith, planA, offsetsA, dueA, offsetsB}
+use Rattle.table.specs.PlanA.{PlanNumbers, planWith, offsetsA, dueA, offsetsB}
 use Rattle.shape.proofs.AtNumbers.{like-a-in-range, like-b-in-range, plans-are-well-formed, plan-a-is-well-formed}
 use Rattle.overlap.specs.Divisor.{IsGcd, IsRemainder}
 use Rattle.rules.specs.Times.{wireTime, holdTime, lasting, startOf}
-use Rattle.rules.specs.Places.{askedAt, placesOf, placeOf, AskedOf}
-use Rattle.rules.specs.Steps.{FrameOf, ReadyOf}
+use Rattle.rules.specs.Places.{placesOf, placeOf}
 use Rattle.rules.specs.declared.Asked.{Asked}
 use Rattle.rules.specs.declared.Asked.the-variants as asked
 use Rattle.rules.proofs.Asking.{places-are-asked}

@@ -12,7 +12,7 @@ use Rattle.shape.specs.Legs.{streamOf, firstOf, endOf}
 use Rattle.shape.specs.Shape.{WellFormedTable}
 use Rattle.shape.proofs.OneShape.{shape-one}
 use Rattle.shape.proofs.Placed.{well-formed-guarantees}
-use Rattle.overlap.specs.Divisor.{IsGcd, IsRemainder, Apart}
+use Rattle.overlap.specs.Divisor.{IsGcd, IsRemainder}
 use Rattle.overlap.proofs.Law.{divisor-law}
 use Rattle.overlap.proofs.Remainders.{cancel-start}
 use Rattle.rules.specs.Times.{offsetOf, readyOf, slotOf}
@@ -23,7 +23,7 @@ use Rattle.rules.specs.declared.Asked.the-variants as asked
 use Rattle.rules.proofs.Asking.{places-are-asked}
 use Rattle.rules.proofs.Gap.{holds-some}
 use Rattle.checker.specs.Cursors.{noPlace}
-use Rattle.margins.specs.Asking.{CanAsk, askRefusals}
+use Rattle.margins.specs.Asking.{askRefusals}
 use Rattle.margins.specs.Margins.{WindowSides, HopSides, DeadlineSides, OverlapTurns, AskedMargin, MarginOf}
 use Rattle.margins.specs.Spares.{Kept, IsSpare}
 use Rattle.margins.specs.Theorems.{MarginsDecide, MarginOneAnswer}

@@ -6,3 +6,4 @@ pub mod TurnLaws
 pub mod RangeLaws
 pub mod NearLaws
 pub mod AtNumbers
+pub mod NearestAtNumbers

@@ -1,6 +1,6 @@
 -- The nearest numbers of a range, and that they are one. Assumes nothing.
 use Prim.Native.Nat.{ℕ, _+_, _-_, _≤_, _<_}
-use mathlib.Core.Path.{_≡_, refl, _∙_, sym, ap, subst}
+use mathlib.Core.Path.{_≡_, refl, sym, ap, subst}
 use mathlib.Core.List.{List}
 use mathlib.Core.Logic.{⊎-elim}
 use native.Mathlib.Omega.{arith}
@@ -15,7 +15,7 @@ use Rattle.rules.specs.Steps.{FrameOf}
 use Rattle.rules.specs.declared.Asked.{Asked}
 use Rattle.rules.specs.declared.Frame.{Frame}
 use Rattle.margins.specs.Asking.{CanAsk, askRefusals}
-use Rattle.margins.specs.Nearest.{Stands, LastBelow, FirstAbove, IsBelow, IsAbove, NearestOf, Nears}
+use Rattle.margins.specs.Nearest.{Stands, LastBelow, FirstAbove, IsBelow, IsAbove, NearestOf}
 use Rattle.margins.specs.Ranges.{Ahead, Behind, Fits, Moving, RangeFor, StandsAt, Within}
 use Rattle.margins.specs.Steps.{GreaterOf, LesserOf}
 use Rattle.margins.specs.Theorems.{NearestOneAnswer}
@@ -74,22 +74,28 @@ module _ {P Q : ℕ → Type 0} (to : (x : ℕ) → P x → Q x) (from : (x : �
   above-in-words (offset.At x) k = record { above = k .above; has = to x (k .has); none-between = λ z above before h. k .none-between z above before (from z h) }
   above-in-words offset.None k = λ z above h. k z above (from z h)
 
-module _ (t : List ℕ) (a p : ℕ) (f : Frame) (q : Asked) (r : Range) (is : FrameOf t a f) (there : q ≡ askedAt p) (range : RangeFor (StandsAt t a q) r) where
-  stands-to : (x : ℕ) → Within r x → Stands t a p x
+-- Offsets with P are those at which the leg stands: their nearest are its nearest.
+module _ (t : List ℕ) (a p : ℕ) (q : Asked) (there : q ≡ askedAt p) (P : ℕ → Type 0) (to : (x : ℕ) → P x → StandsAt t a q x) (from : (x : ℕ) → StandsAt t a q x → P x)
+    (y : ℕ) (own : y ≡ offsetOf t a) where
+  stands-to : (x : ℕ) → P x → Stands t a p x
   unfolding PlaceHolds
   stands-to x k =
-      let s : StandsAt t a (askedAt p) x = subst (λ (z : Asked). StandsAt t a z x) there (range .to x k) in
+      let s : StandsAt t a (askedAt p) x = subst (λ (z : Asked). StandsAt t a z x) there (to x k) in
       record { window = s .window; place = s .asked }
 
-  stands-from : (x : ℕ) → Stands t a p x → Within r x
+  stands-from : (x : ℕ) → Stands t a p x → P x
   unfolding PlaceHolds
-  stands-from x s = range .from x (subst (λ (z : Asked). StandsAt t a z x) (sym there) (record { window = s .window; asked = s .place }))
+  stands-from x s = from x (subst (λ (z : Asked). StandsAt t a z x) (sym there) (record { window = s .window; asked = s .place }))
 
-  pub nearest-told : (below above : Offset) → IsBelow (Within r) (f .offset) below → IsAbove (Within r) (f .offset) above → NearestOf t a p (record { below = below; above = above })
-  nearest-told below above k l = record {
-    below = subst (λ (y : ℕ). IsBelow (Stands t a p) y below) (is .offset) (below-in-words stands-to stands-from (f .offset) below k);
-    above = subst (λ (y : ℕ). IsAbove (Stands t a p) y above) (is .offset) (above-in-words stands-to stands-from (f .offset) above l);
+  pub nearest-by : (below above : Offset) → IsBelow P y below → IsAbove P y above → NearestOf t a p (record { below = below; above = above })
+  nearest-by below above k l = record {
+    below = subst (λ (z : ℕ). IsBelow (Stands t a p) z below) own (below-in-words stands-to stands-from y below k);
+    above = subst (λ (z : ℕ). IsAbove (Stands t a p) z above) own (above-in-words stands-to stands-from y above l);
   }
+
+pub nearest-told : (t : List ℕ) (a p : ℕ) (f : Frame) (q : Asked) (r : Range) → FrameOf t a f → q ≡ askedAt p → RangeFor (StandsAt t a q) r
+    → (below above : Offset) → IsBelow (Within r) (f .offset) below → IsAbove (Within r) (f .offset) above → NearestOf t a p (record { below = below; above = above })
+nearest-told t a p f q r is there range = nearest-by t a p q there (Within r) (range .to) (range .from) (f .offset) (is .offset)
 
 pub moving-leg : (t : List ℕ) (a p : ℕ) (f : Frame) → CanAsk t a p → FrameOf t a f → Moving t a f
 moving-leg t a p f c is = record { shape = c .shape; leg = asked-leg t a p c; frame = is }

@@ -1,5 +1,5 @@
 -- The numbers of each rule, over a leg's frame. Assumes nothing.
-use Prim.Native.Nat.{ℕ, _+_, _-_, _≤_, _<_}
+use Prim.Native.Nat.{ℕ, _+_, _≤_, _<_}
 use mathlib.Core.Path.{_≡_, _∙_, sym, ap, subst}
 use mathlib.Core.List.{List}
 use native.Mathlib.Omega.{arith}
@@ -7,11 +7,10 @@ use Rattle.basics.specs.Refusals.{Told}
 use Rattle.basics.specs.declared.Checked.{Checked}
 use Rattle.basics.specs.declared.Checked.the-variants as checked
 use Rattle.numbers.specs.Number.{maxWord}
-use Rattle.shape.specs.Legs.{streamOf}
 use Rattle.shape.proofs.Placed.{well-formed-guarantees}
 use Rattle.overlap.specs.Divisor.{IsGcd, IsRemainder}
 use Rattle.overlap.proofs.Euclid.{gcd-positive}
-use Rattle.rules.specs.Times.{offsetOf, startOf}
+use Rattle.rules.specs.Times.{startOf}
 use Rattle.rules.specs.Places.{askedAt, AskedOf}
 use Rattle.rules.specs.Steps.{LegIn, FrameOf, ReadyOf}
 use Rattle.rules.specs.declared.Asked.{Asked}

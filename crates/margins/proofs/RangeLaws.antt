@@ -1,19 +1,18 @@
 -- Ranges of offsets: what each rule allows, over a leg's frame. Assumes nothing.
 use Prim.Native.Nat.{ℕ, _+_, _-_, _%_, _≤_, _<_}
-use mathlib.Core.Path.{_≡_, _∙_, sym, ap, subst}
+use mathlib.Core.Path.{_≡_, _∙_, sym, ap}
 use mathlib.Core.List.{List}
 use native.Mathlib.Nat.{mod-eq-of-lt}
 use native.Mathlib.Omega.{arith}
 use Rattle.numbers.specs.Number.{maxWord}
 use Rattle.shape.specs.Legs.{firstOf, endOf}
 use Rattle.overlap.specs.Meeting.{NeverMeet}
-use Rattle.overlap.specs.Divisor.{IsGcd, Repeats}
+use Rattle.overlap.specs.Divisor.{Repeats}
 use Rattle.overlap.specs.declared.Slot.{Slot}
 use Rattle.offsets.specs.Conditions.{AllowsAll, ClearOf, Says, Starts, slotFrom}
 use Rattle.offsets.specs.declared.Condition.{Condition}
-use Rattle.rules.specs.Times.{maxReady, holdOf, offsetOf, startOf, slotOf}
-use Rattle.rules.specs.Places.{askedAt, AskedOf, PlaceHolds}
-use Rattle.rules.specs.Steps.{LegIn, FrameOf, ReadyOf}
+use Rattle.rules.specs.Times.{maxReady, startOf, slotOf}
+use Rattle.rules.specs.Steps.{FrameOf, ReadyOf}
 use Rattle.rules.specs.declared.Asked.{Asked}
 use Rattle.rules.specs.declared.Asked.the-variants as asked
 use Rattle.rules.specs.declared.Frame.{Frame}

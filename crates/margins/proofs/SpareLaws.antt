@@ -1,14 +1,13 @@
 -- What is to spare of two legs that take turns, and that it is one. Assumes nothing.
 use Prim.Native.Nat.{ℕ, _+_, _-_, _≤_, _<_}
-use mathlib.Core.Path.{_≡_, refl, _∙_, sym, ap, subst}
+use mathlib.Core.Path.{_≡_, refl, sym, ap, subst}
 use native.Mathlib.Omega.{arith}
-use Rattle.margins.specs.Spares.{Kept, KeptWith, IsSpare, IsLeft, IsLacking, LessThanATurn}
+use Rattle.margins.specs.Spares.{Kept, KeptWith, IsSpare, IsLeft}
 use Rattle.margins.specs.Steps.{LesserOf, GreaterOf}
 use Rattle.margins.specs.Theorems.{SparesDecide, SpareOneAnswer}
 use Rattle.margins.specs.declared.Turns.{Turns}
 use Rattle.margins.specs.declared.Margin.{Margin}
 use Rattle.margins.specs.declared.Margin.the-variants as margin
-use Rattle.margins.specs.declared.Spare.{Spare}
 use Rattle.margins.specs.declared.Spare.the-variants as spare
 
 module _ (s : Turns) (x y n : ℕ) (below : s .after < s .divisor) (first : x ≡ s .hold - s .after) (second : y ≡ s .other - (s .divisor - s .after)) (most : GreaterOf x y n) where

@@ -1,10 +1,10 @@
 -- A leg at another offset: what its rules ask there, in numbers of the table as it is. Assumes nothing.
 use Prim.Native.Nat.{ℕ, _+_, _*_, _≤_, _<_}
-use mathlib.Core.Path.{_≡_, refl, _∙_, sym, ap, subst}
+use mathlib.Core.Path.{_≡_, _∙_, sym, ap}
 use mathlib.Core.List.{List}
 use native.Mathlib.Omega.{arith}
 use Rattle.table.specs.Layout.{legCount}
-use Rattle.table.specs.Records.{legAt, moved, moveTo}
+use Rattle.table.specs.Records.{legAt, moveTo}
 use Rattle.table.specs.declared.Link.{Link}
 use Rattle.table.specs.declared.Move.{Move}
 use Rattle.table.specs.declared.Stream.{Stream}

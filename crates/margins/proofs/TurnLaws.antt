@@ -5,7 +5,6 @@ use mathlib.Core.Logic.{_⊎_, inl, inr, ⊎-elim}
 use native.Mathlib.Nat.{mod-add-mod, mod-eq-of-lt, mod-eq-sub-mod, mod-lt}
 use native.Mathlib.Omega.{arith}
 use Rattle.basics.proofs.Splits.{lt-or-ge}
-use Rattle.overlap.specs.Divisor.{Apart}
 use Rattle.offsets.specs.Conditions.{Allows, Sound}
 use Rattle.offsets.specs.declared.Condition.{Condition}
 use Rattle.margins.specs.Ranges.{Ahead, Behind, RestOf, Turning, TurnedFrom, rest}

@@ -6,3 +6,4 @@ pub mod Ranges
 pub mod Steps
 pub mod Theorems
 pub mod AtNumbers
+pub mod NearestAtNumbers

@@ -3,7 +3,7 @@ ghost use Rattle.rules.specs.Places.{AskedOf};
 ghost use Rattle.rules.specs.Steps.{LegIn, FrameOf};
 ghost use Rattle.rules.specs.declared.Asked.the-variants as asked;
 ghost use Rattle.margins.specs.Asking.{CanAsk};
-ghost use Rattle.margins.specs.Margins.{Margins, WindowSides, OverlapTurns};
+ghost use Rattle.margins.specs.Margins.{Margins};
 ghost use Rattle.margins.specs.Steps.{AskedTold, MarginTold};
 use crate::Margin;
 use crate::MarginAnswer;
