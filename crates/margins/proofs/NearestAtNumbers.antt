@@ -132,7 +132,7 @@ module _ (n : PlanNumbers) (b : Bounded n) where
         (lost-range (planWith n) 2 (f2 n) moving-2 _ (plainRange 0 0) (omega arith) at (omega arith) (omega arith) p)
         (n .offset-2) below above (is-2 n b .offset)
 
-    other-link-2 : e2 ≤ maxWord → IsBelow (Between 0 e2) (n .offset-2) below → IsAbove (Between 0 e2) (n .offset-2) above → Nears (planWith n) 2 4 (At (nearest below above))
+    pub other-link-2 : e2 ≤ maxWord → IsBelow (Between 0 e2) (n .offset-2) below → IsAbove (Between 0 e2) (n .offset-2) above → Nears (planWith n) 2 4 (At (nearest below above))
     unfolding plan f1 f2
     other-link-2 small =
         near (planWith n) 2 (asked.Overlap 1) (Between 0 e2) (plainRange 0 e2) (can n b 2 4 (omega arith) (omega arith)) (plain-range 0 e2 (omega arith) small)
@@ -215,8 +215,9 @@ nearest-at-numbers =
           (λ z p k. omega (arith, k .below));
       never = overlap-2 (periodsA 0 700) bounded-periods offset.None offset.None 1 coprime (omega arith) (omega arith)
           (λ z p k. omega (arith, k .allowed .apart .second)) (λ z p k. omega (arith, k .allowed .apart .second));
-      other-link = other-link-2 (offsetsA 0 1176 149000) (bounded-a 0 0 1176 149000 (omega arith)) (offset.At 148999) (offset.At 149001) (omega arith)
-          (below-next 0 149329 149000 148999 (omega arith) (omega arith) refl) (above-next 0 149329 149000 149001 (omega arith) (omega arith) refl);
+      other-link =
+          other-link-2 (offsetsA 0 1176 149328) (bounded-a 0 0 1176 149328 (omega arith)) (offset.At 149327) offset.None (omega arith)
+          (below-next 0 149329 149328 149327 (omega arith) (omega arith) refl) (above-none 0 149329 149328 (omega arith));
       hop = hop-1 (offsetsA 0 1175 0) (bounded-a 0 0 1175 0 (omega arith)) offset.None (offset.At 1176) (omega arith) (omega arith)
           (below-none 1176 99329 1175 (omega arith)) (above-next 1176 99329 1175 1176 (omega arith) (omega arith) refl);
       window = window-1 (offsetsB 0 93281 672) (bounded-b 93281 672 (omega arith)) (offset.At 93280) offset.None (omega arith)

@@ -25,8 +25,8 @@ pub record NearestAtNumbers : Type 0 where
   pub overlap-last : Nears (planWith (offsetsB 0 1176 137664)) 2 3 (At (nearest (offset.At 137663) offset.None))
   -- Periods of 100,000 and 100,001 meet at every offset.
   pub never : Nears (planWith (periodsA 0 700)) 2 3 (At (nearest offset.None offset.None))
-  -- On different links every offset does that leaves the window.
-  pub other-link : Nears (planWith (offsetsA 0 1176 149000)) 2 4 (At (nearest (offset.At 148999) (offset.At 149001)))
+  -- On different links every offset does that keeps the window: of leg 2 the last is 149,328.
+  pub other-link : Nears (planWith (offsetsA 0 1176 149328)) 2 4 (At (nearest (offset.At 149327) offset.None))
   -- Leg 1 starts 1 ns before leg 0 is ready.
   pub hop : Nears (planWith (offsetsA 0 1175 0)) 1 1 (At (nearest offset.None (offset.At 1176)))
   -- Leg 1 of Plan B holds link 1 for 1 ns past its period.
