@@ -26,17 +26,17 @@ use Rattle.meeting.specs.AtNumbers.{metAt, laterA, MeetingsAtNumbers}
 use Rattle.meeting.proofs.OneAnswer.{meetings-exchange}
 
 -- The link of a leg, and the slot of one whose frame has 64 octets on a link of 1 Gb/s.
-link-is : (t : List ℕ) (a : ℕ) → legAt t a .link ≡ legOn t a .link
+pub link-is : (t : List ℕ) (a : ℕ) → legAt t a .link ≡ legOn t a .link
 link-is t a = sym (ap (λ (l : Leg). l .link) (leg-of-part t a))
 
-slot-is : (t : List ℕ) (a : ℕ) → streamOn t a .octets ≡ 64 → linkOn t a .rate ≡ 8 → slotOf t a ≡ slots.slotFor (legOn t a .offset) (streamOn t a .period) 672
+pub slot-is : (t : List ℕ) (a : ℕ) → streamOn t a .octets ≡ 64 → linkOn t a .rate ≡ 8 → slotOf t a ≡ slots.slotFor (legOn t a .offset) (streamOn t a .period) 672
 slot-is t a octets rate =
     let offset = ap (λ (l : Leg). l .offset) (leg-of-part t a) in
     let holds = gap-cases .held .0 in
     rw (stream-on t a, link-on t a, octets, rate, holds, ← offset) refl
 
 module _ (o : ℕ) where
-  can : (a b : ℕ) → a < 3 → b < 3 → CanMeet (laterA o) a b
+  pub can : (a b : ℕ) → a < 3 → b < 3 → CanMeet (laterA o) a b
   can a b h k = record { shape = plan-a-is-well-formed 0 1176 o; leg-there = h; other-there = k }
 
   one-link : legAt (laterA o) 2 .link ≡ legAt (laterA o) 0 .link
