@@ -1,4 +1,4 @@
-# A planner's desk: every violated place of a plan, at once or in a survey over a night. The command conepalhui reads this file.
+# A planner's desk: why a place is violated, every violated place, at once or in a survey over a night, and where a plan is thin. The command conepalhui reads this file.
 
 # ---- Why
 
@@ -11,6 +11,36 @@ hint() { # VERDICT [PLAN]
     if [[ -n $plan ]]; then printf -v plan %q "$plan"; else plan=PLAN; fi
     printf -v leg '%q explain %s %s %s' "$0" "$plan" "$leg" "$place"
     note "why: $leg"
+}
+
+# The path of a plan beside which its names stand, $path: none where it came by standard input.
+find_names() { # [PLAN]
+    path=''
+    (($# == 0)) || { path=$(real_path "$1") && path=${path%$'\n.'}; } || stop "cannot find the plan $1"
+}
+
+do_explain() {
+    local path file number asked=first
+    (($# >= 1 && $# <= 3)) || stop "explain takes a plan, and perhaps a cursor, or a leg and a place: $(usage explain)"
+    if (($# == 2)); then
+        find_input cursor "$2"
+        asked=cursor
+    elif (($# == 3)); then
+        is_word "$2" || stop "the leg is $(shown_word "$2"), but it is a number from 0 to 4294967295"
+        is_word "$3" || stop "the place is $(shown_word "$3"), but it is a number from 0 to 4294967295"
+        asked=given
+        set -- "$1" "$((10#$2))" "$((10#$3))"
+    fi
+    find_names "$1"
+    take_plan explain "$1"
+    if [[ $asked == cursor ]]; then set -- "$1" "$file"; fi
+    answer desk "$asked" "$path" "${@:2}"
+}
+
+do_slack() {
+    local path hinted=${1-}
+    find_names "$@"
+    take_plan slack "$@" && answer desk slack "$path"
 }
 
 # ---- Every violated place
