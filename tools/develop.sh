@@ -151,10 +151,11 @@ do_test() {
     try format rt fmt --check
     prove
     # Two tests may want a program at once. Where one cannot be built, the tests that run it fail.
-    ((failed > 0)) || (build timetable && build operator && build temporal && build slots && build export) >/dev/null 2>&1
+    ((failed > 0)) || (for file in "${all_programs[@]}"; do build "$file"; done) >/dev/null 2>&1
+    [[ ! -e tests/edits.test ]] || files=(tests/edits.test) # The longest begins first: the others run beside it.
     for file in tests/*.test; do
         # Where there is no test the pattern stands for itself.
-        [[ ! -e $file && ! -L $file ]] || files+=("$file")
+        [[ $file == tests/edits.test || ! -e $file && ! -L $file ]] || files+=("$file")
     done
     try_all "${files[@]}"
     printf '%d passed, %d failed\n' "$passed" "$failed"
