@@ -1,9 +1,8 @@
 -- The slots of two legs, and what their first meeting tells of the legs. Assumes nothing.
-use Prim.Native.Nat.{ℕ, _≤_, _<_}
+use Prim.Native.Nat.{ℕ, _≤_}
 use mathlib.Core.Path.{_≡_, _∙_, sym, ap, subst}
 use mathlib.Core.List.{List}
 use native.Mathlib.Omega.{arith}
-use Rattle.table.specs.Layout.{legCount}
 use Rattle.table.specs.Records.{legAt}
 use Rattle.shape.specs.Streams.{maxPeriod}
 use Rattle.shape.specs.Legs.{streamOf}
@@ -15,8 +14,7 @@ use Rattle.rules.specs.Steps.{LegIn, FrameOf}
 use Rattle.rules.specs.declared.Frame.{Frame}
 use Rattle.rules.proofs.Judging.{other-links}
 use Rattle.rules.proofs.Said.{overlap-says}
-use Rattle.repeats.specs.Meetings.{IsFirstMeeting, MeetsFirst}
-use Rattle.repeats.specs.Steps.{Brief}
+use Rattle.repeats.specs.Meetings.{MeetsFirst}
 use Rattle.repeats.specs.declared.Meeting.{Meeting}
 use Rattle.repeats.specs.declared.Met.{Met}
 use Rattle.repeats.specs.declared.Met.the-variants as met

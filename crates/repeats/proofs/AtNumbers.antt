@@ -8,7 +8,7 @@ use Rattle.overlap.specs.Meeting.{HoldsLink}
 use Rattle.overlap.specs.declared.Slot.{Slot}
 use Rattle.overlap.specs.Theorems.{in100000}
 use Rattle.overlap.proofs.AtNumbers.{clear-at}
-use Rattle.repeats.specs.Meetings.{LastBegun, IsFirstMeeting}
+use Rattle.repeats.specs.Meetings.{IsFirstMeeting}
 use Rattle.repeats.specs.AtNumbers.{slotFor, FirstMeetingsAtNumbers}
 use Rattle.repeats.specs.declared.Meeting.{Meeting}
 

@@ -2,16 +2,14 @@
 use Prim.Native.Nat.{ℕ, _+_, _*_, _-_, _≤_, _<_}
 use mathlib.Core.Path.{_≡_, refl, _∙_, sym, ap, subst}
 use mathlib.Core.Logic.{⊎-elim}
-use native.Mathlib.Nat.{add-mul, mul-comm, mul-sub, mul-le-mul-right, one-mul, lt-of-mul-lt-mul-left}
+use native.Mathlib.Nat.{add-mul, mul-comm, mul-le-mul-right, one-mul, lt-of-mul-lt-mul-left}
 use native.Mathlib.Omega.{arith}
 use mir.Syntax.{w64}
 use mir.Val.{Fits}
 use Rattle.basics.proofs.Splits.{lt-or-ge}
-use Rattle.numbers.specs.Number.{maxWord}
 use Rattle.overlap.specs.Meeting.{HoldsLink}
 use Rattle.overlap.specs.declared.Slot.{Slot}
-use Rattle.repeats.specs.Meetings.{LastBegun}
-use Rattle.repeats.specs.Landings.{Lands, IsFirstLanding, LandsFirst, Stretch, longestPeriod}
+use Rattle.repeats.specs.Landings.{Lands, IsFirstLanding, LandsFirst, longestPeriod}
 use Rattle.repeats.specs.Steps.{Brief, Enters, IsFirstBeginning, BeginsFirst, beginningOf, manyRepeats}
 use Rattle.repeats.specs.declared.Entry.{Entry}
 use Rattle.repeats.specs.declared.Meeting.{Meeting}
@@ -47,17 +45,6 @@ module _ (a b : Slot) (e : Entry) (brief : Brief a) (brief′ : Brief b) (enters
 
     abbrev to : ℕ
     to = from + (a .hold - 1)
-
-    stretch : Stretch (b .period) (a .period) from to
-    stretch =
-        let i = enters .into in
-        record {
-          after-start = omega arith;
-          ordered = omega arith;
-          inside = omega (arith, brief .hold-from);
-          around-to = brief .period-to;
-          step-to = brief′ .period-to;
-        }
 
     -- Where b begins while a holds the link, its steps since the entry land in the stretch.
     record Since (k m : ℕ) : Type 0 where
@@ -128,9 +115,6 @@ module _ {a b : Slot} {e : Entry} (brief : Brief a) (brief′ : Brief b) (enters
   at-once h is = subst (IsFirstBeginning a b) (sym is) (begins-at-once a b e brief brief′ enters h)
 
   module _ (out : a .hold ≤ e .into) where
-    pub stretch-after : Stretch (b .period) (a .period) (a .period - e .into) (a .period - e .into + (a .hold - 1))
-    stretch-after = stretch a b e brief brief′ enters out
-
     module _ {w : Landed} where
       pub never-at-all : w ≡ Never → LandsFirst (b .period) (a .period) (a .period - e .into) (a .period - e .into + (a .hold - 1)) w → BeginsFirst a b met.Never
       never-at-all is told = never-begins a b e brief brief′ enters out (subst (LandsFirst _ _ _ _) is told)

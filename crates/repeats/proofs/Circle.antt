@@ -1,9 +1,9 @@
 -- First landings. n steps of length a and y turns of length m land where y turns and z steps of the inner circle do, with n = (m / a)·y + near + z; so the fewest turns give the fewest steps.
 -- Assumes nothing.
 use Prim.Native.Nat.{ℕ, _+_, _*_, _-_, _/_, _%_, _≤_, _<_}
-use mathlib.Core.Path.{_≡_, refl, _∙_, sym, ap, subst}
+use mathlib.Core.Path.{_≡_, _∙_, sym, ap, subst}
 use mathlib.Core.Logic.{⊎-elim}
-use native.Mathlib.Nat.{div-add-mod, mod-lt, mul-add, add-mul, mul-assoc, mul-comm, mul-le-mul-left, mul-le-mul-right, mul-suc, mul-sub, zero-mul, pos-of-ne-zero, lt-of-mul-lt-mul-left, le-mul-of-pos-right}
+use native.Mathlib.Nat.{div-add-mod, mod-lt, mul-add, add-mul, mul-assoc, mul-comm, mul-le-mul-left, mul-suc, mul-sub, zero-mul, pos-of-ne-zero, lt-of-mul-lt-mul-left, le-mul-of-pos-right}
 use native.Mathlib.Numerals.{add-one}
 use native.Mathlib.Omega.{arith}
 use mir.Syntax.{w64}

@@ -1,15 +1,12 @@
 -- The first repeat of a slot that begins at an instant or later, and where it begins in the period of another slot. Assumes nothing.
 use Prim.Native.Nat.{ℕ, zero, suc, _+_, _*_, _-_, _/_, _%_, _≤_, _<_}
-use mathlib.Core.Path.{_≡_, refl}
 use mathlib.Core.Logic.{⊎-elim}
 use native.Mathlib.Nat.{div-add-mod, mod-lt, mul-comm, suc-mul, div-le-self}
 use native.Mathlib.Omega.{arith}
 use Rattle.basics.proofs.Splits.{lt-or-ge}
 use Rattle.numbers.specs.Number.{maxWord}
 use Rattle.overlap.specs.declared.Slot.{Slot}
-use Rattle.repeats.specs.Landings.{longestPeriod}
 use Rattle.repeats.specs.Steps.{Brief, FirstFrom, Enters}
-use Rattle.repeats.specs.declared.Entry.{Entry}
 use Rattle.repeats.proofs.Circle.{nearest-is, nearest-least}
 
 pub first-from-is : {s : Slot} {x : ℕ} → Brief s → x ≤ maxWord → s .offset < x → FirstFrom s x ((x - s .offset - 1) / s .period + 1)

@@ -1,13 +1,13 @@
 -- The first meeting is the earlier of two first beginnings: of two legs that hold the link at one instant, one began while the other held it, and no later than that. Assumes nothing.
 use Prim.Native.Nat.{ℕ, _+_, _*_, _≤_, _<_}
-use mathlib.Core.Path.{_≡_, refl, _∙_, sym, ap, subst}
+use mathlib.Core.Path.{_≡_, subst}
 use mathlib.Core.Logic.{⊎-elim, _⊎_, inl, inr}
-use native.Mathlib.Nat.{add-mul, one-mul, mul-le-mul-right, lt-of-mul-lt-mul-right}
+use native.Mathlib.Nat.{add-mul, one-mul, mul-le-mul-right}
 use native.Mathlib.Omega.{arith}
 use Rattle.basics.proofs.Splits.{lt-or-ge}
 use Rattle.overlap.specs.Meeting.{HoldsLink, NeverMeet}
 use Rattle.overlap.specs.declared.Slot.{Slot}
-use Rattle.repeats.specs.Meetings.{LastBegun, IsFirstMeeting, MeetsFirst}
+use Rattle.repeats.specs.Meetings.{IsFirstMeeting, MeetsFirst}
 use Rattle.repeats.specs.Steps.{Brief, IsFirstBeginning, BeginsFirst, exchangedMeeting, exchanged}
 use Rattle.repeats.specs.declared.Meeting.{Meeting}
 use Rattle.repeats.specs.declared.Met.{Met}

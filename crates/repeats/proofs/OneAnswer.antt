@@ -1,7 +1,6 @@
 -- A first meeting is one: of two, neither is later, and one repeat is the last that has begun. Assumes nothing.
-use Prim.Native.Nat.{ℕ, _+_, _*_, _≤_, _<_}
+use Prim.Native.Nat.{ℕ, _+_, _≤_, _<_}
 use mathlib.Core.Path.{_≡_, refl}
-use mathlib.Core.Logic.{⊎-elim}
 use native.Mathlib.Nat.{lt-of-mul-lt-mul-right}
 use native.Mathlib.Omega.{arith}
 use Rattle.overlap.specs.Meeting.{NeverMeet}

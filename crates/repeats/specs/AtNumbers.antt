@@ -3,7 +3,6 @@ use Prim.Native.Nat.{ℕ}
 use Rattle.overlap.specs.Theorems.{in100000, in150000, in10}
 use Rattle.overlap.specs.declared.Slot.{Slot}
 use Rattle.repeats.specs.Meetings.{MeetsFirst}
-use Rattle.repeats.specs.declared.Meeting.{Meeting}
 use Rattle.repeats.specs.declared.Met.{Met}
 use Rattle.repeats.specs.declared.Met.the-variants.{At, Never}
 

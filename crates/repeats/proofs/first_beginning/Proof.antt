@@ -1,6 +1,6 @@
 -- `repeats::first_beginning` meets its contract: at once where the entry lies in the hold, or after the steps of the first landing. Assumes nothing.
 use borrow.Author.Needs.{needs}
-use Rattle.repeats.proofs.Begun.{at-once, stretch-after, never-at-all, after-steps, first-fits, second-many, second-fits}
+use Rattle.repeats.proofs.Begun.{at-once, never-at-all, after-steps, first-fits, second-many, second-fits}
 use Rattle.repeats.proofs.first_beginning.Statement.{statement}
 use Rattle.repeats.proofs.first_beginning.Tie as tie
 
