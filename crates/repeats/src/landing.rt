@@ -24,8 +24,8 @@ fn nearest(step: u64, from: u64) -> u64
     (from - 1) / step + 1
 }
 
-// The fewest steps from 0 that land from `from` to `to`. Where the first step at or past `from` lies past `to`, the turns are asked instead: how many are the fewest after which a step lands
-// there? Each turn moves the steps by what the circle is longer than a whole number of them, so that is the same question of a circle as long as one step.
+// The fewest steps from 0 that land from `from` to `to`. Where the first step that reaches `from` passes `to`, the fewest turns are asked for after which a step lands there. In each turn the
+// steps lie further back by the remainder of the circle by one step, so that is the same question of a circle as long as one step; and as in a divisor's search the numbers fall fast.
 pub(crate) fn first_landing(step: u64, around: u64, from: u64, to: u64) -> Landed
     requires { ⌜ Stretch step around from to ⌝ }
     ensures { λ r. ⌜ LandsFirst step around from to r ⌝ }
