@@ -136,7 +136,8 @@ fn sides(t: &[u32], leg: u32, place: u32, f: Frame, s: Sides) {
         }
         return;
     }
-    if let Framed::Of(first) = legs::frame_of(t, f.first as u32) {
+    let first_leg = legs::first_of(t, leg);
+    if let Framed::Of(first) = legs::frame_of(t, first_leg) {
         deadline(t, leg, f, first, s);
     }
 }
@@ -255,8 +256,10 @@ fn offset_word(offset: Offset, side: &[u8]) {
 fn mends(leg: u32, near: Nearest) {
     numbered(b"nearest offsets of leg ", leg as u64);
     text(b" in its window with which this place holds: ");
-    offset_word(near.below, b" below, ");
-    offset_word(near.above, b" above\n");
+    let below = near.below;
+    let above = near.above;
+    offset_word(below, b" below, ");
+    offset_word(above, b" above\n");
 }
 
 fn mended(t: &[u32], leg: u32, place: u32) {

@@ -13,7 +13,7 @@ pub(crate) enum Framed {
     None,
 }
 
-fn framed(t: &[u32], a: u32) -> Framed
+fn frame_in(t: &[u32], a: u32) -> Framed
     requires { ⌜ WellFormedTable (now t) ⌝ }
 {
     if t[table::LEGS_AT] <= a {
@@ -27,8 +27,15 @@ pub(crate) fn frame_of(t: &[u32], a: u32) -> Framed {
     let told = shape::judged_shape(t);
     match told {
         Checked::Refused(number, at) => Framed::None,
-        Checked::Clear => framed(t, a),
+        Checked::Clear => frame_in(t, a),
     }
+}
+
+// The first leg of the stream of leg a.
+pub(crate) fn first_of(t: &[u32], a: u32) -> u32 {
+    let leg = records::leg_at(t, a);
+    let stream = records::stream_at(t, leg.stream);
+    stream.first
 }
 
 // Prints a label and a number.

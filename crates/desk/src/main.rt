@@ -94,15 +94,19 @@ fn named(t: &[u32], names_text: &[u8], draft: &[u32], order: Order) {
 }
 
 // The names beside the plan are read first. A plan that came by standard input has no path, and no names.
-fn with_names(t: &[u32], order: Order) {
-    let mut names_text = [0u8; plan_text::TEXT_ROOM];
-    let mut draft = [0u32; plan_text::DRAFT_WORDS];
+fn named_in(t: &[u32], order: Order, names_text: &mut [u8], draft: &mut [u32]) {
     let mut path = io::buffer();
     let n = os::arg(args::PLAN_AT, &mut path);
     if 0 < n {
-        plan_text::names::beside(&path[..n], t, &mut names_text, &mut draft);
+        plan_text::names::beside(&path[..n], t, names_text, draft);
     }
-    named(t, &names_text, &draft, order);
+    named(t, names_text, draft, order);
+}
+
+fn with_names(t: &[u32], order: Order) {
+    let mut names_text = [0u8; plan_text::TEXT_ROOM];
+    let mut draft = [0u32; plan_text::DRAFT_WORDS];
+    named_in(t, order, &mut names_text, &mut draft);
 }
 
 fn answered(t: &[u32]) {

@@ -50,15 +50,20 @@ fn read(t: &[u32], names_text: &[u8], draft: &[u32], bytes: &[u8]) {
     }
 }
 
+fn read_first(t: &[u32], names_text: &[u8], draft: &[u32], bytes: &[u8], n: usize) {
+    if bytes.len() < n {
+        return;
+    }
+    read(t, names_text, draft, &bytes[0..n]);
+}
+
 // Explains the place at which the cursor in a file stands.
 pub(crate) fn place(t: &[u32], names_text: &[u8], draft: &[u32], path: &[u8]) {
     let mut bytes = [0u8; CURSOR_ROOM];
     let got = durable::file(path, &mut bytes);
     match got {
         FileRead::Bytes(n) => {
-            if n <= bytes.len() {
-                read(t, names_text, draft, &bytes[..n]);
-            }
+            read_first(t, names_text, draft, &bytes, n);
         }
         FileRead::Missing => {
             os::fail(path);

@@ -19,26 +19,67 @@ const TOLD: usize = 10;
 // More than is ever left: an empty row of the list.
 const NONE: u64 = 18446744073709551615;
 
-// Puts a leg into the list of those with the least left, before the first that has more; what it pushes out at the end is lost.
-fn keep(left: &mut [u64], legs: &mut [u32], n: u64, leg: u32) {
-    let mut more = n;
-    let mut of = leg;
-    let mut put = false;
+// A leg and what it has left.
+struct Row {
+    left: u64,
+    leg: u32,
+}
+
+// The list of those with the least left, least first: what each has left, and which leg it is. Legs come in order, so that of two that have the same left the lower one comes first.
+fn row_at(left: &[u64], legs: &[u32], i: usize) -> Row {
+    if left.len() <= i {
+        return Row { left: NONE, leg: 0 };
+    }
+    if legs.len() <= i {
+        return Row { left: NONE, leg: 0 };
+    }
+    Row {
+        left: left[i],
+        leg: legs[i],
+    }
+}
+
+fn set_left(left: &mut [u64], i: usize, n: u64) {
+    if i < left.len() {
+        left[i] = n;
+    }
+}
+
+fn set_leg(legs: &mut [u32], i: usize, leg: u32) {
+    if i < legs.len() {
+        legs[i] = leg;
+    }
+}
+
+// Where a leg belongs in the list: before the first that has more left.
+fn place_for(left: &[u64], n: u64) -> usize {
     let mut i: usize = 0;
     while i < left.len() {
-        if i < legs.len() {
-            if put || more < left[i] {
-                let pushed = left[i];
-                let pushed_leg = legs[i];
-                left[i] = more;
-                legs[i] = of;
-                more = pushed;
-                of = pushed_leg;
-                put = true;
-            }
+        if n < left[i] {
+            return i;
         }
         i = i + 1;
     }
+    i
+}
+
+// Makes room in the list from a place on; what is pushed out at the end is lost.
+fn push(left: &mut [u64], legs: &mut [u32], place: usize) {
+    let mut i: usize = TOLD;
+    while place < i {
+        let row = row_at(left, legs, i - 1);
+        set_left(left, i, row.left);
+        set_leg(legs, i, row.leg);
+        i = i - 1;
+    }
+}
+
+// Puts a leg into the list.
+fn keep(left: &mut [u64], legs: &mut [u32], n: u64, leg: u32) {
+    let place = place_for(left, n);
+    push(left, legs, place);
+    set_left(left, place, n);
+    set_leg(legs, place, leg);
 }
 
 // Takes what is told of a place into the list, and answers how many places ask something so far.
@@ -64,23 +105,21 @@ fn gather(t: &[u32], place: u32, left: &mut [u64], legs: &mut [u32]) -> u32 {
     asked
 }
 
-fn row(t: &[u32], names_text: &[u8], draft: &[u32], left: u64, leg: u32) {
-    if left == NONE {
+fn print_row(t: &[u32], names_text: &[u8], draft: &[u32], row: Row) {
+    if row.left == NONE {
         return;
     }
-    numbered(b"leg ", leg as u64);
-    numbered(b" ", left);
+    numbered(b"leg ", row.leg as u64);
+    numbered(b" ", row.left);
     text(b" ns left: ");
-    legs::belongs(t, names_text, draft, leg);
+    legs::belongs(t, names_text, draft, row.leg);
     text(b"\n");
 }
 
-fn rows(t: &[u32], names_text: &[u8], draft: &[u32], left: &[u64], legs: &[u32]) {
+fn print_rows(t: &[u32], names_text: &[u8], draft: &[u32], left: &[u64], legs: &[u32]) {
     let mut i: usize = 0;
-    while i < left.len() {
-        if i < legs.len() {
-            row(t, names_text, draft, left[i], legs[i]);
-        }
+    while i < TOLD {
+        print_row(t, names_text, draft, row_at(left, legs, i));
         i = i + 1;
     }
 }
@@ -93,7 +132,7 @@ fn by_rule(t: &[u32], names_text: &[u8], draft: &[u32], word: &[u8], place: u32)
     text(word);
     numbered(b": the least of ", asked as u64);
     text(b"\n");
-    rows(t, names_text, draft, &left, &legs);
+    print_rows(t, names_text, draft, &left, &legs);
 }
 
 fn thin(t: &[u32], names_text: &[u8], draft: &[u32]) {
