@@ -1,5 +1,6 @@
 // What is wrong with a line, said on standard error. Each such line is counted, and said once.
 use crate::FIRST_WRONG_AT;
+use crate::LAST_WRONG_AT;
 use crate::LINE_AT;
 use crate::SILENT_AT;
 use crate::WRONG_AT;
@@ -19,8 +20,13 @@ fn keep_first(draft: &mut [u32]) {
     set(draft, FIRST_WRONG_AT, n);
 }
 
-// Counts the present line as wrong, and begins its sentence. Where nothing is to be said, it answers false.
+// Counts the present line as wrong, and begins its sentence. Where nothing is to be said, or this line is wrong already, it answers false.
 fn begins(draft: &mut [u32]) -> bool {
+    let n = get(draft, LINE_AT);
+    if get(draft, LAST_WRONG_AT) == n {
+        return false;
+    }
+    set(draft, LAST_WRONG_AT, n);
     raise(draft, WRONG_AT);
     keep_first(draft);
     if get(draft, SILENT_AT) != 0 {
@@ -31,10 +37,19 @@ fn begins(draft: &mut [u32]) -> bool {
     true
 }
 
+// Says what stands somewhere, where the line may have ended.
+fn stands(stood: &[u8]) {
+    if stood.len() == 0 {
+        text(b"the end of the line");
+        return;
+    }
+    shown(stood);
+}
+
 // Says what stands there, and what of it.
 pub(crate) fn word(draft: &mut [u32], stood: &[u8], sentence: &[u8]) {
     if begins(draft) {
-        shown(stood);
+        stands(stood);
         text(sentence);
         text(b"\n");
     }

@@ -42,6 +42,8 @@ pub(crate) const LINE_AT: usize = 11;
 
 pub(crate) const FIRST_WRONG_AT: usize = 12;
 
+pub(crate) const LAST_WRONG_AT: usize = 13;
+
 pub(crate) const VALUES_AT: usize = 16;
 
 pub(crate) const GIVEN_AT: usize = 24;

@@ -1,1 +1,3 @@
 pub mod Scaling
+pub mod Telling
+pub mod OneAnswer

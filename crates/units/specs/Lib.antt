@@ -1,1 +1,3 @@
+pub mod Rates
 pub mod Times
+pub mod Theorems

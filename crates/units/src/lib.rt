@@ -1,6 +1,8 @@
 // Times and rates as a person types them: digits with a unit, whole nanoseconds in the end.
-ghost use Prim.Native.Nat.{_≤_, _<_};
-ghost use Rattle.units.specs.Times.{ScaledTold};
+ghost use Prim.Native.Nat.{_≤_, _<_, _^_};
+ghost use mathlib.Core.Path.{_≡_};
+ghost use Rattle.units.specs.Rates.{OctetTime};
+ghost use Rattle.units.specs.Times.{ScaledTold, PlainTold, AfterTold, PointedTold, TimeTold};
 use decimal::Decimal;
 use lines::place_of;
 use lines::words::are_same;
@@ -65,21 +67,19 @@ fn unit_of(word: &[u8]) -> Unit {
     Unit::Nothing
 }
 
+// How many parts make a unit, if so many digits stand after the point.
 fn power(digits: usize) -> u64
-    ensures { λ r. ⌜ (0 < r) × (r ≤ 1000000000) ⌝ }
+    requires { ⌜ digits ≤ 9 ⌝ }
+    ensures { λ r. ⌜ r ≡ 10 ^ digits ⌝ }
+    ensures { λ r. ⌜ 0 < r ⌝ }
 {
-    match digits {
-        0 => 1,
-        1 => 10,
-        2 => 100,
-        3 => 1000,
-        4 => 10000,
-        5 => 100000,
-        6 => 1000000,
-        7 => 10000000,
-        8 => 100000000,
-        _ => 1000000000,
+    let mut parts: u64 = 1;
+    let mut i: usize = 0;
+    while i < digits {
+        parts = parts * decimal::BASE;
+        i = i + 1;
     }
+    parts
 }
 
 // What a number before a point and the digits after it are worth: the latter are parts of a unit, so many to a unit as scale says.
@@ -101,6 +101,7 @@ fn scaled(a: u32, b: u32, scale: u64, unit: u64) -> Time
 
 fn plain(digits: &[u8], unit: u64) -> Time
     requires { ⌜ unit ≤ 1000000000 ⌝ }
+    ensures { λ r. ⌜ PlainTold (now (digits .entry)) unit r ⌝ }
 {
     let read = decimal::read_decimal(digits);
     match read {
@@ -113,6 +114,7 @@ fn plain(digits: &[u8], unit: u64) -> Time
 
 fn after_point(a: u32, digits: &[u8], unit: u64) -> Time
     requires { ⌜ unit ≤ 1000000000 ⌝ }
+    ensures { λ r. ⌜ AfterTold a (now (digits .entry)) unit r ⌝ }
 {
     if MOST_DIGITS < digits.len() {
         return Time::TooFine;
@@ -128,6 +130,7 @@ fn after_point(a: u32, digits: &[u8], unit: u64) -> Time
 
 fn pointed(before: &[u8], after: &[u8], unit: u64) -> Time
     requires { ⌜ unit ≤ 1000000000 ⌝ }
+    ensures { λ r. ⌜ PointedTold (now (before .entry)) (now (after .entry)) unit r ⌝ }
 {
     let read = decimal::read_decimal(before);
     match read {
@@ -138,12 +141,17 @@ fn pointed(before: &[u8], after: &[u8], unit: u64) -> Time
     }
 }
 
+// What a number in a unit is worth. That the byte at the place of the point is one is looked at here, since place_of promises only where it is.
 fn with_unit(number: &[u8], unit: u64) -> Time
     requires { ⌜ unit ≤ 1000000000 ⌝ }
+    ensures { λ r. ⌜ TimeTold (now (number .entry)) unit r ⌝ }
 {
     let point = place_of(number, 0, b'.');
     if point == number.len() {
         return plain(number, unit);
+    }
+    if number[point] != b'.' {
+        return Time::NoNumber;
     }
     let next = point + 1;
     pointed(&number[0..point], &number[next..], unit)
@@ -172,23 +180,34 @@ pub fn read_time(word: &[u8]) -> Time {
     }
 }
 
-// The rates that have a name, in ns per octet.
-const GIGABIT: u32 = 8;
+// The rates that have a name: 10, 100 and 1,000 Mb/s.
+pub enum Named {
+    Ten,
+    Hundred,
+    Thousand,
+}
 
-const HUNDRED: u32 = 80;
-
-const TEN: u32 = 800;
+// How many ns an octet takes.
+fn octet(rate: Named) -> u32
+    ensures { λ r. ⌜ OctetTime rate r ⌝ }
+{
+    match rate {
+        Named::Ten => 800,
+        Named::Hundred => 80,
+        Named::Thousand => 8,
+    }
+}
 
 // Internal: reads a rate as ns per octet: 10M, 100M, 1G, or a time with /octet after it.
 pub fn read_rate(word: &[u8]) -> Time {
     if are_same(word, b"1G") {
-        return Time::Ns(GIGABIT);
+        return Time::Ns(octet(Named::Thousand));
     }
     if are_same(word, b"100M") {
-        return Time::Ns(HUNDRED);
+        return Time::Ns(octet(Named::Hundred));
     }
     if are_same(word, b"10M") {
-        return Time::Ns(TEN);
+        return Time::Ns(octet(Named::Ten));
     }
     if !ends_in(word, b"/octet") {
         return Time::NoUnit;
