@@ -1,7 +1,7 @@
 # Proves and builds the programs and the calls for C, and installs them. The command conepalhui reads this file in the repository.
 
 # The programs that a copy needs.
-all_programs=(timetable operator temporal slots export desk scribe)
+all_programs=(timetable operator temporal slots export desk scribe draw)
 
 has_rt() {
     has rt || { note "the command rt is not on the PATH: install the Rattle kit"; return 1; }
@@ -81,6 +81,7 @@ run_rt() { # COMMAND CRATE LOG
     export) what="the program for gate lists" time=five ;;
     desk) what="the program for explanations and surveys" time=five ;;
     scribe) what="the program for plans as text" time=five ;;
+    draw) what="the program for pictures" time=five ;;
     host) what="the calls for C" ;;
     network_host) what="the calls for C of temporal networks" ;;
     esac

@@ -1,4 +1,4 @@
-# A planner's desk: why a place is violated, every violated place, at once or in a survey over a night, and where a plan is thin. The command conepalhui reads this file.
+# A planner's desk: why a place is violated, every violated place, at once or in a survey over a night, where a plan is thin, plans as text, and pictures. The command conepalhui reads this file.
 
 # ---- Why
 
@@ -174,4 +174,140 @@ do_survey() {
     printf 'violated %d of %d places\nrevision %s\n' "$count" "$all" "$revision" || stop "cannot write to standard output"
     hint "$noted" "${files[0]}"
     return 1
+}
+
+# ---- Plans as text
+
+# Prints the text of a plan, with the names that stand beside it.
+do_decode() {
+    local path=''
+    take_plan decode "$@"
+    (($# == 0)) || { path=$(real_path "$1") && path=${path%$'\n.'}; } || stop "cannot find the plan $1"
+    answer scribe decode "$path"
+}
+
+# Makes the text that encode is given its standard input. What is made is as private as the text, where that is a file.
+take_text() { # TEXT
+    local file plan
+    if [[ $1 == - ]]; then
+        [[ -e /dev/fd/0 ]] || stop "standard input is closed: the text cannot be read"
+        [[ ! -t 0 ]] || note "the text is read from this terminal"
+        return
+    fi
+    find_input text "$1"
+    exec <"$file" || stop "the text $file may not be read"
+    [[ ! -f $file ]] || { plan=$file && keep_private; }
+}
+
+# Finds the plan file that is written, $cursor, and sees to it that its name and that of its names are free.
+find_new_plan() { # PLAN
+    find_new "$1"
+    [[ ! -e $cursor.names && ! -L $cursor.names ]] || stop "$1.names is there already, and is never replaced: give the plan another name, or remove it"
+}
+
+# The same for a plan file that may be there. Links are followed, so that a file is replaced and not the link to it.
+find_plan_to_replace() { # PLAN
+    [[ -n $1 ]] || stop "the plan is a path, and it is empty"
+    cursor=$(real_path "$1") || stop "cannot find the folder of the plan $1"
+    cursor=${cursor%$'\n.'}
+    stop_at_kept_name "$cursor"
+    [[ ! -e $cursor || -f $cursor && -w $cursor ]] || stop "$1 is not a file that can be written"
+    [[ ! -L $cursor.names && (-f $cursor.names || ! -e $cursor.names) ]] || stop "$cursor.names is no file, and the names of the plan are kept there: remove it, or give the plan another name"
+}
+
+# Asks the program scribe for the plan of the text on standard input.
+consult_scribe() { # PLAN [--replace]
+    wrote=$(run_program scribe encode "$cursor" "${@:2}" && printf .) && take_status && return
+    stop "the program scribe gave no whole answer: $1 is as it was, or was written whole. Look at it"
+}
+
+# Writes a plan file from its text, and the names beside it.
+do_encode() {
+    local word plan cursor found held wrote status why find=find_new_plan replace=() files=()
+    for word; do
+        case $word in
+        --replace) find=find_plan_to_replace replace=(--replace) ;;
+        -?*) stop "encode has no option $word: $(usage encode)" ;;
+        *) files+=("$word") ;;
+        esac
+    done
+    ((${#files[@]} == 2)) || stop "encode takes a text and a name for the plan: $(usage encode)"
+    prepare scribe
+    take_text "${files[0]}"
+    "$find" "${files[1]}"
+    found=$cursor plan=$cursor
+    hold
+    "$find" "${files[1]}"
+    [[ $cursor == "$found" ]] || stop "the name ${files[1]} led to $found and leads to $cursor now: nothing was written. Give the name that is meant"
+    consult_scribe "${files[1]}" "${replace[@]}"
+    release
+    printf '%s' "$wrote" || stop "cannot write to standard output"
+    ((status != 0)) || note "${files[1]} is written as the text has it, and is not judged. To check it: $(shown_call check "${files[1]}")"
+    return $status
+}
+
+# ---- Pictures
+
+# Ends a call whose arguments say nothing of use.
+stop_draw() { stop "$1: '$called help draw' says what is needed"; } # SENTENCE
+
+# Writes a picture to a new file. A signal that comes meanwhile is heard when the program has ended, and then nothing stays of what was written.
+write_picture() { # PLAN NEW KIND NUMBER FROM TO
+    local plan cursor held wrote status='' why name signal=''
+    prepare draw
+    hold_old_and_new "$1" "$2"
+    keep_private
+    for name in HUP INT TERM; do trap "signal=$name" $name; done
+    drop_new || give_up "cannot remove $cursor.conepalhui-new, and what is written has this name first"
+    wrote=$(run_program draw "${@:3}" "$plan" <"$plan" && printf .)
+    [[ -z $signal ]] && take_status || give_up "the program draw gave no whole answer: nothing was written"
+    if ((status == 0)); then
+        printf '%s' "$wrote" >"$cursor.conepalhui-new" && sync -- "$cursor.conepalhui-new" || give_up "cannot write $2: nothing was written"
+        name_new "$2"
+        wrote="written $3 $4 bytes ${#wrote}"$'\n'
+    fi
+    trap - HUP INT TERM
+    release
+    printf '%s' "$wrote" || stop "cannot write to standard output$( ((status == 2)) || printf %s ", but $2 is written")"
+    return $status
+}
+
+# Reads a number from an option, $number.
+take_number() { # OPTION WHAT
+    is_word "${of[$1]}" || stop_draw "$2 is $(shown_word "${of[$1]}"), but it is a number from 0 to 4294967295"
+}
+
+# A picture of a link or of a stream, printed or written.
+do_draw() {
+    local words=() kind number begins='' ends='' path LC_ALL=C
+    local -A of=()
+    while (($# > 0)); do
+        case $1 in
+        --link | --stream | --from | --to | --out)
+            (($# > 1)) || stop_draw "there is nothing after $1"
+            [[ -z ${of[${1#--}]+given} ]] || stop_draw "$1 is there twice"
+            of[${1#--}]=$2
+            shift 2
+            ;;
+        -*) stop_draw "draw has no option $1" ;;
+        *) words+=("$1") && shift ;;
+        esac
+    done
+    ((${#words[@]} == 1)) || stop_draw "draw takes a plan"
+    [[ -n ${of[link]+given} || -n ${of[stream]+given} ]] || stop_draw "there is neither --link nor --stream"
+    [[ -z ${of[link]+given} || -z ${of[stream]+given} ]] || stop_draw "--link stands beside --stream, and only one of the two may be there"
+    kind=link
+    [[ -n ${of[link]+given} ]] || kind=stream
+    [[ $kind == link || -z ${of[from]+given}${of[to]+given} ]] || stop_draw "--from and --to go with --link"
+    [[ -z ${of[from]+given} ]] || { take_number from "the beginning" && begins=$((10#$number)); }
+    [[ -z ${of[to]+given} ]] || { take_number to "the end" && ends=$((10#$number)); }
+    [[ -z $ends ]] || ((${begins:-0} < ends)) || stop_draw "the stretch begins at ${begins:-0} ns and ends at $ends ns, but it has to end later"
+    take_number $kind "the $kind"
+    if [[ -n ${of[out]+given} ]]; then
+        write_picture "$words" "${of[out]}" $kind "$number" "$begins" "$ends"
+        return
+    fi
+    path=$words # Names stand beside the plan.
+    [[ $path == /* ]] || path=$from/$path
+    take_plan draw "$words" && answer draw $kind "$number" "$begins" "$ends" "$path"
 }

@@ -32,6 +32,7 @@ install_missing() {
     need rustc rustc # The plain checker is written in it.
     need pkg-config pkg-config # tests/install.test links with its flags.
     need tc iproute2 # tests/taprio.test has it read gate lists.
+    need rsvg-convert librsvg2-bin # tests/draw.test has it render pictures.
     case $(uname -m) in
     x86_64) need strace strace ;; # On Arm the emulator traces system calls itself.
     aarch64)

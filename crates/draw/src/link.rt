@@ -17,7 +17,6 @@ use crate::svg::lesser;
 use crate::svg::minus;
 use crate::svg::plus;
 use reasons::records;
-use show::number;
 use show::text;
 
 // How wide the picture is.
@@ -62,15 +61,6 @@ fn stretch_told(p: Page) {
     lasting(p.cycle);
 }
 
-fn counted(n: u64, one: &[u8], more: &[u8]) {
-    number(n);
-    if n == 1 {
-        text(one);
-        return;
-    }
-    text(more);
-}
-
 fn name(t: &[u32], names: &[u8], draft: &[u32], p: Page) {
     labelled(b"Link ", p.link as u64);
     text(b": ");
@@ -82,7 +72,7 @@ fn about(t: &[u32], p: Page) {
     rate(l.rate);
     labelled(b", propagation ", l.propagation as u64);
     text(b" ns, ");
-    counted(p.legs, b" leg", b" legs");
+    svg::counted(p.legs, b" leg", b" legs");
     if p.legs == 0 {
         return;
     }
@@ -176,6 +166,32 @@ fn top_labels(p: Page) {
     }
 }
 
+// The picture, whose rows end at a height and whose violated places are counted and marked.
+fn put(
+    t: &[u32],
+    names: &[u8],
+    draft: &[u32],
+    p: Page,
+    bottom: u64,
+    violated: u64,
+    ys: &[u64],
+    bad: &[u64],
+)
+    requires { ⌜ Guarantees (now t) ⌝ }
+{
+    let list = plus(bottom, FOOT);
+    let end = plus(list, listed(violated));
+    head(t, names, draft, p, plus(end, 2000));
+    rows::stripes(p, bottom);
+    axis::grid(p.axis, p.top, bottom);
+    top_labels(p);
+    rows::all(t, names, draft, p, ys, bad);
+    foot(p, bottom, violated);
+    pairs::list(t, p, list, end, ys, bad);
+    list_foot(end, violated);
+    text(b"</svg>\nstatus 0\n");
+}
+
 fn drawn(t: &[u32], names: &[u8], draft: &[u32], p: Page)
     requires { ⌜ Guarantees (now t) ⌝ }
 {
@@ -183,17 +199,7 @@ fn drawn(t: &[u32], names: &[u8], draft: &[u32], p: Page)
     let mut bad = [0u64; table::MAX_LEGS];
     let bottom = page::lay(t, p, &mut ys);
     let violated = pairs::judge(t, p.link, &mut bad);
-    let list = plus(bottom, FOOT);
-    let end = plus(list, listed(violated));
-    head(t, names, draft, p, plus(end, 2000));
-    rows::stripes(p, bottom);
-    axis::grid(p.axis, p.top, bottom);
-    top_labels(p);
-    rows::all(t, names, draft, p, &ys, &bad);
-    foot(p, bottom, violated);
-    pairs::list(t, p, list, end, &bad);
-    list_foot(end, violated);
-    text(b"</svg>\nstatus 0\n");
+    put(t, names, draft, p, bottom, violated, &ys, &bad);
 }
 
 // A stretch that was asked for and has too many holds.

@@ -1,5 +1,5 @@
-// Pictures of the plan on standard input: link L FROM TO and stream S. FROM and TO say which stretch of time is drawn, in ns; where TO is empty, that is the link's cycle from FROM on, or the beginning
-// of it. It writes the picture as SVG, and a last line with the exit status, which ./conepalhui takes off; where something cannot be read it writes no such line, and says so on standard error.
+// Pictures of the plan on standard input: link L FROM TO PLAN and stream S '' '' PLAN. FROM and TO say which stretch of time is drawn, in ns; where TO is empty, that is the link's cycle from FROM on, or
+// the beginning of it. Names are read beside PLAN, the path of the plan, which may be empty. It writes the picture as SVG, and a last line with the exit status, which ./conepalhui takes off; where something cannot be read it writes no such line, and says so on standard error.
 ghost use Rattle.shape.specs.Guarantees.{Guarantees};
 use basics::Checked;
 use decimal::Decimal;
@@ -27,6 +27,8 @@ const NUMBER_AT: usize = 2;
 const FROM_AT: usize = 3;
 
 const TO_AT: usize = 4;
+
+const PATH_AT: usize = 5;
 
 // What is asked for.
 enum Order {
@@ -167,7 +169,25 @@ fn draw(order: Order, t: &[u32], names: &[u8], draft: &[u32])
     }
 }
 
-fn on_table(order: Order, t: &[u32], names: &[u8], draft: &[u32]) {
+// Reads the names beside the plan whose path is given, if there are some.
+fn read_names(t: &[u32], text: &mut [u8], draft: &mut [u32]) {
+    let mut path = io::buffer();
+    let n = os::arg(PATH_AT, &mut path);
+    if n == 0 {
+        plan_text::names::nameless(t, draft);
+        return;
+    }
+    plan_text::names::beside(&path[..n], t, text, draft);
+}
+
+fn draw_named(order: Order, t: &[u32], text: &mut [u8], draft: &mut [u32])
+    requires { ⌜ Guarantees (now t) ⌝ }
+{
+    read_names(t, text, draft);
+    draw(order, t, text, draft);
+}
+
+fn on_table(order: Order, t: &[u32], text: &mut [u8], draft: &mut [u32]) {
     let told = shape::judged_shape(t);
     match told {
         Checked::Refused(number, at) => {
@@ -175,7 +195,7 @@ fn on_table(order: Order, t: &[u32], names: &[u8], draft: &[u32]) {
             answers::plan_refused(number, at);
         }
         Checked::Clear => {
-            draw(order, t, names, draft);
+            draw_named(order, t, text, draft);
         }
     }
 }
@@ -184,7 +204,9 @@ fn on_words(order: Order, words: &[u32], n: usize) {
     if words.len() < n {
         return;
     }
-    on_table(order, &words[0..n], b"", words);
+    let mut text = [0u8; plan_text::TEXT_ROOM];
+    let mut draft = [0u32; plan_text::DRAFT_WORDS];
+    on_table(order, &words[0..n], &mut text, &mut draft);
 }
 
 fn on_plan(order: Order) {

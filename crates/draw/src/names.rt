@@ -13,12 +13,23 @@ fn named(name: &[u8], word: &[u8], n: u32, room: u64) {
 }
 
 fn node(names: &[u8], draft: &[u32], n: u32, room: u64) {
-    named(b"", b"node ", n, room);
+    named(plan_text::names::node(names, draft, n), b"node ", n, room);
 }
 
 // Internal: a stream, in so many columns.
 pub(crate) fn stream(names: &[u8], draft: &[u32], n: u32, room: u64) {
-    named(b"", b"stream ", n, room);
+    named(
+        plan_text::names::stream(names, draft, n),
+        b"stream ",
+        n,
+        room,
+    );
+}
+
+// Internal: the same at the beginning of a title.
+pub(crate) fn stream_title(names: &[u8], draft: &[u32], n: u32, room: u64) {
+    text(b"Stream ");
+    named(plan_text::names::stream(names, draft, n), b"", n, room);
 }
 
 // Internal: from one node to another, in so many columns each.

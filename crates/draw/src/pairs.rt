@@ -3,6 +3,7 @@ ghost use Prim.Native.Nat.{_<_};
 ghost use Rattle.shape.specs.Guarantees.{Guarantees};
 ghost use Rattle.rules.specs.Steps.{LegIn, FrameOf};
 use crate::axis::LEFT;
+use crate::axis::place;
 use crate::page::Page;
 use crate::page::get;
 use crate::page::set;
@@ -11,11 +12,16 @@ use crate::svg::labelled;
 use crate::svg::minus;
 use crate::svg::plus;
 use basics::Holds;
+use meeting::MeetingAnswer;
+use reasons::small;
 use rules::Frame;
 use show::text;
 
 // Internal: so many violated places are listed.
 pub(crate) const MOST_LISTED: u64 = 20;
+
+// The radius of a mark.
+const RING: u64 = 400;
 
 // Internal: how tall the line of one is.
 pub(crate) const LINE: u64 = 1800;
@@ -129,10 +135,52 @@ fn window_line(a: usize, f: Frame, y: u64) -> u64 {
     plus(y, LINE)
 }
 
-fn pair_line(a: usize, b: usize, y: u64) -> u64 {
+// Whether an instant lies in the stretch that is drawn.
+fn is_drawn(p: Page, instant: u64) -> bool {
+    if instant < p.axis.from {
+        return false;
+    }
+    instant < p.axis.to
+}
+
+// Marks an instant in the rows of two legs.
+fn mark(p: Page, ys: &[u64], a: usize, b: usize, instant: u64) {
+    let x = place(p.axis, instant);
+    let upper = plus(get(ys, b), p.tall / 2);
+    let lower = plus(get(ys, a), p.tall / 2);
+    svg::line(b"meet", x, upper, x, lower);
+    svg::ring(b"meets", x, upper, RING);
+    svg::ring(b"meets", x, lower, RING);
+}
+
+fn met(p: Page, ys: &[u64], a: usize, b: usize, instant: u64) {
+    labelled(b" first at ", instant);
+    text(b" ns");
+    if is_drawn(p, instant) {
+        svg::end_text();
+        mark(p, ys, a, b, instant);
+        return;
+    }
+    text(b", which is not drawn here");
+    svg::end_text();
+}
+
+// The line of a pair that meets, and where it first does.
+fn pair_line(t: &[u32], p: Page, ys: &[u64], a: usize, b: usize, y: u64) -> u64 {
     begin_line(a, y);
     labelled(b" meets leg ", b as u64);
-    svg::end_text();
+    let told = meeting::meeting(t, small(a), small(b));
+    match told {
+        MeetingAnswer::Met(m) => {
+            met(p, ys, a, b, m.instant);
+        }
+        MeetingAnswer::Never => {
+            svg::end_text();
+        }
+        MeetingAnswer::Refused(number, at) => {
+            svg::end_text();
+        }
+    }
     plus(y, LINE)
 }
 
@@ -148,39 +196,39 @@ fn list_window(t: &[u32], a: usize, f: Frame, y: u64, end: u64) -> u64
     y
 }
 
-fn list_pair(t: &[u32], a: usize, f: Frame, b: usize, y: u64, end: u64) -> u64
+fn list_pair(t: &[u32], p: Page, ys: &[u64], a: usize, f: Frame, b: usize, y: u64, end: u64) -> u64
     requires { ⌜ LegIn (now t) a × FrameOf (now t) a f × (b < a) ⌝ }
 {
     if end <= y {
         return y;
     }
     if meets(t, a, f, b) {
-        return pair_line(a, b, y);
+        return pair_line(t, p, ys, a, b, y);
     }
     y
 }
 
-fn list_pairs(t: &[u32], a: usize, f: Frame, from: u64, end: u64) -> u64
+fn list_pairs(t: &[u32], p: Page, ys: &[u64], a: usize, f: Frame, from: u64, end: u64) -> u64
     requires { ⌜ LegIn (now t) a × FrameOf (now t) a f ⌝ }
 {
     let mut y = from;
     let mut b: usize = 0;
     while b < a {
-        y = list_pair(t, a, f, b, y, end);
+        y = list_pair(t, p, ys, a, f, b, y, end);
         b = b + 1;
     }
     y
 }
 
-fn list_places(t: &[u32], a: usize, y: u64, end: u64) -> u64
+fn list_places(t: &[u32], p: Page, ys: &[u64], a: usize, y: u64, end: u64) -> u64
     requires { ⌜ LegIn (now t) a ⌝ }
 {
     let f = rules::times::frame(t, a);
     let after = list_window(t, a, f, y, end);
-    list_pairs(t, a, f, after, end)
+    list_pairs(t, p, ys, a, f, after, end)
 }
 
-fn list_leg(t: &[u32], a: usize, y: u64, end: u64, bad: &[u64]) -> u64
+fn list_leg(t: &[u32], p: Page, ys: &[u64], a: usize, y: u64, end: u64, bad: &[u64]) -> u64
     requires { ⌜ Guarantees (now t) ⌝ }
 {
     if get(bad, a) == 0 {
@@ -189,18 +237,18 @@ fn list_leg(t: &[u32], a: usize, y: u64, end: u64, bad: &[u64]) -> u64
     if table::wide(t[table::LEGS_AT]) <= a {
         return y;
     }
-    list_places(t, a, y, end)
+    list_places(t, p, ys, a, y, end)
 }
 
 // Internal: lists the violated places of a link in the order of a check, from a height on and up to another.
-pub(crate) fn list(t: &[u32], p: Page, from: u64, end: u64, bad: &[u64])
+pub(crate) fn list(t: &[u32], p: Page, from: u64, end: u64, ys: &[u64], bad: &[u64])
     requires { ⌜ Guarantees (now t) ⌝ }
 {
     let legs = table::wide(t[table::LEGS_AT]);
     let mut y = from;
     let mut a: usize = 0;
     while a < legs {
-        y = list_leg(t, a, y, end, bad);
+        y = list_leg(t, p, ys, a, y, end, bad);
         a = a + 1;
     }
 }

@@ -419,8 +419,7 @@ fn due(t: &[u32], r: Route, bottom: u64)
 }
 
 fn name(t: &[u32], names: &[u8], draft: &[u32], r: Route, stream: u32) {
-    text(b"Stream ");
-    names::stream(names, draft, stream, STREAM_ROOM);
+    names::stream_title(names, draft, stream, STREAM_ROOM);
     text(b": ");
     let first = records::leg_at(t, small(r.first));
     let last = records::leg_at(t, small(std::num::wrapping_sub_usize(r.end, 1)));
@@ -440,7 +439,8 @@ fn about(t: &[u32], stream: u32) {
     text(b", deadline ");
     lasting(s.deadline as u64);
     labelled(b", ", s.octets as u64);
-    labelled(b" octets, legs ", s.count as u64);
+    text(b" octets, ");
+    svg::counted(s.count as u64, b" leg", b" legs");
     labelled(b", clock precision ", precision(t));
     text(b" ns");
 }

@@ -182,3 +182,13 @@ pub(crate) fn lasting(ns: u64) {
     number(ns);
     text(b" ns");
 }
+
+// Internal: a number of things.
+pub(crate) fn counted(n: u64, one: &[u8], more: &[u8]) {
+    number(n);
+    if n == 1 {
+        text(one);
+        return;
+    }
+    text(more);
+}

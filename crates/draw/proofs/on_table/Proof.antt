@@ -19,11 +19,17 @@ plan-refused-requires c κs = search needs
 enum-told : tie.Need-enum-told
 enum-told c = search needs
 
-draw-requires : tie.Need-draw-requires
-draw-requires c κs = search (needs, judged)
+draw-named-requires : tie.Need-draw-named-requires
+draw-named-requires c κs = search (needs, judged)
 
 returns : tie.Need-returns
 returns c = search needs
+
+same-length : tie.Need-same-length
+same-length c = search needs
+
+same-length-2 : tie.Need-same-length-2
+same-length-2 c = search needs
 
 returns-2 : tie.Need-returns-2
 returns-2 c = search needs
@@ -37,6 +43,8 @@ on-table-spec =
     why-requires
     plan-refused-requires
     enum-told
-    draw-requires
+    draw-named-requires
     returns
+    same-length
+    same-length-2
     returns-2)

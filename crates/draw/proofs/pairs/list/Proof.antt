@@ -5,10 +5,10 @@ use Rattle.draw.proofs.pairs.list.Statement.{statement}
 use Rattle.draw.proofs.pairs.list.Tie as tie
 
 abbrev Inv-loop : tie.InvT-loop
-Inv-loop t from end bad legs y₀ a₀ y a = a ≤ legs
+Inv-loop t p from end ys bad legs y₀ a₀ y a = a ≤ legs
 
 abbrev μ-loop : tie.MeasureT-loop
-μ-loop t from end bad legs y₀ a₀ y a = legs - a
+μ-loop t p from end ys bad legs y₀ a₀ y a = legs - a
 
 shared-slice-read-wide : tie.Need-shared-slice-read-wide Inv-loop μ-loop
 shared-slice-read-wide c = search needs

@@ -5,10 +5,10 @@ use Rattle.draw.proofs.pairs.list_pairs.Statement.{statement}
 use Rattle.draw.proofs.pairs.list_pairs.Tie as tie
 
 abbrev Inv-loop : tie.InvT-loop
-Inv-loop t a f from end y₀ b₀ y b = b ≤ a
+Inv-loop t p ys a f from end y₀ b₀ y b = b ≤ a
 
 abbrev μ-loop : tie.MeasureT-loop
-μ-loop t a f from end y₀ b₀ y b = a - b
+μ-loop t p ys a f from end y₀ b₀ y b = a - b
 
 loop-holds : tie.Need-loop-holds Inv-loop μ-loop
 loop-holds c = search needs
