@@ -235,7 +235,7 @@ do_install() {
         put "include/$name.h" "include/$name.h"
     done
     put "$temp/flags" lib/pkgconfig/conepalhui.pc
-    for name in docs/*.md docs/changes/*.md; do put "$name" "share/doc/conepalhui/${name#docs/}"; done
+    for name in docs/*.md docs/changes/*.md docs/pictures/*.svg; do put "$name" "share/doc/conepalhui/${name#docs/}"; done
     put "$temp/page" share/man/man1/conepalhui.1
     put "$temp/command" bin/conepalhui 755 # The last: without it nothing is run.
     printf 'installed %s\n' "$to" || stop "cannot write to standard output"

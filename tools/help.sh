@@ -403,23 +403,23 @@ about_draw() {
     cat <<'END'
 Draws a plan over time, as a picture in SVG that a browser shows. A plan that violates rules is drawn too.
 
-  draw PLAN --link L      each leg on link L has a row, with its holds over the link's cycle: the least common multiple of the
-                          periods on it. Where that passes 1 s, or would be too full to read, the picture shows the beginning
-                          and says so. Legs that meet another or leave their window are red; below stands where each pair
-                          first meets, and a mark is there. Of more than 20 violated places the others are counted
-  draw PLAN --stream S    each leg of stream S has a row, with the frame of period 0 on its way: on the wire, the gap after it,
-                          propagation and clock precision, how much time is left at each hop and window, and the deadline
+  draw PLAN --link L      each leg on link L has a row, with its holds over the link's cycle: the least common multiple of
+                          the periods on it. Where that passes 1 s, or would be too full to read, the picture shows its
+                          beginning and says so. Legs that meet another or leave their window are red; below stands where
+                          each pair first meets, and a mark is there. At most 20 violated places are listed
+  draw PLAN --stream S    each leg of stream S has a row, with the frame of period 0 on its way: on the wire, the gap after
+                          it, propagation and clock precision, how much time each hop and window has left, and the deadline
 
   --from NS, --to NS      with --link: the stretch from one instant to another, of at most 20000 holds
-  --out FILE              writes the picture to the new file FILE, and prints 'written link L bytes B'. It is on the disk then,
-                          and as private as PLAN. FILE is never replaced, nor there in part. Folders are locked meanwhile
-                          ('help answers')
+  --out FILE              writes the picture to the new file FILE, and prints 'written link L bytes B'. It is on the disk
+                          then, and as private as PLAN. FILE is never replaced, nor there in part. Folders are locked
+                          meanwhile ('help answers')
 
 Nodes and streams have the names that stand in PLAN.names, if that is there, and else their numbers.
 
-'refused NUMBER AT' says that there is no picture, and standard error says why: 23 there is no such link; others as 'check' says
-them. 'refused stream' is a stream that is not there, 'refused stretch' one with too many holds. Exit status: 0 printed or
-written, 2 refused, 4 bad arguments, or a file that cannot be read or written or is there already.
+'refused NUMBER AT' says that there is no picture, and standard error says why: 23 there is no such link; others as 'check'
+says them. 'refused stream' is a stream that is not there, 'refused stretch' one with too many holds. Exit status: 0 printed
+or written, 2 refused, 4 bad arguments, or a file that cannot be read or written or is there already.
 END
 }
 
