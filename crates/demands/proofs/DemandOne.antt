@@ -4,12 +4,16 @@ use Rattle.files.proofs.OneAnswer.{read-plan-one-answer, write-plan-one-answer,
 use Rattle.editions.proofs.Answers.{read-first-one-answer}
 use Rattle.checker.proofs.OneAnswer.{start-one-answer, slice-one-answer, move-one-answer}
 use Rattle.recheck.proofs.OneAnswer.{recheck-one-answer}
+use Rattle.margins.proofs.Deciding.{margin-one-answer}
+use Rattle.margins.proofs.NearLaws.{nearest-one-answer}
+use Rattle.meeting.proofs.OneAnswer.{meeting-one-answer}
 use Rattle.gate_files.proofs.OneAnswer.{read-list-one-answer, write-list-one-answer}
 use Rattle.gate_lists.proofs.OneAnswer.{gate-list-one-answer}
 use Rattle.admission.proofs.OneAnswer.{admit-one-answer, admit-between-one-answer}
 use Rattle.host.proofs.OneAnswer.{host-start-one-answer, host-slice-one-answer, host-slice-full-one-answer, host-move-one-answer, host-convert-one-answer}
 use Rattle.host.proofs.Admissions.{host-admit-one-answer, host-admit-between-one-answer, host-admissions-write-nothing}
 use Rattle.host.proofs.Rechecks.{host-recheck-one-answer}
+use Rattle.host.proofs.Explaining.{host-meeting-one-answer, host-margin-one-answer, host-nearest-one-answer}
 use Rattle.host.proofs.GateLists.{host-gates-one-answer, host-read-gates-one-answer, host-gate-refusals-write-nothing}
 use Rattle.claims.proofs.OneAnswer.{test-times-one-answer, test-chain-one-answer}
 use Rattle.solver.proofs.OneAnswer.{solve-one-answer}
@@ -29,6 +33,9 @@ one-answer-each = record {
   slice = slice-one-answer;
   move-leg = move-one-answer;
   recheck = recheck-one-answer;
+  meeting = meeting-one-answer;
+  margin-at = margin-one-answer;
+  nearest-at = nearest-one-answer;
   admit = admit-one-answer;
   admit-between = admit-between-one-answer;
   write-gate-list = gate-list-one-answer;
@@ -41,6 +48,9 @@ one-answer-each = record {
   read-first = read-first-one-answer;
   host-convert = host-convert-one-answer;
   host-recheck = host-recheck-one-answer;
+  host-meeting = host-meeting-one-answer;
+  host-margin = host-margin-one-answer;
+  host-nearest = host-nearest-one-answer;
   host-admit = host-admit-one-answer;
   host-admit-between = host-admit-between-one-answer;
   host-gates = host-gates-one-answer;

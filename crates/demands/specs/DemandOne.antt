@@ -20,6 +20,8 @@ use Rattle.checker.specs.Slices.{noCursor, Starts, Slices}
 use Rattle.checker.specs.Moves.{Moves}
 use Rattle.checker.specs.Theorems.{StartOneAnswer, SliceOneAnswer, MoveOneAnswer}
 use Rattle.recheck.specs.Theorems.{RecheckOneAnswer}
+use Rattle.margins.specs.Theorems.{MarginOneAnswer, NearestOneAnswer}
+use Rattle.meeting.specs.Theorems.{MeetingOneAnswer}
 use Rattle.gate_files.specs.ListFiles.{ReadsList, WritesList}
 use Rattle.gate_files.specs.Theorems.{ReadListOneAnswer, WriteListOneAnswer}
 use Rattle.gate_files.specs.declared.ListRead.the-variants as list
@@ -32,6 +34,7 @@ use Rattle.admission.specs.declared.Admission.the-variants as admission
 use Rattle.host.specs.Theorems.{HostStartOneAnswer, HostSliceOneAnswer, HostSliceFullOneAnswer, HostMoveOneAnswer, HostConvertOneAnswer, HostRefusalsWriteNothing}
 use Rattle.host.specs.AdmissionTheorems.{HostAdmitOneAnswer, HostAdmitBetweenOneAnswer, HostAdmissionsWriteNothing}
 use Rattle.host.specs.RecheckTheorems.{HostRecheckOneAnswer}
+use Rattle.host.specs.ExplainTheorems.{HostMeetingOneAnswer, HostMarginOneAnswer, HostNearestOneAnswer}
 use Rattle.host.specs.GateTheorems.{HostGatesOneAnswer, HostReadGatesOneAnswer, HostGateRefusalsWriteNothing}
 use Rattle.claims.specs.Theorems.{TestTimesOneAnswer, TestChainOneAnswer}
 use Rattle.solver.specs.Solving.{SolvesWith}
@@ -54,6 +57,9 @@ pub record OneAnswerEach : Type 0 where
   pub slice : SliceOneAnswer
   pub move-leg : MoveOneAnswer
   pub recheck : RecheckOneAnswer
+  pub meeting : MeetingOneAnswer
+  pub margin-at : MarginOneAnswer
+  pub nearest-at : NearestOneAnswer
   pub admit : AdmitOneAnswer
   pub admit-between : AdmitBetweenOneAnswer
   pub write-gate-list : GateListOneAnswer
@@ -66,6 +72,9 @@ pub record OneAnswerEach : Type 0 where
   pub read-first : ReadFirstOneAnswer
   pub host-convert : HostConvertOneAnswer
   pub host-recheck : HostRecheckOneAnswer
+  pub host-meeting : HostMeetingOneAnswer
+  pub host-margin : HostMarginOneAnswer
+  pub host-nearest : HostNearestOneAnswer
   pub host-admit : HostAdmitOneAnswer
   pub host-admit-between : HostAdmitBetweenOneAnswer
   pub host-gates : HostGatesOneAnswer

@@ -3,11 +3,14 @@ pub mod Steps
 pub mod Admitting
 pub mod Rechecking
 pub mod Listing
+pub mod Asking
+pub mod Telling
 pub mod OneAnswer
 pub mod Outcomes
 pub mod MoveRoom
 pub mod Results
 pub mod Admissions
 pub mod Rechecks
+pub mod Explaining
 pub mod GateLists
 pub mod GatesAtNumbers

@@ -5,7 +5,12 @@ pub mod Admissions
 pub mod Rechecks
 pub mod GateLists
 pub mod Steps
+pub mod OfPlans
+pub mod Meetings
+pub mod Margins
+pub mod NearOffsets
 pub mod Theorems
 pub mod AdmissionTheorems
 pub mod RecheckTheorems
+pub mod ExplainTheorems
 pub mod GateTheorems

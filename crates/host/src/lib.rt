@@ -13,8 +13,11 @@ use table::Move;
 
 pub mod admit;
 mod answers;
+pub mod first_meeting;
 pub mod late_move;
 pub mod lists;
+pub mod near_offsets;
+pub mod place_margin;
 mod tables;
 
 // What a call's own words hold at first: any word, since none is read before it is taken from the plan. Not 0, for which the compiler calls memset
