@@ -197,13 +197,13 @@ fn period_line(axis: Axis, at: u64, period: u64, top: u64, bottom: u64) {
     }
     let x = place(axis, at);
     svg::line(b"period", x, top, x, bottom);
-    svg::begin_text(b"mid small quiet", x, minus(top, 400));
+    svg::begin_text(b"mid small quiet", x, minus(top, 2400));
     svg::labelled(b"", at / period);
     text(b" T");
     svg::end_text();
 }
 
-// Internal: where periods begin, if those are few.
+// Internal: where periods begin, if those are few. Their names stand so far above that the deadline's has room below them.
 pub(crate) fn periods(axis: Axis, period: u64, top: u64, bottom: u64) {
     if period == 0 {
         return;

@@ -26,7 +26,7 @@ const PAGE: u64 = LEFT + WIDTH + 4000;
 const NODE_ROOM: u64 = 30;
 
 // What stands below the rows: the axis, what its numbers are, and what the colours mean.
-const FOOT: u64 = 8200;
+const FOOT: u64 = 8800;
 
 fn rate(of: u32) {
     match of {

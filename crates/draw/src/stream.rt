@@ -376,10 +376,10 @@ fn due_told(t: &[u32], r: Route)
 
 fn due_class(kept: bool, name: &[u8], fault: &[u8], x: u64) {
     if kept {
-        svg::begin_text(name, x, TOP - 2400);
+        svg::begin_text(name, x, TOP - 600);
         return;
     }
-    svg::begin_text(fault, x, TOP - 2400);
+    svg::begin_text(fault, x, TOP - 600);
 }
 
 fn due_text(t: &[u32], r: Route, x: u64)
@@ -415,7 +415,7 @@ fn due(t: &[u32], r: Route, bottom: u64)
         return;
     }
     svg::end_text();
-    svg::line(b"due", x, TOP - 2000, x, bottom);
+    svg::line(b"due", x, TOP - 1700, x, bottom);
 }
 
 fn name(t: &[u32], names: &[u8], draft: &[u32], r: Route, stream: u32) {
