@@ -32,13 +32,18 @@
  * A stream may be added to a plan that keeps the rules: conepalhui_admit finds the least first offset with which the
  * plan still keeps them, moves no other frame, and gives the new plan file. Its check begins anew, with a start.
  *
+ * Why a place holds or not is told in numbers: conepalhui_margin has what its rule needs and has there and what is to
+ * spare, conepalhui_nearest the nearest offsets with which it would hold, and conepalhui_meeting when two legs first
+ * hold their link at once.
+ *
  * For the switches, conepalhui_gates writes the gate control list of each link of an accepted plan, and
  * conepalhui_read_gates reads a list file. What the switch has to do besides stands there.
  *
  * ---- WHAT THE CALLER MUST KEEP TO. OTHERWISE 'NOTHING VIOLATED' MAY BE SAID OF A PLAN THAT BREAKS A RULE. ----
  *
  *   1. The run. It begins with a start that is granted. Starts, slices and moves follow, in any order. A refused call
- *      writes nothing and is no part of the run; nor is a recheck, nor a gate list.
+ *      writes nothing and is no part of the run; nor is a recheck, nor a gate list, nor a meeting, a margin or the
+ *      nearest offsets.
  *   2. The plan. Until a move of the run is granted, each call is given the plan that the first start was given. After
  *      that it is given the plan that the last granted move wrote: the first bytes of new_plan, as many as the number
  *      beside its result says. Nothing else changes the plan.
@@ -86,11 +91,11 @@
 #include <stdint.h>
 
 /* The version of this header and of the archive that it belongs to. A NUMBER is 10000 MAJOR + 100 MINOR + PATCH. */
-#define CONEPALHUI_VERSION "3.3.0"
+#define CONEPALHUI_VERSION "3.4.0"
 #define CONEPALHUI_VERSION_MAJOR 3
-#define CONEPALHUI_VERSION_MINOR 3
+#define CONEPALHUI_VERSION_MINOR 4
 #define CONEPALHUI_VERSION_PATCH 0
-#define CONEPALHUI_VERSION_NUMBER 30300
+#define CONEPALHUI_VERSION_NUMBER 30400
 
 /*
  * The edition of the rules: what a plan file, a place and a cursor mean, and when a place holds. It is raised whenever
@@ -106,14 +111,17 @@
  * has no edition, and the plan keeps its revision. So whoever saves cursors saves the edition beside them and starts
  * anew where it is another one, be it higher or lower, as examples/host.c does.
  *
- * The number here is the archive's only where header and archive belong together. So start, move, recheck, the
- * admissions and the writing of gate lists have the edition in their names there: a program that was compiled with the
- * header of another edition is not linked. Compile it anew.
+ * The number here is the archive's only where header and archive belong together. So start, move, recheck, meeting,
+ * margin, nearest, the admissions and the writing of gate lists have the edition in their names there: a program that
+ * was compiled with the header of another edition is not linked. Compile it anew.
  */
 #define CONEPALHUI_EDITION 3
 #define conepalhui_start conepalhui_start_3
 #define conepalhui_move conepalhui_move_3
 #define conepalhui_recheck conepalhui_recheck_3
+#define conepalhui_meeting conepalhui_meeting_3
+#define conepalhui_margin conepalhui_margin_3
+#define conepalhui_nearest conepalhui_nearest_3
 #define conepalhui_admit conepalhui_admit_3
 #define conepalhui_admit_between conepalhui_admit_between_3
 #define conepalhui_gates conepalhui_gates_3
@@ -166,9 +174,13 @@
 enum {
     CONEPALHUI_NOTHING_VIOLATED = 0, /* a slice: nothing is violated from its cursor on, and the check is done; a
                                         recheck: nothing is violated at the places that it looked at */
+    CONEPALHUI_HOLDS = 0,            /* a margin: the place holds */
+    CONEPALHUI_NEVER_MEET = 0,       /* a meeting: the two legs never hold one link at once */
+    CONEPALHUI_TOLD = 0,             /* nearest: the offsets are told */
     CONEPALHUI_GRANTED = 0,          /* start, move, conversion, admission, gates and read_gates: done */
     CONEPALHUI_PAUSED = 1,           /* paused: the budget is used up, and all that was looked at holds */
     CONEPALHUI_NONE_YET = 1,         /* admit_between: none of the first offsets that were looked at fits */
+    CONEPALHUI_MEET = 1,             /* a meeting: the two legs hold one link at once, and it is told when first */
     CONEPALHUI_WINDOW = 2,           /* violated: the frame, with the gap after it, is not through in its period */
     CONEPALHUI_HOP = 3,              /* violated: the frame is sent on before it has arrived from its previous link */
     CONEPALHUI_DEADLINE = 4,         /* violated: the frame arrives at its last node after its deadline */
@@ -191,6 +203,44 @@ struct conepalhui_rechecked {
     uint32_t place;  /* violated: its place; otherwise 0 */
 };
 typedef struct conepalhui_rechecked conepalhui_rechecked;
+
+/* What a meeting gives: when two legs first hold their link at once. What is not told is 0. */
+struct conepalhui_first_meeting {
+    uint32_t result;   /* 0 they never meet, 1 they meet, or 100 + refusal */
+    uint32_t position; /* refused: the position */
+    uint64_t first;    /* they meet: the last repeat of leg that has begun then, counted from 0 */
+    uint64_t second;   /* they meet: the last repeat of other that has begun then */
+    uint64_t instant;  /* they meet: the instant in ns, counted from where the offsets are */
+};
+typedef struct conepalhui_first_meeting conepalhui_first_meeting;
+
+/* What a margin gives: the numbers of the rule at a place, all times in ns. What is not told is 0. */
+struct conepalhui_place_margin {
+    uint32_t result;   /* 0 the place holds, 2 to 5 it is violated, or 100 + refusal */
+    uint32_t position; /* refused: the position */
+    uint32_t rule;     /* the rule of the place, 2 to 5, whether it is violated or not */
+    uint32_t asked;    /* 1 where the rule asks something at this place, 0 where it does not; the rest is then 0 */
+    uint64_t left;     /* the place holds: by how much */
+    uint64_t lacks;    /* the place is violated: by how much, at least 1 */
+    uint64_t needs;    /* window, hop and deadline: what the rule needs */
+    uint64_t has;      /* window, hop and deadline: and what it has */
+    uint64_t divisor;  /* overlap: the greatest common divisor of the two periods */
+    uint64_t after;    /* overlap: how far the lower leg begins after the leg, by that divisor; less than it */
+    uint64_t hold;     /* overlap: how long the leg holds the link */
+    uint64_t other;    /* overlap: how long the lower leg holds it */
+};
+typedef struct conepalhui_place_margin conepalhui_place_margin;
+
+/* What nearest gives: the nearest offsets of a leg with which one place of it holds. What is not told is 0. */
+struct conepalhui_near_offsets {
+    uint32_t result;    /* 0, or 100 + refusal */
+    uint32_t position;  /* refused: the position */
+    uint32_t has_below; /* 1 where there is such an offset below the leg's own, otherwise 0 */
+    uint32_t below;     /* the nearest one below, in ns */
+    uint32_t has_above; /* 1 where there is such an offset above the leg's own, otherwise 0 */
+    uint32_t above;     /* the nearest one above, in ns */
+};
+typedef struct conepalhui_near_offsets conepalhui_near_offsets;
 
 /* What an admission gives. */
 struct conepalhui_admission {
@@ -289,6 +339,64 @@ conepalhui_answer conepalhui_move(const uint8_t *plan, size_t plan_len, const ui
  * then 10 where the plan has no such leg.
  */
 conepalhui_rechecked conepalhui_recheck(const uint8_t *plan, size_t plan_len, uint32_t leg);
+
+/*
+ * The next three calls explain: they tell in numbers why a place holds or not. None of them writes anything, takes or
+ * gives a cursor, or is part of a run. Each reads and judges the whole plan, as a start does. They answer of any plan
+ * that a start is granted for, accepted or not. Places and legs are those of the end of this header.
+ *
+ * Result: as each says, or 100 + refusal. The refusals in their order: 12, 13, 2, 14 and 4 to 7 as for a start, then
+ * 10 at 0 where the plan has no such leg (meeting), or 9 at 0 where it has no such place (margin and nearest). The end
+ * is no place here.
+ *
+ * examples/explain.c tells of the first violated place what they tell.
+ */
+
+/*
+ * When two legs first hold their link at once: the earliest such instant of all, however many periods it takes, and
+ * the repeat of each leg that holds the link then. A leg holds its link from each of its starts, with its frame and the
+ * gap after it; start k of it is at its offset and k periods, whatever its period word is. Where a leg holds its link
+ * for longer than a period, the last repeat that has begun is told.
+ *
+ * The place of leg a with a lower leg b, 3 + b, is violated exactly where they meet: MeetingsShowOverlaps in
+ * crates/meeting/specs/Theorems.antt. The two legs may be given in either order, which exchanges first and second, and
+ * nothing else. A leg given twice meets itself, at its offset.
+ *
+ * Result: 0 they never meet, be it that they are on different links; 1 they meet.
+ */
+conepalhui_first_meeting conepalhui_meeting(const uint8_t *plan, size_t plan_len, uint32_t leg, uint32_t other);
+
+/*
+ * The numbers of the rule at a place of a leg, and what is to spare:
+ *
+ *   window     needs: offset and hold time of the leg; has: its period
+ *   hop        needs: when the frame has arrived from the previous link and may be sent on; has: when the leg starts
+ *   deadline   needs: when the frame has arrived at its last node; has: the start of the first leg and the deadline
+ *   overlap    of leg a with a lower leg b: divisor, after, hold, other
+ *
+ * The first three hold where needs <= has: left is has - needs, lacks is needs - has. An overlap holds where each of
+ * the two ends before the other begins, hold <= after and other <= divisor - after: left is how much longer either of
+ * them could hold the link, lacks by how much at the least each would have to hold it shorter.
+ *
+ * Nothing is asked (asked is 0) by the hop of the first leg of a stream, by the deadline of a leg that is not the last,
+ * and by the overlap of legs on different links. Such a place holds.
+ *
+ * The result is what a check says of this place: 0 it holds, 2 to 5 it is violated. This is proved
+ * (crates/host/specs/ExplainTheorems.antt: HostMarginsDecide). OF OTHER PLACES IT SAYS NOTHING.
+ */
+conepalhui_place_margin conepalhui_margin(const uint8_t *plan, size_t plan_len, uint32_t leg, uint32_t place);
+
+/*
+ * The nearest offsets of a leg, below and above its own, with which it keeps its window and this one place of it holds,
+ * all other numbers of the plan staying as they are, its period word too. The offset that the leg has is not one of
+ * them, whether the place holds with it or not.
+ *
+ * THEY SPEAK OF ONE PLACE ALONE, AND OF THE WINDOW OF THE LEG. With such an offset another place may be violated, of
+ * this leg or of another one: after the move check the plan, or recheck the leg.
+ *
+ * Result: 0. Whether there is one below is has_below, and whether there is one above has_above: 0 is an offset too.
+ */
+conepalhui_near_offsets conepalhui_nearest(const uint8_t *plan, size_t plan_len, uint32_t leg, uint32_t place);
 
 /*
  * Converts a plan file of the first layout, as versions before 3.0.0 wrote it. new_plan gets the same plan as a file of
@@ -460,9 +568,11 @@ static inline const char *conepalhui_text(uint32_t result)
 {
     switch (result) {
     case CONEPALHUI_NOTHING_VIOLATED: return "after a slice: nothing violated; after a recheck: nothing violated at "
-                                             "the places that were looked at; after any other call: granted";
+                                             "the places that were looked at; after a meeting: the legs never meet; "
+                                             "after a margin: the place holds; after any other call: granted";
     case CONEPALHUI_PAUSED: return "after a slice: paused, and all that was looked at holds; after a piece of an "
-                                   "admission: none of the first offsets that were looked at fits";
+                                   "admission: none of the first offsets that were looked at fits; after a meeting: "
+                                   "the legs meet";
     case CONEPALHUI_WINDOW: return "violated: the frame, with the gap after it, is not through in its period";
     case CONEPALHUI_HOP: return "violated: the frame is sent on before it has arrived from its previous link";
     case CONEPALHUI_DEADLINE: return "violated: the frame arrives at its last node after its deadline";
@@ -476,8 +586,9 @@ static inline const char *conepalhui_text(uint32_t result)
                                         "all streams are right, and have fewer legs than the header says";
     case CONEPALHUI_REFUSED + 7: return "a leg's stream, its link, its period word or its route is wrong";
     case CONEPALHUI_REFUSED + 8: return "the cursor is of another revision than the plan";
-    case CONEPALHUI_REFUSED + 9: return "the cursor is at no place of the plan, nor at its end";
-    case CONEPALHUI_REFUSED + 10: return "there is no such leg to move or to recheck";
+    case CONEPALHUI_REFUSED + 9: return "the cursor is at no place of the plan, nor at its end; or "
+                                        "there is no such place to explain";
+    case CONEPALHUI_REFUSED + 10: return "there is no such leg to move, to recheck or to meet";
     case CONEPALHUI_REFUSED + 11: return "a move or an admission at revision 4,294,967,295";
     case CONEPALHUI_REFUSED + 12: return "the bytes end before the numbers do";
     case CONEPALHUI_REFUSED + 13: return "a number in more bytes than it needs, or above 4,294,967,295";
@@ -577,7 +688,8 @@ static inline struct conepalhui_place conepalhui_cursor_place(const uint8_t *cur
  *    7    a leg's stream, its link, its period word or its route is wrong           the lowest such leg
  *    8    the cursor is of another revision than the plan                           0
  *    9    the cursor is at no place of the plan, nor at its end                     0
- *   10    there is no such leg to move or to recheck                                0
+ *         there is no such place to explain                                         0
+ *   10    there is no such leg to move, to recheck or to meet                       0
  *   11    a move or an admission at revision 4,294,967,295                          0
  *   12    the bytes end before the numbers do                                       the start of that number
  *   13    a number in more bytes than it needs, or above 4,294,967,295              the start of that number
@@ -597,9 +709,10 @@ static inline struct conepalhui_place conepalhui_cursor_place(const uint8_t *cur
  *
  * Where several are due the first is told: of the plan 12 and 13 from left to right, 2 after the fifth number, 14;
  * of the cursor 12, 13, 14; 15 for out; then 4 to 11 and 17 in their order; and last 15 for new_plan. A recheck has no
- * cursor, and after 7 only 10. An admission has none either, and an order of its own, after 7: 11, 20, 15, 19, 18. So
- * has a gate list: 23, 19, 21, 22, 15. A 12, 13 or 14 of a slice or a move lies in the plan exactly when
- * conepalhui_start refuses that plan with it too, and otherwise in the cursor.
+ * cursor, and after 7 only 10; so it is with a meeting, and margin and nearest have only 9 there. An admission has none
+ * either, and an order of its own, after 7: 11, 20, 15, 19, 18. So has a gate list: 23, 19, 21, 22, 15. A 12, 13 or 14
+ * of a slice or a move lies in the plan exactly when conepalhui_start refuses that plan with it too, and otherwise in
+ * the cursor.
  */
 
 #endif

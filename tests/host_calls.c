@@ -2,7 +2,8 @@
  * host_calls.c: every call of conepalhui.h at the cases of the rules, at every refusal, and at the edges of its
  * buffers.
  *
- * What is due stands here in numbers, worked out by hand from the rules. Each lent buffer ends at a page that may not
+ * What is due stands here in numbers, worked out by hand from the rules; but of meetings, margins and nearest offsets it
+ * is reckoned here, by trying one instant and one offset after the other. Each lent buffer ends at a page that may not
  * be touched, so that a byte read or written after it ends the program; what lies before it is compared. The exit
  * status is 0 only where all answers are those that are due. tests/host.test builds and runs it.
  */
@@ -270,6 +271,201 @@ static void not_rechecked(const char *name, const char *plan, uint32_t leg, uint
 {
     recheck(name, plan, leg, (struct due_recheck){result, at, 0, 0});
 }
+
+/* ---- Explanations */
+
+/* A plan as numbers, and the leg and its times as the rules have them (docs/ACCEPTED.md). */
+static uint32_t words[16384];
+
+static void read_words(const char *plan)
+{
+    size_t length = hex_length(plan), count = 0;
+    unsigned shift = 0;
+    memset(words, 0, sizeof words);
+    for (size_t at = 0; at < length; at++) {
+        uint32_t byte = (uint32_t)strtoul(plan + 3 * at, NULL, 16);
+        words[count] |= (byte & 0x7F) << shift;
+        shift = byte < 0x80 ? 0 : shift + 7;
+        count += byte < 0x80;
+    }
+}
+
+struct frame {
+    uint64_t offset, period, hold, wire, start, ready, deadline;
+    uint32_t link, first, end;
+};
+
+static uint32_t *leg_words(uint32_t leg)
+{
+    return words + 5 + 4 * words[1] + 5 * words[2] + 4 * leg;
+}
+
+static struct frame frame_of(uint32_t leg)
+{
+    const uint32_t *l = leg_words(leg), *stream = words + 5 + 4 * words[1] + 5 * l[0], *link = words + 5 + 4 * l[1];
+    struct frame f = {.offset = l[2], .period = stream[0], .deadline = stream[1], .link = l[1], .first = stream[3]};
+    f.end = f.first + stream[4];
+    f.wire = (uint64_t)(stream[2] + 8) * link[2];
+    f.hold = f.wire + 12 * (uint64_t)link[2];
+    f.start = f.offset + l[3] * f.period;
+    f.ready = f.start + f.wire + link[3] + words[4];
+    return f;
+}
+
+/* The first of all instants at which both hold the link, among so many repeats as show every case of these plans. */
+static conepalhui_first_meeting meeting_due(uint32_t leg, uint32_t other)
+{
+    struct frame a = frame_of(leg), b = frame_of(other);
+    conepalhui_first_meeting due = {0, 0, 0, 0, 0};
+    for (uint64_t k = 0; a.link == b.link && k < 40; k++)
+        for (uint64_t m = 0; m < 40; m++) {
+            uint64_t from = a.offset + k * a.period, other_from = b.offset + m * b.period;
+            uint64_t x = from > other_from ? from : other_from;
+            if (x < from + a.hold && x < other_from + b.hold && (due.result == 0 || x < due.instant)) {
+                due.result = 1;
+                due.instant = x;
+            }
+        }
+    while (due.result == 1 && a.offset + (due.first + 1) * a.period <= due.instant)
+        due.first++;
+    while (due.result == 1 && b.offset + (due.second + 1) * b.period <= due.instant)
+        due.second++;
+    return due;
+}
+
+/* What is needed and had by window, hop and deadline. */
+static void sides_due(uint32_t leg, uint32_t place, conepalhui_place_margin *due)
+{
+    struct frame a = frame_of(leg);
+    due->asked = place == 0 || (place == 1 ? leg > a.first : leg + 1 == a.end);
+    if (due->asked == 0)
+        return;
+    due->needs = place == 0 ? a.offset + a.hold : place == 1 ? frame_of(leg - 1).ready : a.ready;
+    due->has = place == 0 ? a.period : place == 1 ? a.start : a.deadline + frame_of(a.first).start;
+    if (due->needs <= due->has)
+        due->left = due->has - due->needs;
+    else
+        due->lacks = due->needs - due->has;
+}
+
+/* The divisor, found by trying; how far the lower leg lies after the leg, by counting on; and what may be added or taken. */
+static void turns_due(uint32_t leg, uint32_t lower, conepalhui_place_margin *due)
+{
+    struct frame a = frame_of(leg), b = frame_of(lower);
+    due->asked = a.link == b.link;
+    if (due->asked == 0)
+        return;
+    due->hold = a.hold;
+    due->other = b.hold;
+    due->divisor = a.period;
+    while (a.period % due->divisor != 0 || b.period % due->divisor != 0)
+        due->divisor--;
+    while ((a.offset + due->after) % due->divisor != b.offset % due->divisor)
+        due->after++;
+    while (due->hold > due->after + due->lacks || due->other + due->after > due->divisor + due->lacks)
+        due->lacks++;
+    while (due->hold + due->left + 1 <= due->after && due->other + due->left + 1 + due->after <= due->divisor)
+        due->left++;
+}
+
+static conepalhui_place_margin margin_due(uint32_t leg, uint32_t place)
+{
+    conepalhui_place_margin due = {0, 0, place < 3 ? 2 + place : 5, 0, 0, 0, 0, 0, 0, 0, 0, 0};
+    if (place < 3)
+        sides_due(leg, place, &due);
+    else
+        turns_due(leg, place - 3, &due);
+    due.result = due.lacks > 0 ? due.rule : 0;
+    return due;
+}
+
+/* Whether the leg keeps its window at this offset, and the place holds: overlaps by meetings, the others by their sides. */
+static bool stands(uint32_t leg, uint32_t place, uint32_t offset)
+{
+    uint32_t before = leg_words(leg)[2];
+    leg_words(leg)[2] = offset;
+    struct frame a = frame_of(leg);
+    bool window = a.offset + a.hold <= a.period;
+    bool holds = place < 3 ? margin_due(leg, place).lacks == 0 : meeting_due(leg, place - 3).result == 0;
+    leg_words(leg)[2] = before;
+    return window && holds;
+}
+
+static conepalhui_near_offsets nearest_due(uint32_t leg, uint32_t place)
+{
+    conepalhui_near_offsets due = {0, 0, 0, 0, 0, 0};
+    struct frame a = frame_of(leg);
+    for (uint32_t x = (uint32_t)a.offset; x > 0 && due.has_below == 0; x--)
+        if (stands(leg, place, x - 1)) {
+            due.has_below = 1;
+            due.below = x - 1;
+        }
+    for (uint32_t x = (uint32_t)a.offset + 1; x <= a.period && due.has_above == 0; x++)
+        if (stands(leg, place, x)) {
+            due.has_above = 1;
+            due.above = x;
+        }
+    return due;
+}
+
+static conepalhui_first_meeting call_meeting(uint32_t leg, uint32_t other)
+{
+    return conepalhui_meeting(lent[PLAN].bytes, lent[PLAN].length, leg, other);
+}
+
+static conepalhui_place_margin call_margin(uint32_t leg, uint32_t place)
+{
+    return conepalhui_margin(lent[PLAN].bytes, lent[PLAN].length, leg, place);
+}
+
+static conepalhui_near_offsets call_nearest(uint32_t leg, uint32_t place)
+{
+    return conepalhui_nearest(lent[PLAN].bytes, lent[PLAN].length, leg, place);
+}
+
+/* None of them writes anything; each is compared number by number. */
+static void expect_meeting(const char *name, const char *plan, uint32_t leg, uint32_t other, conepalhui_first_meeting due)
+{
+    lend_all(plan, "", 0, 0);
+    conepalhui_first_meeting told = call_meeting(leg, other);
+    if (told.first != due.first || told.second != due.second || told.instant != due.instant)
+        fault(name, "another meeting");
+    compare(name, (conepalhui_answer){told.result, told.position}, refused(due.result, due.position));
+}
+
+static void expect_margin(const char *name, const char *plan, uint32_t leg, uint32_t place, conepalhui_place_margin due)
+{
+    lend_all(plan, "", 0, 0);
+    conepalhui_place_margin told = call_margin(leg, place);
+    if (told.rule != due.rule || told.asked != due.asked || told.left != due.left || told.lacks != due.lacks)
+        fault(name, "another margin");
+    if (told.needs != due.needs || told.has != due.has)
+        fault(name, "other sides");
+    if (told.divisor != due.divisor || told.after != due.after || told.hold != due.hold || told.other != due.other)
+        fault(name, "other turns");
+    compare(name, (conepalhui_answer){told.result, told.position}, refused(due.result, due.position));
+}
+
+static void expect_nearest(const char *name, const char *plan, uint32_t leg, uint32_t place, conepalhui_near_offsets due)
+{
+    lend_all(plan, "", 0, 0);
+    conepalhui_near_offsets told = call_nearest(leg, place);
+    if (told.has_below != due.has_below || told.below != due.below)
+        fault(name, "another offset below");
+    if (told.has_above != due.has_above || told.above != due.above)
+        fault(name, "another offset above");
+    compare(name, (conepalhui_answer){told.result, told.position}, refused(due.result, due.position));
+}
+
+/* All of them are refused alike for the plan. */
+static void not_explained(const char *name, const char *plan, uint32_t number, uint32_t result, uint32_t at)
+{
+    expect_meeting(name, plan, number, number, (conepalhui_first_meeting){result, at, 0, 0, 0});
+    expect_margin(name, plan, number, number, (conepalhui_place_margin){result, at, 0, 0, 0, 0, 0, 0, 0, 0, 0, 0});
+    expect_nearest(name, plan, number, number, (conepalhui_near_offsets){result, at, 0, 0, 0, 0});
+}
+
+/* ---- Admissions: what is wanted of a new stream */
 
 /* What is wanted of a new stream: its route, as so many numbers of links, and its numbers. */
 struct wanted {
@@ -790,6 +986,72 @@ static void rechecks_of_a_stream(void)
     recheck("the overlap of two others", leg_0_early, 2, keeps(8));
 }
 
+/* ---- Explanations */
+
+/* Every pair of legs and every place of a plan, and what was seen of results and of offsets that are not there. */
+static unsigned seen_results[6], seen_met, seen_apart, seen_free, seen_none;
+
+static void explain_all(const char *name, const char *plan)
+{
+    read_words(plan);
+    uint32_t legs = words[3];
+    for (uint32_t leg = 0; leg < legs; leg++) {
+        for (uint32_t other = 0; other < legs; other++) {
+            conepalhui_first_meeting due = meeting_due(leg, other);
+            expect_meeting(name, plan, leg, other, due);
+            seen_met += due.result == 1 && leg != other;
+            seen_apart += due.result == 0 && frame_of(leg).link == frame_of(other).link;
+        }
+        for (uint32_t place = 0; place < 3 + leg; place++) {
+            conepalhui_place_margin margin = margin_due(leg, place);
+            conepalhui_near_offsets nearest = nearest_due(leg, place);
+            expect_margin(name, plan, leg, place, margin);
+            expect_nearest(name, plan, leg, place, nearest);
+            seen_results[margin.result]++;
+            seen_free += margin.asked == 0;
+            seen_none += nearest.has_below == 0 && nearest.has_above == 0;
+        }
+    }
+}
+
+static void explanations(void)
+{
+    const char *one_leg = "00 01 01 01 00 01 02 08 00 D0 0F 01 40 00 01 00 00 00 00"; /* due before it can arrive */
+    explain_all("Plan A", plan_a);
+    explain_all("Plan A with leg 2 at 672", MENDED);
+    explain_all("a hop and an overlap", PLAN_A("00", "D8 04", "A0 05"));
+    explain_all("a window", PLAN_A("00", "81 88 06", "A0 05"));
+    explain_all("leg 2 at 671", PLAN_A("00", "00", "9F 05"));
+    explain_all("leg 2 at 50,000: they meet in later repeats", PLAN_A("00", "00", "D0 86 03"));
+    explain_all("leg 2 at 49,329", PLAN_A("00", "00", "B1 81 03"));
+    explain_all("Plan D", PLAN_D("00", DUE, LEG_0, LEG_1, LEG_2, LEG_3));
+    explain_all("Plan D, too late", PLAN_D("00", "FF 32", LEG_0, LEG_1, LEG_2, LEG_3));
+    explain_all("Plan D, leg 3 early", PLAN_D("00", DUE, LEG_0, LEG_1, LEG_2, "E0 02 01"));
+    explain_all("Plan D, leg 0 early", PLAN_D("00", DUE, "9F 05 00", LEG_1, LEG_2, LEG_3));
+    explain_all("one leg", one_leg);
+    if (seen_results[0] == 0 || seen_results[2] == 0 || seen_results[3] == 0 || seen_results[4] == 0 || seen_results[5] == 0
+        || seen_met == 0 || seen_apart == 0 || seen_free == 0 || seen_none == 0)
+        fault("explanations", "not all that may be told was tried");
+    for (uint32_t leg = 0; leg < 4; leg++) {
+        uint32_t place = leg == 3 ? 0 : 3 + leg; /* the first that is not there */
+        expect_margin("no such place", plan_a, leg, place, (conepalhui_place_margin){109, 0, 0, 0, 0, 0, 0, 0, 0, 0, 0, 0});
+        expect_nearest("no such place", plan_a, leg, place, (conepalhui_near_offsets){109, 0, 0, 0, 0, 0});
+        expect_margin("place 2^32 - 1", plan_a, leg, TOP, (conepalhui_place_margin){109, 0, 0, 0, 0, 0, 0, 0, 0, 0, 0, 0});
+        expect_nearest("place 2^32 - 1", plan_a, leg, TOP, (conepalhui_near_offsets){109, 0, 0, 0, 0, 0});
+    }
+    expect_margin("leg 2^32 - 1", plan_a, TOP, 0, (conepalhui_place_margin){109, 0, 0, 0, 0, 0, 0, 0, 0, 0, 0, 0});
+    expect_nearest("leg 2^32 - 1", plan_a, TOP, 0, (conepalhui_near_offsets){109, 0, 0, 0, 0, 0});
+    for (uint32_t leg = 0; leg < 3; leg++) {
+        expect_meeting("no such leg", plan_a, leg, 3, (conepalhui_first_meeting){110, 0, 0, 0, 0});
+        expect_meeting("no such leg", plan_a, 3, leg, (conepalhui_first_meeting){110, 0, 0, 0, 0});
+        expect_meeting("leg 2^32 - 1", plan_a, leg, TOP, (conepalhui_first_meeting){110, 0, 0, 0, 0});
+        expect_meeting("leg 2^32 - 1", plan_a, TOP, leg, (conepalhui_first_meeting){110, 0, 0, 0, 0});
+    }
+    not_explained("a file of the first layout", first_a, 0, 112, 41);
+    not_explained("null", "", 0, 112, 0);
+    not_explained("null, and numbers that are not there", "", TOP, 112, 0);
+}
+
 /* ---- Gate lists */
 
 #define COUNT(words) (sizeof(words) / sizeof *(words))
@@ -933,6 +1195,8 @@ static void refused_plans(void)
         move(name, name, "00 00 00", (struct moved){0, 0, 0}, ROOM, 15, due);
         not_rechecked(name, name, 0, tried[i].result, tried[i].at);
         not_rechecked(name, name, TOP, tried[i].result, tried[i].at);
+        not_explained(name, name, 0, tried[i].result, tried[i].at);
+        not_explained(name, name, TOP, tried[i].result, tried[i].at);
         admit(name, name, THIRD(100000), ROOM, not_admitted(tried[i].result, tried[i].at));
         admit(name, name, THIRD(0), 0, not_admitted(tried[i].result, tried[i].at));
         no_gates(name, name, 0, tried[i].result, tried[i].at);
@@ -1083,6 +1347,21 @@ static void stack_recheck(void)
     call_recheck(2);
 }
 
+static void stack_meeting(void)
+{
+    call_meeting(2, 0);
+}
+
+static void stack_margin(void)
+{
+    call_margin(2, 3);
+}
+
+static void stack_nearest(void)
+{
+    call_nearest(2, 3);
+}
+
 static void stack_gates(void)
 {
     call_gates(0);
@@ -1160,6 +1439,9 @@ static void stacks(void)
         {"slice", stack_short_slice, {largest, plan_a}, CONEPALHUI_STACK_BYTES},
         {"move", stack_move, {largest, plan_a}, CONEPALHUI_STACK_BYTES},
         {"recheck", stack_recheck, {largest, MENDED}, CONEPALHUI_STACK_BYTES},
+        {"meeting", stack_meeting, {largest, plan_a}, CONEPALHUI_STACK_BYTES},
+        {"margin", stack_margin, {largest, plan_a}, CONEPALHUI_STACK_BYTES},
+        {"nearest", stack_nearest, {largest, plan_a}, CONEPALHUI_STACK_BYTES},
         {"convert_first", stack_convert, {first_largest, first_a}, CONEPALHUI_STACK_BYTES},
         {"gates", stack_gates, {largest, COMB("00", "98 09", "A0 05")}, CONEPALHUI_GATES_STACK_BYTES},
         {"read_gates", stack_read_gates, {largest, plan_a}, CONEPALHUI_STACK_BYTES},
@@ -1221,6 +1503,7 @@ int main(void)
     refused_admissions();
     rechecks();
     rechecks_of_a_stream();
+    explanations();
     make_comb();
     gate_lists();
     lists_read();

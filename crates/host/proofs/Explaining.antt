@@ -36,7 +36,7 @@ use Rattle.host.specs.Answers.{refusedResult, ruleResult}
 use Rattle.host.specs.Meetings.{meetingNumbers, HostMeets}
 use Rattle.host.specs.Margins.{placeResult, marginNumbers, HostMargins}
 use Rattle.host.specs.NearOffsets.{nearestNumbers, HostNears}
-use Rattle.host.specs.ExplainTheorems.{HostMeetingOneAnswer, HostMarginOneAnswer, HostNearestOneAnswer, RefusedBy, TellsRefusal, ExplainResultsAreThese, HostMarginsDecide}
+use Rattle.host.specs.ExplainTheorems.{HostMeetingOneAnswer, HostMarginOneAnswer, HostNearestOneAnswer, RefusedBy, TellsRefusal, ExplainResultsAreThese, HostMarginsDecide, ExplanationsInNumbers}
 use Rattle.host.proofs.Asking.{numbers-one, of-the-table, plan-results}
 
 pub host-meeting-one-answer : HostMeetingOneAnswer
@@ -146,4 +146,19 @@ host-margins-decide = record {
       let e : a .result ≡ marginNumbers (ruleAt place) (h .given) .result = ap (λ (b : MarginNumbers). b .result) (h .answer) in
       violated-at t leg place (ruleAt place) (h .given) (of-the-table MarginAnswer margin.Refused (λ (u : List ℕ). Margins u leg place) plan t (h .given) f (h .told))
       (omega (arith, e, from)) (omega (arith, e, to));
+}
+
+pub explanations-in-numbers : ExplanationsInNumbers
+explanations-in-numbers = record {
+  never = refl;
+  met = λ k m x. refl;
+  unmet = λ k p. refl;
+  window-left = λ n h l. refl;
+  hop-free = refl;
+  deadline-lacks = λ n h l. refl;
+  overlap-lacks = λ d a h o l. refl;
+  margin-refused = λ x k p. refl;
+  both = λ x y. refl;
+  below-alone = λ x. refl;
+  nearest-refused = λ k p. refl;
 }
