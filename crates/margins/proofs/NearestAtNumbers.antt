@@ -1,4 +1,4 @@
--- Nearest offsets of Plan A, Plan B and their neighbours: the ranges of their frames. Assumes nothing.
+-- Nearest offsets of Plan A, Plan B and their neighbours, and of Plan D: the ranges of their frames. Assumes nothing.
 use Prim.Native.Nat.{ℕ, _+_, _-_, _%_, _≤_, _<_}
 use mathlib.Core.Path.{_≡_, refl, sym}
 use mathlib.Core.List.{List}
@@ -8,16 +8,21 @@ use native.Mathlib.Omega.{arith}
 use Rattle.numbers.specs.Number.{maxWord}
 use Rattle.table.specs.PlanA.{PlanNumbers, planWith, offsetsA, dueA, periodsA, offsetsB}
 use Rattle.shape.proofs.AtNumbers.{like-a-in-range, plan-a-in-range, plan-a-is-well-formed}
+use Rattle.table.specs.PlanD.{PlanDNumbers, planD, routeD}
+use Rattle.shape.specs.Theorems.{PeriodsInRangeD}
+use Rattle.shape.proofs.PlanD.{plan-d-is-well-formed}
 use Rattle.overlap.specs.Divisor.{IsGcd}
 use Rattle.offsets.specs.declared.Condition.{Condition}
 use Rattle.offsets.proofs.Saying.{free-allows, pair-says}
-use Rattle.rules.specs.Times.{wireTime, holdTime, lasting, maxReady, offsetOf}
+use Rattle.rules.specs.Times.{startTime, wireTime, holdTime, lasting, maxReady, offsetOf}
 use Rattle.rules.specs.Places.{placeOf}
 use Rattle.rules.specs.declared.Asked.{Asked}
 use Rattle.rules.specs.declared.Asked.the-variants as asked
 use Rattle.rules.proofs.Asking.{places-are-asked}
 use Rattle.rules.proofs.CasePlans.{Bounded, plan, h0, h1, h2, w1, w2, f0, f1, f2, is-0, is-1, is-2, ready-0, ready-of}
 use Rattle.rules.proofs.CasePlaces.{bounded-a}
+use Rattle.rules.proofs.CasesOfPlanD as plan-d
+use Rattle.rules.proofs.Computed.{Near, frame, frameOn, ready}
 use Rattle.margins.specs.Asking.{CanAsk}
 use Rattle.margins.specs.Nearest.{IsBelow, IsAbove, Nears}
 use Rattle.margins.specs.Ranges.{Among, Between, InWindow, Moving, RangeFor, StandsAt}
@@ -198,6 +203,29 @@ bounded-short =
 bounded-periods : Bounded (periodsA 0 700)
 bounded-periods = record { in-range = like-a-in-range 0 100000 2352 100001 0 1176 700 (omega arith, omega arith, omega arith, omega arith, omega arith); offsets = omega arith }
 
+-- Plan D, whose route does not fit into one period.
+abbrev route : PlanDNumbers
+route = routeD 6528 0 1 2
+
+route-words : PeriodsInRangeD route
+route-words = record { leg-0 = omega arith; leg-1 = omega arith; leg-2 = omega arith; leg-3 = omega arith }
+
+route-near : (a : ℕ) → a < 4 → Near (planD route) a
+route-near = plan-d.near route route-words (omega arith)
+
+route-can : CanAsk (planD route) 2 1
+route-can = record { shape = plan-d-is-well-formed route route-words (omega arith, omega arith); place = record { leg = omega arith; place = omega arith } }
+
+hop-of-route : Nears (planD route) 2 1 (At (nearest offset.None (offset.At 177)))
+unfolding startTime wireTime holdTime lasting
+hop-of-route =
+    let f = frame (planD route) (omega arith) route-near 2 (omega arith) in
+    let p = plain-range 176 1329 (omega arith) (omega arith) in
+    near (planD route) 2 asked.Hop (Between 176 1329) (plainRange 176 1329) route-can p
+    (hop-range (planD route) 2 (frameOn (planD route) 2) (moving-leg (planD route) 2 1 (frameOn (planD route) 2) route-can f) 1 2176 176 1329 (plainRange 176 1329)
+    (omega arith) refl (ready (planD route) (omega arith) route-near 1 (omega arith)) refl refl p)
+    176 offset.None (offset.At 177) (f .offset) (below-none 176 1329 176 (omega arith)) (above-next 176 1329 176 177 (omega arith) (omega arith) refl)
+
 pub nearest-at-numbers : NearestAtNumbers
 unfolding plan wireTime holdTime lasting
 nearest-at-numbers =
@@ -220,6 +248,7 @@ nearest-at-numbers =
           (below-next 0 149329 149328 149327 (omega arith) (omega arith) refl) (above-none 0 149329 149328 (omega arith));
       hop = hop-1 (offsetsA 0 1175 0) (bounded-a 0 0 1175 0 (omega arith)) offset.None (offset.At 1176) (omega arith) (omega arith)
           (below-none 1176 99329 1175 (omega arith)) (above-next 1176 99329 1175 1176 (omega arith) (omega arith) refl);
+      hop-late = hop-of-route;
       window = window-1 (offsetsB 0 93281 672) (bounded-b 93281 672 (omega arith)) (offset.At 93280) offset.None (omega arith)
           (below-next 0 93281 93281 93280 (omega arith) (omega arith) refl) (above-none 0 93281 93281 (omega arith));
       deadline = deadline-1 (dueA 2351 600) (bounded-due-a 2351 600 (omega arith) (omega arith)) (offset.At 1775) offset.None 1776 (omega arith) (omega arith) refl

@@ -1,6 +1,7 @@
--- Nearest offsets at numbers, of Plan A, Plan B and their neighbours.
+-- Nearest offsets at numbers, of Plan A, Plan B and their neighbours, and of Plan D.
 use mathlib.Core.List.{[]}
 use Rattle.table.specs.PlanA.{PlanNumbers, planWith, planA, offsetsA, dueA, periodsA, offsetsB}
+use Rattle.table.specs.PlanD.{planD, routeD}
 use Rattle.margins.specs.Nearest.{Nears}
 use Rattle.margins.specs.declared.Nearest.{Nearest}
 use Rattle.margins.specs.declared.Offset.{Offset}
@@ -29,6 +30,8 @@ pub record NearestAtNumbers : Type 0 where
   pub other-link : Nears (planWith (offsetsA 0 1176 149328)) 2 4 (At (nearest (offset.At 149327) offset.None))
   -- Leg 1 starts 1 ns before leg 0 is ready.
   pub hop : Nears (planWith (offsetsA 0 1175 0)) 1 1 (At (nearest offset.None (offset.At 1176)))
+  -- Leg 2 of Plan D lies one period of 2,000 ns late, at 176: it starts at 2,176, just when leg 1 is ready. Its period word stays, so it may go on, and not back.
+  pub hop-late : Nears (planD (routeD 6528 0 1 2)) 2 1 (At (nearest offset.None (offset.At 177)))
   -- Leg 1 of Plan B holds link 1 for 1 ns past its period.
   pub window : Nears (planWith (offsetsB 0 93281 672)) 1 0 (At (nearest (offset.At 93280) offset.None))
   -- Leg 1 is ready 1 ns after its deadline, which counts from leg 0 at 600.
