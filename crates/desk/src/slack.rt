@@ -129,8 +129,9 @@ fn by_rule(t: &[u32], names_text: &[u8], draft: &[u32], word: &[u8], place: u32)
     let mut left = [NONE; TOLD];
     let mut legs = [0u32; TOLD];
     let asked = gather(t, place, &mut left, &mut legs);
+    text(b"least by ");
     text(word);
-    numbered(b": the least of ", asked as u64);
+    numbered(b", of ", asked as u64);
     text(b"\n");
     print_rows(t, names_text, draft, &left, &legs);
 }
