@@ -13,9 +13,9 @@ hint() { # VERDICT [PLAN]
     note "why: $leg"
 }
 
-# The path of a plan beside which its names stand, $path: none where it came by standard input.
+# The path of a plan beside which its names stand, $path. A plan that came by standard input has none, and beside this path there are none.
 find_names() { # [PLAN]
-    path=''
+    path=/dev/null
     (($# == 0)) || { path=$(real_path "$1") && path=${path%$'\n.'}; } || stop "cannot find the plan $1"
 }
 

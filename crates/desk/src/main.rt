@@ -93,13 +93,11 @@ fn named(t: &[u32], names_text: &[u8], draft: &[u32], order: Order) {
     }
 }
 
-// The names beside the plan are read first. A plan that came by standard input has no path, and no names.
+// The names beside the plan are read first.
 fn named_in(t: &[u32], order: Order, names_text: &mut [u8], draft: &mut [u32]) {
     let mut path = io::buffer();
     let n = os::arg(args::PLAN_AT, &mut path);
-    if 0 < n {
-        plan_text::names::beside(&path[..n], t, names_text, draft);
-    }
+    plan_text::names::beside(&path[..n], t, names_text, draft);
     named(t, names_text, draft, order);
 }
 
