@@ -5,6 +5,7 @@ use crate::check::{begin, host_convert, host_move, host_slice, host_start, Check
 use crate::format::{
     encoded, table, table_words, write_cursor, write_plan, Cursor, Layout, Move, Outcome, Plan, Refusal,
 };
+use crate::explain_list;
 use crate::gates_list;
 use crate::list::{bytes, hex, joined, numbers};
 use crate::network_list;
@@ -203,6 +204,7 @@ impl Calls {
             _ if network_list::is_call(verb) => return network_list::told(verb, rest),
             _ if admit_list::is_call(verb) => return admit_list::told(verb, rest, &self.table),
             _ if recheck_list::is_call(verb) => return recheck_list::told(verb, rest, &self.table),
+            _ if explain_list::is_call(verb) => return explain_list::told(verb, rest, &self.table),
             _ if gates_list::is_call(verb) => return gates_list::told(verb, rest, &self.table, &self.plan),
             _ => return self.call(verb, &numbers(rest)?),
         }

@@ -45,6 +45,7 @@ mod damage;
 #[allow(dead_code)] // It also serves the other comparisons.
 mod drafts;
 mod driver;
+mod explain_list;
 mod fail;
 mod format;
 #[allow(dead_code)] // It also serves the comparison of gate lists.

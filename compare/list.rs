@@ -8,7 +8,8 @@
 //! alone). A call on bytes takes the file of such words, or bytes as they stand, =80 00 or "text"; its changes may be bytes 40 (so many
 //! alone), and 00 (so much more), leg 1 offset as 98 00. CURSOR is three words, for a call on bytes their file or bytes as they stand.
 //! A call without them goes on with those of the call before it, and with what that call made of them. network_list.rs has the calls on networks,
-//! admit_list.rs those that admit a stream, recheck_list.rs those on a table of which one leg was moved, gates_list.rs those on gate lists.
+//! admit_list.rs those that admit a stream, recheck_list.rs those on a table of which one leg was moved, explain_list.rs
+//! those that explain a place, gates_list.rs those on gate lists.
 
 use crate::admit_list;
 use crate::check::Plain;

@@ -2,8 +2,8 @@
  * host_calls.c: every call of conepalhui.h at the cases of the rules, at every refusal, and at the edges of its
  * buffers.
  *
- * What is due stands here in numbers, worked out by hand from the rules; but of meetings, margins and nearest offsets it
- * is reckoned here, by trying one instant and one offset after the other. Each lent buffer ends at a page that may not
+ * What is due stands here in numbers, worked out by hand from the rules; but of meetings, margins and nearest offsets
+ * it is reckoned here, by trying one instant and one offset after the other. Each lent buffer ends at a page that may not
  * be touched, so that a byte read or written after it ends the program; what lies before it is compared. The exit
  * status is 0 only where all answers are those that are due. tests/host.test builds and runs it.
  */
@@ -348,7 +348,7 @@ static void sides_due(uint32_t leg, uint32_t place, conepalhui_place_margin *due
         due->lacks = due->needs - due->has;
 }
 
-/* The divisor, found by trying; how far the lower leg lies after the leg, by counting on; and what may be added or taken. */
+/* The divisor, found by trying; how far the lower leg lies after the leg, by counting on; what may be added or taken. */
 static void turns_due(uint32_t leg, uint32_t lower, conepalhui_place_margin *due)
 {
     struct frame a = frame_of(leg), b = frame_of(lower);
@@ -379,7 +379,7 @@ static conepalhui_place_margin margin_due(uint32_t leg, uint32_t place)
     return due;
 }
 
-/* Whether the leg keeps its window at this offset, and the place holds: overlaps by meetings, the others by their sides. */
+/* Whether the leg keeps its window at this offset and the place holds: overlaps by meetings, others by their sides. */
 static bool stands(uint32_t leg, uint32_t place, uint32_t offset)
 {
     uint32_t before = leg_words(leg)[2];
@@ -424,7 +424,8 @@ static conepalhui_near_offsets call_nearest(uint32_t leg, uint32_t place)
 }
 
 /* None of them writes anything; each is compared number by number. */
-static void expect_meeting(const char *name, const char *plan, uint32_t leg, uint32_t other, conepalhui_first_meeting due)
+static void expect_meeting(const char *name, const char *plan, uint32_t leg, uint32_t other,
+                           conepalhui_first_meeting due)
 {
     lend_all(plan, "", 0, 0);
     conepalhui_first_meeting told = call_meeting(leg, other);
@@ -433,7 +434,8 @@ static void expect_meeting(const char *name, const char *plan, uint32_t leg, uin
     compare(name, (conepalhui_answer){told.result, told.position}, refused(due.result, due.position));
 }
 
-static void expect_margin(const char *name, const char *plan, uint32_t leg, uint32_t place, conepalhui_place_margin due)
+static void expect_margin(const char *name, const char *plan, uint32_t leg, uint32_t place,
+                          conepalhui_place_margin due)
 {
     lend_all(plan, "", 0, 0);
     conepalhui_place_margin told = call_margin(leg, place);
@@ -446,7 +448,8 @@ static void expect_margin(const char *name, const char *plan, uint32_t leg, uint
     compare(name, (conepalhui_answer){told.result, told.position}, refused(due.result, due.position));
 }
 
-static void expect_nearest(const char *name, const char *plan, uint32_t leg, uint32_t place, conepalhui_near_offsets due)
+static void expect_nearest(const char *name, const char *plan, uint32_t leg, uint32_t place,
+                           conepalhui_near_offsets due)
 {
     lend_all(plan, "", 0, 0);
     conepalhui_near_offsets told = call_nearest(leg, place);
@@ -457,12 +460,28 @@ static void expect_nearest(const char *name, const char *plan, uint32_t leg, uin
     compare(name, (conepalhui_answer){told.result, told.position}, refused(due.result, due.position));
 }
 
+/* A refusal has its number and its position, and 0 in all else. */
+static conepalhui_first_meeting no_meeting(uint32_t result, uint32_t at)
+{
+    return (conepalhui_first_meeting){result, at, 0, 0, 0};
+}
+
+static conepalhui_place_margin no_margin(uint32_t result, uint32_t at)
+{
+    return (conepalhui_place_margin){result, at, 0, 0, 0, 0, 0, 0, 0, 0, 0, 0};
+}
+
+static conepalhui_near_offsets no_offsets(uint32_t result, uint32_t at)
+{
+    return (conepalhui_near_offsets){result, at, 0, 0, 0, 0};
+}
+
 /* All of them are refused alike for the plan. */
 static void not_explained(const char *name, const char *plan, uint32_t number, uint32_t result, uint32_t at)
 {
-    expect_meeting(name, plan, number, number, (conepalhui_first_meeting){result, at, 0, 0, 0});
-    expect_margin(name, plan, number, number, (conepalhui_place_margin){result, at, 0, 0, 0, 0, 0, 0, 0, 0, 0, 0});
-    expect_nearest(name, plan, number, number, (conepalhui_near_offsets){result, at, 0, 0, 0, 0});
+    expect_meeting(name, plan, number, number, no_meeting(result, at));
+    expect_margin(name, plan, number, number, no_margin(result, at));
+    expect_nearest(name, plan, number, number, no_offsets(result, at));
 }
 
 /* ---- Admissions: what is wanted of a new stream */
@@ -1014,6 +1033,11 @@ static void explain_all(const char *name, const char *plan)
     }
 }
 
+/* Two legs on one link that hold it for 672 and 12,336 ns; their periods are 100,000 and 150,000 ns. */
+#define LONG_AND_SHORT(offset) \
+    "00 01 02 02 64 01 02 08 F4 03 A0 8D 06 B0 12 40 00 01 F0 93 09 D0 86 03 F2 0B 01 01 00 00 00 00 01 00 " \
+    offset " 00"
+
 static void explanations(void)
 {
     const char *one_leg = "00 01 01 01 00 01 02 08 00 D0 0F 01 40 00 01 00 00 00 00"; /* due before it can arrive */
@@ -1028,24 +1052,27 @@ static void explanations(void)
     explain_all("Plan D, too late", PLAN_D("00", "FF 32", LEG_0, LEG_1, LEG_2, LEG_3));
     explain_all("Plan D, leg 3 early", PLAN_D("00", DUE, LEG_0, LEG_1, LEG_2, "E0 02 01"));
     explain_all("Plan D, leg 0 early", PLAN_D("00", DUE, "9F 05 00", LEG_1, LEG_2, LEG_3));
+    explain_all("a long frame at 671", LONG_AND_SHORT("9F 05"));
+    explain_all("a long frame at 700", LONG_AND_SHORT("BC 05"));
+    explain_all("a long frame at 37,665", LONG_AND_SHORT("A1 A6 02"));
     explain_all("one leg", one_leg);
-    if (seen_results[0] == 0 || seen_results[2] == 0 || seen_results[3] == 0 || seen_results[4] == 0 || seen_results[5] == 0
-        || seen_met == 0 || seen_apart == 0 || seen_free == 0 || seen_none == 0)
+    bool rules = seen_results[0] && seen_results[2] && seen_results[3] && seen_results[4] && seen_results[5];
+    if (!rules || seen_met == 0 || seen_apart == 0 || seen_free == 0 || seen_none == 0)
         fault("explanations", "not all that may be told was tried");
     for (uint32_t leg = 0; leg < 4; leg++) {
         uint32_t place = leg == 3 ? 0 : 3 + leg; /* the first that is not there */
-        expect_margin("no such place", plan_a, leg, place, (conepalhui_place_margin){109, 0, 0, 0, 0, 0, 0, 0, 0, 0, 0, 0});
-        expect_nearest("no such place", plan_a, leg, place, (conepalhui_near_offsets){109, 0, 0, 0, 0, 0});
-        expect_margin("place 2^32 - 1", plan_a, leg, TOP, (conepalhui_place_margin){109, 0, 0, 0, 0, 0, 0, 0, 0, 0, 0, 0});
-        expect_nearest("place 2^32 - 1", plan_a, leg, TOP, (conepalhui_near_offsets){109, 0, 0, 0, 0, 0});
+        expect_margin("no such place", plan_a, leg, place, no_margin(109, 0));
+        expect_nearest("no such place", plan_a, leg, place, no_offsets(109, 0));
+        expect_margin("place 2^32 - 1", plan_a, leg, TOP, no_margin(109, 0));
+        expect_nearest("place 2^32 - 1", plan_a, leg, TOP, no_offsets(109, 0));
     }
-    expect_margin("leg 2^32 - 1", plan_a, TOP, 0, (conepalhui_place_margin){109, 0, 0, 0, 0, 0, 0, 0, 0, 0, 0, 0});
-    expect_nearest("leg 2^32 - 1", plan_a, TOP, 0, (conepalhui_near_offsets){109, 0, 0, 0, 0, 0});
+    expect_margin("leg 2^32 - 1", plan_a, TOP, 0, no_margin(109, 0));
+    expect_nearest("leg 2^32 - 1", plan_a, TOP, 0, no_offsets(109, 0));
     for (uint32_t leg = 0; leg < 3; leg++) {
-        expect_meeting("no such leg", plan_a, leg, 3, (conepalhui_first_meeting){110, 0, 0, 0, 0});
-        expect_meeting("no such leg", plan_a, 3, leg, (conepalhui_first_meeting){110, 0, 0, 0, 0});
-        expect_meeting("leg 2^32 - 1", plan_a, leg, TOP, (conepalhui_first_meeting){110, 0, 0, 0, 0});
-        expect_meeting("leg 2^32 - 1", plan_a, TOP, leg, (conepalhui_first_meeting){110, 0, 0, 0, 0});
+        expect_meeting("no such leg", plan_a, leg, 3, no_meeting(110, 0));
+        expect_meeting("no such leg", plan_a, 3, leg, no_meeting(110, 0));
+        expect_meeting("leg 2^32 - 1", plan_a, leg, TOP, no_meeting(110, 0));
+        expect_meeting("leg 2^32 - 1", plan_a, TOP, leg, no_meeting(110, 0));
     }
     not_explained("a file of the first layout", first_a, 0, 112, 41);
     not_explained("null", "", 0, 112, 0);

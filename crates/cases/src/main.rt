@@ -4,6 +4,7 @@ use files::Cursor;
 use table::Move;
 
 mod admit_calls;
+mod explain_calls;
 mod files_calls;
 mod gates_calls;
 mod host_calls;
@@ -88,6 +89,9 @@ fn asked(verb: &[u8], rest: &[u8], table: &[u32], plan: &[u8], saved: &[u8], cur
         return;
     }
     if recheck_calls::asked(verb, rest, table) {
+        return;
+    }
+    if explain_calls::asked(verb, numbers, table) {
         return;
     }
     if gates_calls::asked(verb, numbers, table, plan) {
