@@ -2,10 +2,10 @@
 
 use crate::admit_list;
 use crate::check::{begin, host_convert, host_move, host_slice, host_start, Checker, Plain};
+use crate::explain_list;
 use crate::format::{
     encoded, table, table_words, write_cursor, write_plan, Cursor, Layout, Move, Outcome, Plan, Refusal,
 };
-use crate::explain_list;
 use crate::gates_list;
 use crate::list::{bytes, hex, joined, numbers};
 use crate::network_list;
@@ -237,6 +237,8 @@ impl Calls {
             }
             ("host-convert", [_]) => self.host_convert(room(0)),
             ("digits", []) => digits(&self.saved),
+            ("time", []) => time(in_ns(&self.saved)),
+            ("rate", []) => time(rate(&self.saved)),
             ("same", []) => yes(self.plan == self.saved),
             ("known", [edition]) => {
                 let is_known = |seen: Seen| seen.first == self.plan || seen.other == self.plan;
@@ -277,6 +279,38 @@ fn digits(text: &[u8]) -> String {
         Ok(value) => format!("value {}\n", value),
         Err(_) => "too large\n".to_string(),
     }
+}
+
+/// A time with a unit, reckoned in billionths of a ns: what is left over below 1 ns makes it no time.
+fn in_ns(text: &[u8]) -> Option<u32> {
+    let units =
+        [("ns", 1u128), ("us", 1000), ("\u{b5}s", 1000), ("\u{3bc}s", 1000), ("ms", 1_000_000), ("s", 1_000_000_000)];
+    let text = std::str::from_utf8(text).ok()?;
+    let (number, unit) = units.iter().find_map(|&(name, ns)| Some((text.strip_suffix(name)?, ns)))?;
+    let (whole, part) = number.split_once('.').map_or((number, None), |(whole, part)| (whole, Some(part)));
+    let is_number = |digits: &str| !digits.is_empty() && digits.bytes().all(|byte| byte.is_ascii_digit());
+    if !is_number(whole) || part.map_or(false, |part| !is_number(part) || part.len() > 9) {
+        return None;
+    }
+    let billionths = format!("{}{:0<9}", whole, part.unwrap_or("")).parse::<u128>().ok()? * unit;
+    if billionths % 1_000_000_000 != 0 {
+        return None;
+    }
+    u32::try_from(billionths / 1_000_000_000).ok()
+}
+
+/// A rate by its name, or as a time for an octet.
+fn rate(text: &[u8]) -> Option<u32> {
+    match text {
+        b"10M" => Some(800),
+        b"100M" => Some(80),
+        b"1G" => Some(8),
+        _ => in_ns(text.strip_suffix(b"/octet")?),
+    }
+}
+
+fn time(ns: Option<u32>) -> String {
+    ns.map_or("no time\n".to_string(), |ns| format!("ns {}\n", ns))
 }
 
 /// What is kept beside a cursor: the edition of the rules that it was made with, and the plans that were seen.

@@ -25,7 +25,7 @@ type Spelled<T> = Result<T, String>;
 fn on_bytes(verb: &str) -> bool {
     verb.starts_with("host-")
         || verb.starts_with("read-")
-        || matches!(verb, "digits" | "same" | "known" | "copy" | "edition")
+        || matches!(verb, "digits" | "time" | "rate" | "same" | "known" | "copy" | "edition")
 }
 
 pub fn number(text: &str) -> Spelled<u32> {

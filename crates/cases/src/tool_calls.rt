@@ -3,6 +3,7 @@ use crate::text;
 use basics::Holds;
 use decimal::Decimal;
 use seen::Of;
+use units::Time;
 
 fn digits(bytes: &[u8]) {
     let read = decimal::read_decimal(bytes);
@@ -23,6 +24,17 @@ fn digits(bytes: &[u8]) {
         }
     }
     show::end_line();
+}
+
+// A time that was read, or that it is none, for whatever reason.
+fn time(read: Time) {
+    if let Time::Ns(ns) = read {
+        show::text(b"ns ");
+        show::number(ns as u64);
+        show::end_line();
+        return;
+    }
+    show::text(b"no time\n");
 }
 
 fn holds(told: Holds) {
@@ -70,6 +82,14 @@ fn asked_of_copy(verb: &[u8], number: u32, plan: &[u8], saved: &[u8]) -> bool {
 pub(crate) fn asked(verb: &[u8], numbers: [u32; 5], plan: &[u8], saved: &[u8]) -> bool {
     if text::is(verb, b"digits") {
         digits(saved);
+        return true;
+    }
+    if text::is(verb, b"time") {
+        time(units::read_time(saved));
+        return true;
+    }
+    if text::is(verb, b"rate") {
+        time(units::read_rate(saved));
         return true;
     }
     if text::is(verb, b"same") {
