@@ -60,8 +60,8 @@ static void tell_margin(uint32_t leg, uint32_t place)
     if (told.rule != CONEPALHUI_OVERLAP)
         printf("%" PRIu64 " ns are needed, and there are %" PRIu64 "\n", told.needs, told.has);
     else
-        printf("the legs hold the link for %" PRIu64 " and %" PRIu64 " ns, and by the divisor of their periods, %" PRIu64
-               " ns, the second begins %" PRIu64 " ns after the first\n",
+        printf("the legs hold the link for %" PRIu64 " and %" PRIu64 " ns, and by the divisor of their periods, "
+               "%" PRIu64 " ns, the second begins %" PRIu64 " ns after the first\n",
                told.hold, told.other, told.divisor, told.after);
 }
 

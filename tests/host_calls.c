@@ -3,8 +3,8 @@
  * buffers.
  *
  * What is due stands here in numbers, worked out by hand from the rules; but of meetings, margins and nearest offsets
- * it is reckoned here, by trying one instant and one offset after the other. Each lent buffer ends at a page that may not
- * be touched, so that a byte read or written after it ends the program; what lies before it is compared. The exit
+ * it is reckoned here, by trying one instant and one offset after the other. Each lent buffer ends at a page that may
+ * not be touched, so that a byte read or written after it ends the program; what lies before it is compared. The exit
  * status is 0 only where all answers are those that are due. tests/host.test builds and runs it.
  */
 #define _GNU_SOURCE
@@ -348,7 +348,7 @@ static void sides_due(uint32_t leg, uint32_t place, conepalhui_place_margin *due
         due->lacks = due->needs - due->has;
 }
 
-/* The divisor, found by trying; how far the lower leg lies after the leg, by counting on; what may be added or taken. */
+/* The divisor, found by trying; how far the lower leg lies after the leg, by counting on; and what may be added. */
 static void turns_due(uint32_t leg, uint32_t lower, conepalhui_place_margin *due)
 {
     struct frame a = frame_of(leg), b = frame_of(lower);

@@ -20,6 +20,7 @@ LEGEND = re.compile(r"<!-- signs -->\n(.*?)<!-- end -->", re.S)
 # Where reading begins besides the public calls.
 DEMANDS = [("demands", demand, demand) for demand in ("DemandOne", "DemandTwo", "DemandThree", "DemandThreeForC")] + [
     ("demands", "Explanations", "ExplanationsAgree"),
+    ("demands", "Surveys", "SurveysAgree"),
     ("demands", "Admissions", "AdmissionsPass"),
     ("demands", "Rechecks", "RechecksAreSound"),
     ("demands", "Rechecks", "EveningsAreSound"),

@@ -28,7 +28,7 @@ use Rattle.demands.specs.Explanations.{Lacking, Sparing, ExplanationsAgr
 use Rattle.demands.proofs.DemandTwo.{gives-same, demand-two}
 
 -- The place that a whole check names is a place of a well-formed table, and violated.
-named : (t : List ℕ) (r : SliceAnswer) (a p : ℕ) (s : Rule) → WholeCheck t r → Gives r (violated a p s) → FirstViolated t a p
+pub named : (t : List ℕ) (r : SliceAnswer) (a p : ℕ) (s : Rule) → WholeCheck t r → Gives r (violated a p s) → FirstViolated t a p
 named t r a p s w g =
     let is = demand-two .checks t r w in
     let right : RightVerdict t (violated a p s) = subst (RightVerdict t) (gives-same r (is .verdict) (violated a p s) (is .gives) g) (is .right) in

@@ -2,6 +2,7 @@ pub mod DemandOne
 pub mod Verdicts
 pub mod DemandTwo
 pub mod Explanations
+pub mod Surveys
 pub mod Admissions
 pub mod Runs
 pub mod DemandThree
