@@ -1,7 +1,7 @@
 # Builds the drivers of the comparisons, and the benchmarks, in .built/compare. The command conepalhui reads this file and gives it
 # its own functions. They need the archives of the calls for C, which are for x86-64: so is what is linked with them. The judge,
 # which the comparison asks, is for this processor; compare/judge builds it. So are the comparisons of networks, admissions,
-# rechecks and gate lists.
+# rechecks, gate lists and of what explains a plan.
 
 rust_target=x86_64-unknown-linux-gnu
 
@@ -75,6 +75,12 @@ build_recheck_comparison() {
 build_gates_comparison() {
     build_driver gates-driver compare/gates_driver.c conepalhui
     make_if_old gates compare/*.rs plans/*.plan -- rustc --edition 2021 -O compare/gates_compare.rs -o
+}
+
+# The comparison of the calls that explain a plan, and its driver.
+build_explain_comparison() {
+    build_driver explain-driver compare/explain_driver.c conepalhui
+    make_if_old explain compare/*.rs plans/*.plan -- rustc --edition 2021 -O compare/explain_compare.rs -o
 }
 
 # Prints a compiler of Rust that has the library of x86-64.

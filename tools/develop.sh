@@ -189,12 +189,15 @@ With --rechecks N it moves legs of so many tables and compares each recheck, wit
 where the table was accepted before, with a whole check of the moved table; it catches those of compare/recheck_wrong.rs.
 With --gates N it asks for the gate lists of links of so many tables, and compares each with one that is laid out instant by
 instant (compare/gates.rs) or, where the cycle is long, with one by its holds; it catches those of compare/gates_wrong.rs.
+With --explained N it asks so many tables where legs first meet, for margins, for nearest offsets and for all violated places,
+and compares each with one that walks repeats and tries offsets (compare/explain.rs); it catches those of
+compare/explain_wrong.rs.
 END
 }
 
 do_compare() {
-    local calls=200000 networks=0 admissions=0 rechecks=0 gates=0 seed=1 emulator c_compiler
-    numbers_from 'calls networks admissions rechecks gates seed' "$@"
+    local calls=200000 networks=0 admissions=0 rechecks=0 gates=0 explained=0 seed=1 emulator c_compiler
+    numbers_from 'calls networks admissions rechecks gates explained seed' "$@"
     . compare/build.sh
     if ((networks > 0)); then
         build_network_comparison
@@ -208,6 +211,9 @@ do_compare() {
     elif ((gates > 0)); then
         build_gates_comparison
         .built/compare/gates "$seed" "$gates" "${emulator[@]}" .built/compare/gates-driver
+    elif ((explained > 0)); then
+        build_explain_comparison
+        .built/compare/explain "$seed" "$explained" "${emulator[@]}" .built/compare/explain-driver
     else
         build_comparison
         compare/judge compare "$seed" "$calls" "${emulator[@]}" .built/compare/driver
