@@ -3,14 +3,14 @@
 use crate::admit_cases::damaged_file;
 use crate::chance::Batch;
 use crate::check::{places_of, Checker, Plain};
-use crate::drafts::{accepted, accepted_a, medium, plan_a, to_an_edge};
+use crate::drafts::{accepted, accepted_a, large, medium, plan_a, to_an_edge};
 use crate::explain::{answer, told, Answer, Call, Kind, Told, KINDS, RIGHT};
 use crate::explain_drafts::{some_leg, some_other, some_table};
 use crate::format::{plan_bytes, Plan};
 use crate::paper::{HOP, LIMITS, OVERLAPS, WINDOW};
 use std::sync::Arc;
 
-/// The tables of a batch: well-formed ones, and then some that are refused, mostly.
+/// The tables of a batch: well-formed ones, and then some that are refused, mostly. Every twentieth batch has a large one too.
 pub const BATCH: usize = WELL_FORMED + BENT;
 const WELL_FORMED: usize = 100;
 const BENT: usize = 28;
@@ -52,6 +52,10 @@ pub fn batch(seed: u64, number: u64) -> Vec<Case> {
         batch.table(plan);
     }
     (0..BENT).for_each(|_| batch.bent());
+    if number % 20 == 0 {
+        let plan = large(&mut batch.chance);
+        batch.table(plan);
+    }
     batch.cases
 }
 
@@ -76,7 +80,8 @@ impl Batch<Case> {
             return;
         }
         let bytes: Arc<[u8]> = plan_bytes(&plan).into();
-        let budget = self.chance.of(&[1, 2, 7, 100, 1_000_000]);
+        // Each slice reads the plan again, so a large one has few.
+        let budget = if plan.legs.len() > 40 { 1_000_000 } else { self.chance.of(&[1, 2, 7, 100, 1_000_000]) };
         self.make(Kind::Survey, &bytes, 0, budget);
         for _ in 0..3 {
             self.pair(&bytes, &plan);

@@ -15,6 +15,7 @@
    the last byte of a buffer after the call, 2 and 3 the byte before one, 4 to 15 one of the numbers. */
 #define _GNU_SOURCE
 #include <stddef.h>
+#include <string.h>
 
 #include "conepalhui.h"
 #include "lent.h"
@@ -83,20 +84,20 @@ static void survey(const struct head *call, const uint8_t *plan, uint32_t *words
 }
 
 static void meeting(const struct head *call, const uint8_t *plan, answered *to) {
-    conepalhui_met met = conepalhui_meeting(plan, call->length[PLAN], call->leg, call->second);
+    conepalhui_first_meeting met = conepalhui_meeting(plan, call->length[PLAN], call->leg, call->second);
     uint64_t numbers[] = {met.result, met.position, met.first, met.second, met.instant};
     memcpy(to->number, numbers, sizeof numbers);
 }
 
 static void margin(const struct head *call, const uint8_t *plan, answered *to) {
-    conepalhui_spare s = conepalhui_margin(plan, call->length[PLAN], call->leg, call->second);
+    conepalhui_place_margin s = conepalhui_margin(plan, call->length[PLAN], call->leg, call->second);
     uint64_t numbers[] = {s.result, s.position, s.rule,    s.asked, s.left, s.lacks,
                           s.needs,  s.has,      s.divisor, s.after, s.hold, s.other};
     memcpy(to->number, numbers, sizeof numbers);
 }
 
 static void nearest(const struct head *call, const uint8_t *plan, answered *to) {
-    conepalhui_near near = conepalhui_nearest(plan, call->length[PLAN], call->leg, call->second);
+    conepalhui_near_offsets near = conepalhui_nearest(plan, call->length[PLAN], call->leg, call->second);
     uint64_t numbers[] = {near.result, near.position, near.has_below, near.below, near.has_above, near.above};
     memcpy(to->number, numbers, sizeof numbers);
 }
