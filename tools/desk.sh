@@ -105,26 +105,27 @@ write_notes() {
         stop "cannot write the notes $cursor"
 }
 
-# Looks at the next places of the plan as it is now. Where it is another plan than the notes are of, the survey begins anew.
+# Looks at the next places of the plan as it is now. Where it is another plan than the notes are of, the survey begins anew. The plan is read once, into a file that has no name any more, so that
+# what is looked at is what was summed up.
 survey_on() { # NOTES BUDGET
-    local copy sum
-    copy=$(mktemp) && exec {copied}<"$plan" && cat <&"$copied" >"$copy" && sum=$(sum_of <"$copy") || stop "cannot read the plan $plan"
-    exec {copied}<&-
+    local name copy sum
+    name=$(mktemp) && exec {copy}<>"$name" && rm -f -- "$name" && cat -- "$plan" >&"$copy" && sum=$(sum_of <"/dev/fd/$copy") || stop "cannot read the plan $plan"
     if [[ -z $of_plan && -e $cursor ]]; then
         read_notes "$1"
-        [[ $of_plan == "$sum" || -n $anew ]] || { rm -f -- "$copy"; stop "the notes $1 are of another plan, or of this one before it was changed. To drop them and begin anew: --anew. To keep them: give other notes a name of their own"; }
+        [[ $of_plan == "$sum" || -n $anew ]] ||
+            stop "the notes $1 are of another plan, or of this one before it was changed. To drop them and begin anew: --anew. To keep them: give other notes a name of their own"
     elif [[ -n $of_plan && $of_plan != "$sum" ]]; then
         end_progress
         note "the plan was changed: the survey begins anew"
     fi
     [[ $of_plan == "$sum" ]] || of_plan=$sum leg=0 place=0 count=0 noted=''
-    wrote=$(run_program desk part "$leg" "$place" "$2" <"$copy" && printf .) || stop "the program desk ended with status $?"
-    rm -f -- "$copy"
+    wrote=$(run_program desk part "$leg" "$place" "$2" <"/dev/fd/$copy" && printf .) || stop "the program desk ended with status $?"
+    exec {copy}>&-
     take_status || [[ $why == over* || $why == stands* ]] || stop "the program desk gave no whole answer"
 }
 
 do_survey() {
-    local budget='' rate='' anew='' files=() began first_passed='' first_time said_time progress='' of_plan='' leg=0 place=0 count=0 noted='' passed all more copied
+    local budget='' rate='' anew='' files=() began first_passed='' first_time said_time progress='' of_plan='' leg=0 place=0 count=0 noted='' passed all more
     local plan cursor held wrote status why revision found_plan found_notes
     while (($# > 0)); do
         case $1 in
