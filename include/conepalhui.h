@@ -376,7 +376,7 @@ conepalhui_first_meeting conepalhui_meeting(const uint8_t *plan, size_t plan_len
  *
  * The first three hold where needs <= has: left is has - needs, lacks is needs - has. An overlap holds where each of
  * the two ends before the other begins, hold <= after and other <= divisor - after: left is how much longer either of
- * them could hold the link, lacks by how much at the least each would have to hold it shorter.
+ * them could hold the link, lacks the least by which it would hold if both held the link so much shorter.
  *
  * Nothing is asked (asked is 0) by the hop of the first leg of a stream, by the deadline of a leg that is not the last,
  * and by the overlap of legs on different links. Such a place holds.
@@ -392,7 +392,8 @@ conepalhui_place_margin conepalhui_margin(const uint8_t *plan, size_t plan_len, 
  * them, whether the place holds with it or not.
  *
  * THEY SPEAK OF ONE PLACE ALONE, AND OF THE WINDOW OF THE LEG. With such an offset another place may be violated, of
- * this leg or of another one: after the move check the plan, or recheck the leg.
+ * this leg or of another one, and others may be violated already: after the move check the plan. A recheck of the leg
+ * tells what the move broke, and no more.
  *
  * Result: 0. Whether there is one below is has_below, and whether there is one above has_above: 0 is an offset too.
  */
