@@ -17,6 +17,7 @@ hint() { # VERDICT [PLAN]
 find_names() { # [PLAN]
     path=/dev/null
     (($# == 0)) || { path=$(real_path "$1") && path=${path%$'\n.'}; } || stop "cannot find the plan $1"
+    [[ ! -e $path.names || -f $path.names ]] || { note "$path.names is no file: numbers are used in place of names" && path=/dev/null; }
 }
 
 do_explain() {
@@ -48,7 +49,11 @@ do_slack() {
 do_check() {
     local word all='' files=() hinted
     for word; do
-        if [[ $word == --all ]]; then all=--all; else files+=("$word"); fi
+        case $word in
+        --all) all=--all ;;
+        --*) stop "check has no option $word: $(usage check)" ;;
+        *) files+=("$word") ;;
+        esac
     done
     take_plan check "${files[@]}"
     hinted=${files-}
@@ -88,11 +93,12 @@ read_notes() { # NOTES
     local text last edition revision
     text=$(<"$cursor") || stop "cannot read the notes $1"
     last=${text##*$'\n'}
-    [[ $last == "sum $(printf '%s\n' "${text%$'\n'*}" | sum_of)" ]] || stop "the notes $1 were altered, or are not whole: remove them, and begin anew"
+    [[ $last == "sum $(printf '%s\n' "${text%$'\n'*}" | sum_of)" ]] || stop "the notes $1 do not fit their sum: they were altered, or are not whole. Remove them, and begin anew"
     text=${text%$'\n'*}
     { read -r _ && read -r _ edition _ revision && read -r _ of_plan && read -r _ leg place _ count; } <<<"$text"
     [[ $edition == "$(defined CONEPALHUI_EDITION)" ]] || of_plan="a plan, judged by edition $edition of the rules"
     noted=''
+    [[ $leg.$place.$count =~ ^[0-9]{1,10}\.[0-9]{1,10}\.[0-9]{1,10}$ ]] || stop "the notes $1 are not whole: remove them, and begin anew"
     ((count == 0)) || noted=${text#*$'\n'*$'\n'*$'\n'*$'\n'}$'\n'
 }
 
@@ -101,15 +107,20 @@ write_notes() {
     local text new=$cursor.conepalhui-new
     printf -v text '%s\n' "$notes_mark" "edition $(defined CONEPALHUI_EDITION) revision $revision" "plan $of_plan" "stands $leg $place violated $count"
     text+=$noted
-    rm -f -- "$new" && printf '%ssum %s\n' "$text" "$(printf %s "$text" | sum_of)" >"$new" && sync "$new" && mv -fT -- "$new" "$cursor" && sync "${cursor%/*}/" ||
+    written="sum $(printf %s "$text" | sum_of)"
+    rm -f -- "$new" && printf '%s%s\n' "$text" "$written" >"$new" && sync "$new" && mv -fT -- "$new" "$cursor" && sync "${cursor%/*}/" ||
         stop "cannot write the notes $cursor"
 }
 
 # Looks at the next places of the plan as it is now. Where it is another plan than the notes are of, the survey begins anew. The plan is read once, into a file that has no name any more, so that
 # what is looked at is what was summed up.
 survey_on() { # NOTES BUDGET
-    local name copy sum
+    local name copy sum text
+    status='' why=''
     name=$(mktemp) && exec {copy}<>"$name" && rm -f -- "$name" && cat -- "$plan" >&"$copy" && sum=$(sum_of <"/dev/fd/$copy") || stop "cannot read the plan $plan"
+    if [[ -n $written ]]; then
+        text=$(<"$cursor") && [[ ${text##*$'\n'} == "$written" ]] || stop "the notes $1 were removed or written by another call meanwhile: this survey ends"
+    fi
     if [[ -z $of_plan && -e $cursor ]]; then
         read_notes "$1"
         [[ $of_plan == "$sum" || -n $anew ]] ||
@@ -125,7 +136,7 @@ survey_on() { # NOTES BUDGET
 }
 
 do_survey() {
-    local budget='' rate='' anew='' files=() began first_passed='' first_time said_time progress='' of_plan='' leg=0 place=0 count=0 noted='' passed all more
+    local budget='' rate='' anew='' files=() began first_passed='' first_time said_time progress='' of_plan='' leg=0 place=0 count=0 noted='' passed all more written=''
     local plan cursor held wrote status why revision found_plan found_notes
     while (($# > 0)); do
         case $1 in
@@ -169,7 +180,7 @@ do_survey() {
     end_progress
     printf '%s' "$noted" || stop "cannot write to standard output"
     if ((count == 0)); then
-        printf 'accepted\nrevision %s\n' "$revision" || stop "cannot write to standard output"
+        printf 'nothing violated, places %s of %s\nrevision %s\n' "$all" "$all" "$revision" || stop "cannot write to standard output"
         return 0
     fi
     printf 'violated %d of %d places\nrevision %s\n' "$count" "$all" "$revision" || stop "cannot write to standard output"
@@ -181,10 +192,9 @@ do_survey() {
 
 # Prints the text of a plan, with the names that stand beside it.
 do_decode() {
-    local path=''
-    take_plan decode "$@"
-    (($# == 0)) || { path=$(real_path "$1") && path=${path%$'\n.'}; } || stop "cannot find the plan $1"
-    answer scribe decode "$path"
+    local path
+    find_names "$@"
+    take_plan decode "$@" && answer scribe decode "$path"
 }
 
 # Makes the text that encode is given its standard input. What is made is as private as the text, where that is a file.
@@ -216,6 +226,13 @@ find_plan_to_replace() { # PLAN
     [[ ! -L $cursor.names && (-f $cursor.names || ! -e $cursor.names) ]] || stop "$cursor.names is no file, and the names of the plan are kept there: remove it, or give the plan another name"
 }
 
+# Whether what a program wrote, on standard input, ends with the status 0.
+ends_well() {
+    local line last=''
+    while IFS= read -r line; do last=$line; done
+    [[ $last == 'status 0' ]]
+}
+
 # Asks the program scribe for the plan of the text on standard input.
 consult_scribe() { # PLAN [--replace]
     wrote=$(run_program scribe encode "$cursor" "${@:2}" && printf .) && take_status && return
@@ -224,7 +241,7 @@ consult_scribe() { # PLAN [--replace]
 
 # Writes a plan file from its text, and the names beside it.
 do_encode() {
-    local word plan cursor found held wrote status why find=find_new_plan replace=() files=()
+    local word plan cursor found held wrote status why had_names='' find=find_new_plan replace=() files=()
     for word; do
         case $word in
         --replace) find=find_plan_to_replace replace=(--replace) ;;
@@ -236,13 +253,20 @@ do_encode() {
     prepare scribe
     take_text "${files[0]}"
     "$find" "${files[1]}"
+    [[ ! /dev/fd/0 -ef $cursor && ! /dev/fd/0 -ef $cursor.names ]] ||
+        stop "the text ${files[0]} would be replaced by what is made of it: give the plan another name, or the text"
     found=$cursor plan=$cursor
     hold
     "$find" "${files[1]}"
     [[ $cursor == "$found" ]] || stop "the name ${files[1]} led to $found and leads to $cursor now: nothing was written. Give the name that is meant"
+    [[ ! -e $cursor ]] || run_program scribe decode /dev/null <"$cursor" 2>/dev/null | ends_well ||
+        stop "${files[1]} is there, and is no plan file: it is not replaced"
+    [[ ! -e $cursor.names ]] || had_names=1
     consult_scribe "${files[1]}" "${replace[@]}"
     release
-    printf '%s' "$wrote" || stop "cannot write to standard output"
+    [[ -z $had_names || -e $cursor.names ]] || note "$cursor.names was removed: the new text has no names"
+    printf '%s' "$wrote" || stop "cannot write to standard output$( ((status != 0)) || printf %s ", but ${files[1]} is written")"
+    [[ $wrote != 'encoded links 0 streams 0 legs 0 '* ]] || note "${files[1]} IS EMPTY: the text has no link, stream or leg, and an empty plan is accepted"
     ((status != 0)) || note "${files[1]} is written as the text has it, and is not judged. To check it: $(shown_call check "${files[1]}")"
     return $status
 }

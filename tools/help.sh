@@ -4,7 +4,7 @@
 # and a function about_NAME, which prints what 'help NAME' says of it.
 commands=(
     'check|[PLAN] [--all]|check a plan whole: accepted, or the first violated place, or all'
-    'explain|PLAN [CURSOR | LEG PLACE]|say why a place is violated, by how much, and what would mend it'
+    'explain|PLAN [CURSOR, or LEG PLACE]|say why a place is violated, by how much, and what would mend it'
     'slack|[PLAN]|say where an accepted plan is thin: how many ns are left'
     'start|PLAN CURSOR [--anew]|start a check in slices: CURSOR keeps how far it is'
     'slice|PLAN CURSOR BUDGET|look at the next BUDGET places'
@@ -101,7 +101,8 @@ Reads the plan file PLAN, or standard input, and checks it whole. It prints two 
 'accepted' does not cover. A plan that cannot be checked gives one line, 'refused NUMBER AT' (AT is a record or a
 byte), and standard error says why. Exit status: 0 accepted, 1 violated, 2 refused, 4 where the plan cannot be read.
 
-With --all it prints a line for every violated place, in order, and then how many there are, 'violated M of N places'.
+With --all it prints a line for every violated place, in order, and then how many there are, 'violated M of N places', or
+'accepted'.
 After a violated verdict standard error has the call of 'explain' that says why.
 END
 }
@@ -115,10 +116,10 @@ follow. Where another offset of that one leg would mend that one place, it gives
 which the leg also keeps its window; its period word stays as it is. Other places may be violated then: check again.
 
 docs/EXPLAINED.md goes through an example, and says which of these numbers are proved. Nodes and streams have the names of
-PLAN.names, where there is one ('help encode').
+PLAN.names, where there is one ('help encode'). It speaks of the plan as it is now, also where CURSOR last saw another one.
 
 Exit status: 0 the place holds, or nothing is violated; 1 it is violated; 2 the plan, the cursor or the place is refused
-(10 and 9: no such leg or place); 4 bad arguments, or a file that cannot be read.
+(9: no such leg or place); 4 bad arguments, or a file that cannot be read.
 END
 }
 
@@ -248,14 +249,16 @@ END
 about_survey() {
     cat <<'END'
 Looks at all places in slices of N, as 'run' does, but notes each violated place and goes on behind it, so that by the
-morning all of them are known. It prints them as 'check --all' does, and the revision. R is places per second: slices
+morning all of them are known. It prints a line for each, and then 'violated M of N places' or 'nothing violated, places N
+of N', and the revision. R is places per second: slices
 begin at least N / R seconds apart. It can be stopped at any time, and goes on from there.
 
 NOTES is a text that this command makes: of which plan it is, the places noted so far, and where the survey stands. THAT IS
 NO CURSOR: before it there may be violated places, and no command takes these notes for a cursor. Nor does a survey change
 any cursor. Where the plan is changed while it runs, by a move or otherwise, the survey begins anew, since what it had
 passed was of another plan. Notes of another plan, or of this one before a change, are only dropped with --anew; a file
-that is no notes is never replaced, and notes that somebody altered are not believed.
+that is no notes is never replaced, and notes that do not fit their own sum are not believed. Do not write them yourself: a
+sum that fits is believed.
 
 Exit status: 0 no place is violated, 1 some are, 2 the plan is refused, 4 bad arguments, or a file that cannot be read or
 written.

@@ -301,6 +301,26 @@ fn told(
     ended(t, leg, place, spare);
 }
 
+// Says why a place cannot be explained: the plan is refused, or it has no such place.
+fn no_place(t: &[u32], number: u32, at: usize, leg: u32, place: u32) {
+    if number < checker::cursors::STALE_CURSOR {
+        records::why(t, number, at);
+        return;
+    }
+    let legs = records::header_word(t, table::LEGS_AT);
+    if legs <= leg {
+        reasons::line(
+            b"there is no leg #: the plan has # legs, counted from 0",
+            &[leg, legs],
+        );
+        return;
+    }
+    reasons::line(
+        b"leg # has no place #: its places are 0, 1, 2, and 3 + b for each leg b below it",
+        &[leg, place],
+    );
+}
+
 // Explains a place of a plan.
 pub(crate) fn place(t: &[u32], names_text: &[u8], draft: &[u32], leg: u32, place: u32) {
     let answer = margins::margin_at(t, leg, place);
@@ -309,7 +329,7 @@ pub(crate) fn place(t: &[u32], names_text: &[u8], draft: &[u32], leg: u32, place
             told(t, names_text, draft, leg, place, m, spare);
         }
         MarginAnswer::Refused(number, at) => {
-            records::why(t, number, at);
+            no_place(t, number, at, leg, place);
             answers::plan_refused(number, at);
         }
     }

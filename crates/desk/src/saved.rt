@@ -19,6 +19,21 @@ fn standing(t: &[u32], names_text: &[u8], draft: &[u32], at: Cursor) {
     explain::place(t, names_text, draft, at.leg, at.place);
 }
 
+// Says why a cursor does not stand at a place of the plan.
+fn not_standing(at: Cursor, number: u32, revision: u32) {
+    if number == checker::cursors::STALE_CURSOR {
+        reasons::line(
+            b"the cursor is of revision #, and the plan of revision #",
+            &[at.revision, revision],
+        );
+        return;
+    }
+    reasons::line(
+        b"the cursor is at leg #, place #, which the plan does not have",
+        &[at.leg, at.place],
+    );
+}
+
 // A cursor that was read: 8 and 9 are the cursor's, what comes before them the plan's.
 fn judged(t: &[u32], names_text: &[u8], draft: &[u32], at: Cursor) {
     let told = checker::cursors::judged_cursor(t, at);
@@ -30,6 +45,7 @@ fn judged(t: &[u32], names_text: &[u8], draft: &[u32], at: Cursor) {
                 return;
             }
             let revision = records::header_word(t, table::REVISION_AT);
+            not_standing(at, number, revision);
             answers::judged(number, position, revision, Part::Cursor);
         }
         Checked::Clear => {
@@ -45,6 +61,10 @@ fn read(t: &[u32], names_text: &[u8], draft: &[u32], bytes: &[u8]) {
             judged(t, names_text, draft, at);
         }
         CursorRead::Refused(number, position) => {
+            reasons::line(
+                b"the file that is given as the cursor is no saved cursor",
+                &[],
+            );
             answers::unread(number, position, Part::Cursor);
         }
     }
