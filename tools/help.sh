@@ -115,7 +115,7 @@ overlap it gives the first instant at which both frames hold the link, and their
 follow. Where another offset of that one leg would mend that one place, it gives the nearest ones below and above with
 which the leg also keeps its window; its period word stays as it is. Other places may be violated then: check again.
 
-docs/EXPLAINED.md goes through an example, and says which of these numbers are proved. Nodes and streams have the names of
+docs/EXPLAINED.md goes through an example. Nodes and streams have the names of
 PLAN.names, where there is one ('help encode'). It speaks of the plan as it is now, also where CURSOR last saw another one.
 
 Exit status: 0 the place holds, or nothing is violated; 1 it is violated; 2 the plan, the cursor or the place is refused
