@@ -1,4 +1,6 @@
 // A slot for a new stream: the least first offset at which the table with one stream more is accepted. No old leg moves.
+#![tactic(auto)]
+
 ghost use Rattle.std.specs.Prelude.{◌<◌, length};
 ghost use Rattle.offsets.specs.Search.{LeastFrom};
 ghost use Rattle.admission.specs.Admits.{Admits, AdmitsBetween, Fits, MayAdmit};
@@ -16,7 +18,7 @@ pub const NO_OFFSET: u32 = 18;
 
 // What an admission gives: the first offset and how many words the enlarged table has; that none fits yet, where only a piece was looked through; or a refusal's
 // number and position.
-#[derive(Drop)]
+#[derive(Clone, Copy)]
 pub enum Admission {
     Admitted(u32, usize),
     NoneYet,

@@ -1,5 +1,7 @@
 // Makes the calls that a list on standard input names, a call to a line, and prints each answer whole: every byte and word of each lent buffer, which was
 // marked before the call, and the table after each move. Lines that begin with # are printed as they stand.
+#![tactic(auto)]
+
 use files::Cursor;
 use table::Move;
 
@@ -24,7 +26,7 @@ const MAX_PLAN: usize = 256;
 const MAX_SAVED: usize = 64;
 
 // What the lines so far have set: how many words the table has, how many bytes the plan and the saved cursor have, and the cursor.
-#[derive(Drop)]
+#[derive(Clone, Copy)]
 pub(crate) struct Set {
     words: usize,
     plan: usize,

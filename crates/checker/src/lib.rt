@@ -1,4 +1,6 @@
 // The check: start, slice and move.
+#![tactic(auto)]
+
 ghost use Rattle.checker.specs.Slices.{Starts, Slices};
 ghost use Rattle.checker.specs.Moves.{Moves};
 
@@ -12,7 +14,7 @@ pub mod cursors;
 pub mod look;
 
 // What a start or a move gives: a cursor, or a refusal's number and position and the cursor as it was given (a start, which is given none: 0, 0, 0).
-#[derive(Drop)]
+#[derive(Clone, Copy)]
 pub enum Grant {
     Granted(Cursor),
     Refused(u32, usize, Cursor),
@@ -20,7 +22,7 @@ pub enum Grant {
 
 // What a slice gives: violated, with the cursor of that place, the steps and the rule; nothing violated from here on, with the end cursor and the
 // steps; paused, with the cursor of the first place not looked at and the steps; or a refusal's number and position, and the cursor as it was given.
-#[derive(Drop)]
+#[derive(Clone, Copy)]
 pub enum SliceAnswer {
     Violated(Cursor, u32, Rule),
     NothingViolated(Cursor, u32),

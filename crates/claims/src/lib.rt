@@ -1,4 +1,6 @@
 // The small tests of temporal networks: of times and of a chain, whoever made them.
+#![tactic(auto)]
+
 ghost use Rattle.std.specs.Prelude.{◌<◌, length};
 ghost use Rattle.basics.specs.Tells.{Tells};
 ghost use Rattle.basics.specs.Lowest.{Finds};
@@ -10,7 +12,7 @@ use basics::{Checked, Found, Holds};
 use network::Constraint;
 
 // All constraints are kept; the lowest one that is not; or a refusal's number and position.
-#[derive(Drop)]
+#[derive(Clone, Copy)]
 pub enum TimesTest {
     Kept,
     Broken(usize),
@@ -18,7 +20,7 @@ pub enum TimesTest {
 }
 
 // A closed chain with a negative sum; no such chain; or a refusal's number and position.
-#[derive(Drop)]
+#[derive(Clone, Copy)]
 pub enum ChainTest {
     Chain,
     NoChain,
@@ -26,7 +28,7 @@ pub enum ChainTest {
 }
 
 // Internal: the constraint that a number names, if there is one.
-#[derive(Drop)]
+#[derive(Clone, Copy)]
 pub enum Named {
     At(Constraint),
     Nowhere,

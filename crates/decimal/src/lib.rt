@@ -1,4 +1,6 @@
 // Numbers as a person types them: decimal digits.
+#![tactic(auto)]
+
 ghost use Rattle.std.specs.Prelude.{◌≡◌};
 ghost use Rattle.decimal.specs.Decimal.{Typed, ReadsDecimal, OtherTold};
 
@@ -12,7 +14,7 @@ pub const BASE: u64 = 10;
 pub const MAX_WORD: u64 = 4294967295;
 
 // A number read from its digits: its value; no byte at all; the position of the first byte that is no digit; or more than a word holds.
-#[derive(Drop)]
+#[derive(Clone, Copy)]
 pub enum Decimal {
     Value(u32),
     Empty,
@@ -21,7 +23,7 @@ pub enum Decimal {
 }
 
 // The first byte that is no digit, if there is one.
-#[derive(Drop)]
+#[derive(Clone, Copy)]
 pub enum Other {
     At(usize),
     Nothing,

@@ -19,7 +19,7 @@ pub(crate) const GIVEN_LEG_AT: usize = 3;
 pub(crate) const GIVEN_PLACE_AT: usize = 4;
 
 // An argument that has to be a number.
-#[derive(Drop)]
+#[derive(Clone, Copy)]
 pub(crate) enum Word {
     Given(u32),
     Wrong,

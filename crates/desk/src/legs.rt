@@ -8,7 +8,7 @@ use rules::Frame;
 use show::{number, text};
 
 // A leg with what its stream and its link say of it, or that there is none.
-#[derive(Drop)]
+#[derive(Clone, Copy)]
 pub(crate) enum Framed {
     Of(Frame),
     None,

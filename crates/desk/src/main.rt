@@ -1,6 +1,8 @@
 // A planner's desk, on the plan on standard input: all, every violated place; part LEG PLACE BUDGET, those among the next places of a survey that stands there; first PLAN, given PLAN LEG
 // PLACE and cursor PLAN CURSOR, why a place holds or not; slack PLAN, where an accepted plan is thin. PLAN is the plan's path, beside which its names stand. It writes one answer, and a last line
 // with the exit status, which ./conepalhui takes off; where something cannot be read or an argument is wrong it writes no such line, and says so on standard error.
+#![tactic(auto)]
+
 use args::Word;
 use input::Given;
 use show::answers;
@@ -13,7 +15,7 @@ mod slack;
 mod tour;
 
 // What is asked for.
-#[derive(Drop)]
+#[derive(Clone, Copy)]
 enum Order {
     All,
     Part,

@@ -17,7 +17,7 @@ const TOLD: usize = 10;
 const NONE: u64 = 18446744073709551615;
 
 // A leg and what it has left.
-#[derive(Drop)]
+#[derive(Clone, Copy)]
 struct Row {
     left: u64,
     leg: u32,

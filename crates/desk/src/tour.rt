@@ -15,7 +15,7 @@ use survey::Found;
 const ENOUGH: u32 = 4294967295;
 
 // How a survey ended: with so many violated places, and nothing violated after them up to the end; or paused, with where it stands.
-#[derive(Drop)]
+#[derive(Clone, Copy)]
 enum Ended {
     Over(u32, Cursor),
     Stands(u32, Cursor),

@@ -19,7 +19,7 @@ const MOST_LINES: u64 = 12;
 const MOST_POWERS: u64 = 11;
 
 // Internal: the stretch of time that is drawn.
-#[derive(Drop)]
+#[derive(Clone, Copy)]
 pub(crate) struct Axis {
     pub(crate) from: u64,
     pub(crate) to: u64,

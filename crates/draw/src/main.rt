@@ -1,5 +1,7 @@
 // Pictures of the plan on standard input: link L FROM TO PLAN and stream S '' '' PLAN. FROM and TO say which stretch of time is drawn, in ns; where TO is empty, that is the link's cycle from FROM on, or
 // the beginning of it. Names are read beside PLAN, the path of the plan, which may be empty. It writes the picture as SVG, and a last line with the exit status, which ./conepalhui takes off; where something cannot be read it writes no such line, and says so on standard error.
+#![tactic(auto)]
+
 ghost use Rattle.shape.specs.Guarantees.{Guarantees};
 
 use basics::Checked;
@@ -32,7 +34,7 @@ const TO_AT: usize = 4;
 const PATH_AT: usize = 5;
 
 // What is asked for.
-#[derive(Drop)]
+#[derive(Clone, Copy)]
 enum Order {
     Link(u32, u32, u32),
     Stream(u32),
@@ -40,7 +42,7 @@ enum Order {
 }
 
 // An argument that has to be a number: 0 where it is empty.
-#[derive(Drop)]
+#[derive(Clone, Copy)]
 enum Word {
     Given(u32),
     Wrong,

@@ -5,7 +5,7 @@ use crate::axis::Axis;
 use crate::svg::plus;
 
 // Internal: what is drawn: a link, the stretch, its cycle, how many legs it has, and where their rows begin and how tall each is.
-#[derive(Drop)]
+#[derive(Clone, Copy)]
 pub(crate) struct Page {
     pub(crate) link: u32,
     pub(crate) axis: Axis,

@@ -32,7 +32,7 @@ const ROW_NODE_ROOM: u64 = 14;
 const THINNEST: u64 = 200;
 
 // Internal: what is drawn: the stretch of time, the legs from the first to before the end, and when the deadline is.
-#[derive(Drop)]
+#[derive(Clone, Copy)]
 struct Route {
     axis: Axis,
     first: usize,

@@ -1,11 +1,13 @@
 // Files that are read whole, and replaced whole so that they last: the bytes are written beside the file and brought to the disk, then they take its
 // name, then the folder is brought to the disk. Whatever cuts this off, the file has its old bytes or its new ones. No contract can say what a call of
 // the operating system does, so these promise only to be safe and to end. Each says on standard error what it could not do.
+#![tactic(auto)]
+
 ghost use Rattle.std.specs.Prelude.{◌≤◌, length};
 ghost use Rattle.io.specs.Counts.{IsPrefixLen};
 
 // What reading a file gives: how many bytes, that there is no such file, or that it cannot be read.
-#[derive(Drop)]
+#[derive(Clone, Copy)]
 pub enum FileRead {
     Bytes(usize),
     Missing,

@@ -1,4 +1,6 @@
 // Plan files of older layouts, read into tables of today. Files carry no mark: whoever reads names the layout.
+#![tactic(auto)]
+
 ghost use Rattle.std.specs.Prelude.{◌+◌, ◌*◌, ◌≤◌, ◌≡◌, length, replicate};
 ghost use Rattle.numbers.specs.Series.{overlaid};
 ghost use Rattle.numbers.specs.Steps.{AllNumbers};

@@ -1,4 +1,6 @@
 // The table with one stream more.
+#![tactic(auto)]
+
 ghost use Rattle.std.specs.Prelude.{◌≡◌, [], ◌∷◌, ◌+◌, ◌≤◌, length};
 ghost use Rattle.numbers.specs.Series.{overlaid};
 ghost use Rattle.table.specs.Layout.{stream_words, leg_words};
@@ -6,7 +8,7 @@ ghost use Rattle.enlarge.specs.Enlarged.{new_head, grown, legs_at_zero, legs_fro
 ghost use Rattle.enlarge.specs.Steps.{LaidTo, Addable, Sendable, Sent, Sends, LegsRoom};
 
 // What is wanted of a new stream: its period and its deadline in ns, and the octets of its frames.
-#[derive(Drop)]
+#[derive(Clone, Copy)]
 pub struct Wanted {
     pub period: u32,
     pub deadline: u32,

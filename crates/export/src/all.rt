@@ -11,7 +11,7 @@ use gate_lists::Listed;
 const QUIET: i64 = 2;
 
 // How far it is: how many lists are written, how many of them are empty, how many tc would cut off, and how many links have none; when something was said last; and whether a list could not be written.
-#[derive(Drop)]
+#[derive(Clone, Copy)]
 pub(crate) struct Tally {
     pub(crate) lists: u32,
     pub(crate) empty: u32,

@@ -2,6 +2,8 @@
 // empty, lists are written as list files, and printed a pair to a line; where it is a base time, they are written and printed as tc takes them, for a DEVICE or for any. It writes one answer, and a last
 // line with the exit status, which ./conepalhui takes off; where something cannot be read or written it writes no such line, and says so on standard error. A FILE is written beside its name, and a FOLDER
 // is there and empty: it is ./conepalhui that gives each its name.
+#![tactic(auto)]
+
 use decimal::Decimal;
 use input::Given;
 use show::answers;
@@ -28,7 +30,7 @@ const FILE_AT: usize = 5;
 const FOLDER_AT: usize = 3;
 
 // What is asked for.
-#[derive(Drop)]
+#[derive(Clone, Copy)]
 enum Order {
     Print(u32),
     Write(u32),

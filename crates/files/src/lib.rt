@@ -1,4 +1,6 @@
 // Plan files and saved cursors, as bytes: the calls that read and write them. The layers above see what these promise and nothing else.
+#![tactic(auto)]
+
 ghost use Rattle.files.specs.Plan.{ReadsPlan, WritesPlan};
 ghost use Rattle.files.specs.Cursors.{ReadsCursor, WritesCursor};
 
@@ -19,14 +21,14 @@ pub const MAX_FILE_BYTES: usize = 5 * table::MAX_TABLE_WORDS;
 pub const MAX_CURSOR_BYTES: usize = 5 * CURSOR_NUMBERS;
 
 // A plan file read: how many words its table has, or a refusal's number and position.
-#[derive(Drop)]
+#[derive(Clone, Copy)]
 pub enum PlanRead {
     Words(usize),
     Refused(u32, usize),
 }
 
 // Where a check stands: the table's revision, and the place of a leg.
-#[derive(Drop)]
+#[derive(Clone, Copy)]
 pub struct Cursor {
     pub revision: u32,
     pub leg: u32,
@@ -34,14 +36,14 @@ pub struct Cursor {
 }
 
 // A saved cursor read: the cursor, or a refusal's number and position.
-#[derive(Drop)]
+#[derive(Clone, Copy)]
 pub enum CursorRead {
     Saved(Cursor),
     Refused(u32, usize),
 }
 
 // A cursor written: how many bytes, or a refusal's number and position, and the cursor as it was given.
-#[derive(Drop)]
+#[derive(Clone, Copy)]
 pub enum CursorWritten {
     Bytes(usize),
     Refused(u32, usize, Cursor),

@@ -1,4 +1,6 @@
 // Gate list files, as bytes: the calls that read and write them.
+#![tactic(auto)]
+
 ghost use Rattle.basics.specs.Tells.{Tells};
 ghost use Rattle.gate_files.specs.ListFiles.{ReadsList, WritesList};
 ghost use Rattle.gate_files.specs.Steps.{CountTold, Even};
@@ -7,14 +9,14 @@ use basics::Holds;
 use numbers::{Number, Written};
 
 // A list file read: how many words its list has, or a refusal's number and position.
-#[derive(Drop)]
+#[derive(Clone, Copy)]
 pub enum ListRead {
     Words(usize),
     Refused(u32, usize),
 }
 
 // Bytes counted as numbers: how many, or the first refusal's number and position.
-#[derive(Drop)]
+#[derive(Clone, Copy)]
 pub enum Counted {
     Numbers(usize),
     Stop(u32, usize),

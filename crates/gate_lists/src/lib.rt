@@ -1,4 +1,6 @@
 // Gate lists out: the gate control list of one link of an accepted table.
+#![tactic(auto)]
+
 ghost use Rattle.std.specs.Prelude.{◌≡◌, ◌+◌, ◌*◌, ◌≤◌, ◌<◌, length};
 ghost use Rattle.basics.specs.Refusals.{Told};
 ghost use Rattle.shape.specs.Shape.{WellFormedTable};
@@ -25,7 +27,7 @@ pub const NO_LINK: u32 = 23;
 const ANY_WORD: u32 = 1;
 
 // A gate list in words: how many pairs it has, or a refusal's number.
-#[derive(Drop)]
+#[derive(Clone, Copy)]
 pub enum Listed {
     Pairs(usize),
     Refused(u32),

@@ -5,7 +5,7 @@ ghost use Rattle.gates.specs.Pairs.{max_cycle};
 ghost use Rattle.gates.specs.Steps.{CycleTold, InWords, IsLcm, Slots};
 
 // The cycle of a link, or that it passes the limit.
-#[derive(Drop)]
+#[derive(Clone, Copy)]
 pub enum Multiple {
     Of(u64),
     Past,

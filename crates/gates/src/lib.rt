@@ -1,4 +1,5 @@
 // Gate lists of a link's slots: which mask its gates have at which instant, in pairs of a mask and a duration.
+#![tactic(auto)]
 
 pub mod cycle;
 pub mod pairs;

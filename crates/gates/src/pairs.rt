@@ -5,14 +5,14 @@ ghost use Rattle.gates.specs.Pairs.{max_cycle, max_pairs};
 ghost use Rattle.gates.specs.Steps.{Grows, InWords, PairsTold, Room, Slots};
 
 // A list's pairs: how many, or more than a list may have.
-#[derive(Drop)]
+#[derive(Clone, Copy)]
 pub enum Pairs {
     Count(usize),
     TooMany,
 }
 
 // How many pairs there are when a stretch was added, or that there is no room for one more.
-#[derive(Drop)]
+#[derive(Clone, Copy)]
 pub enum Grown {
     To(usize),
     Full,

@@ -6,21 +6,21 @@ ghost use Rattle.gates.specs.Steps.{HeldBy, InWords, Kept, Least, Looked, RunTol
 use overlap::Slot;
 
 // What is seen from an instant on: held at each instant up to but without the number, or at none.
-#[derive(Drop)]
+#[derive(Clone, Copy)]
 pub enum Sees {
     Held(u64),
     Idle(u64),
 }
 
 // A mask and the instant up to which it is right.
-#[derive(Drop)]
+#[derive(Clone, Copy)]
 pub struct Run {
     pub mask: u32,
     pub until: u64,
 }
 
 // How far some slots took it: up to where the link is held, and up to where none of them holds it if it is not held at all.
-#[derive(Drop)]
+#[derive(Clone, Copy)]
 pub struct Look {
     pub end: u64,
     pub until: u64,

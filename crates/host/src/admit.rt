@@ -13,7 +13,7 @@ use files::PlanRead;
 // What C gets of an admission, laid out as the struct in include/conepalhui.h: a result (0 is admitted, 1 is none yet), a number beside it, and an offset. Admitted, these are
 // the size of the new plan file and the first offset of the new stream; where none fits yet, 0 and where to look on; refused, the position and 0.
 #[repr(C)]
-#[derive(Drop)]
+#[derive(Clone, Copy)]
 pub struct AdmissionAnswer {
     pub result: u32,
     pub beside: u32,
@@ -109,8 +109,7 @@ fn admit_plan(
 
 // Admits one stream to an accepted plan, at its least first offset, and writes the plan file of the enlarged table. Its name ends in the edition of the rules; in the header it
 // is conepalhui_admit.
-#[unsafe(no_mangle)]
-pub extern "C" fn conepalhui_admit_3(
+pub fn conepalhui_admit_3(
     plan: &[u8],
     route: &[u32],
     period: u32,
@@ -131,8 +130,7 @@ pub extern "C" fn conepalhui_admit_3(
 }
 
 // A piece of an admission: only the first offsets from `from` up to but without `until` are looked at.
-#[unsafe(no_mangle)]
-pub extern "C" fn conepalhui_admit_between_3(
+pub fn conepalhui_admit_between_3(
     plan: &[u8],
     route: &[u32],
     period: u32,

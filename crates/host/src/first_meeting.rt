@@ -10,7 +10,7 @@ use meeting::MeetingAnswer;
 // What C gets of a meeting, laid out as the struct in include/conepalhui.h: a result (1 where the two legs meet, 0 where they never do), refused the position, the last repeat of each leg
 // that has begun when they first meet, counted from 0, and the instant in nanoseconds. What is not told is 0.
 #[repr(C)]
-#[derive(Drop)]
+#[derive(Clone, Copy)]
 pub struct MeetingNumbers {
     pub result: u32,
     pub position: u32,
@@ -66,8 +66,7 @@ fn meet_in_plan(plan: &[u8], leg: u32, other: u32, words: &mut [u32]) -> Meeting
 }
 
 // Tells where two legs of a plan file first meet. Its name ends in the edition of the rules; in the header it is conepalhui_meeting.
-#[unsafe(no_mangle)]
-pub extern "C" fn conepalhui_meeting_3(plan: &[u8], leg: u32, other: u32) -> MeetingNumbers
+pub fn conepalhui_meeting_3(plan: &[u8], leg: u32, other: u32) -> MeetingNumbers
     ensures { HostMeets plan.now leg other result }
 {
     let mut words = [ANY_WORD; table::MAX_TABLE_WORDS];

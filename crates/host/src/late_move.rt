@@ -11,7 +11,7 @@ use recheck::RecheckAnswer;
 // What C gets of a recheck, laid out as the struct in include/conepalhui.h: a result (0 is nothing violated at the places that were looked at), a number beside it, and the violated
 // place. The number is how many places were looked at; refused, the position. Where no place is violated, leg and place are 0.
 #[repr(C)]
-#[derive(Drop)]
+#[derive(Clone, Copy)]
 pub struct RecheckedAnswer {
     pub result: u32,
     pub beside: u32,
@@ -67,8 +67,7 @@ fn recheck_plan(plan: &[u8], leg: u32, words: &mut [u32]) -> RecheckedAnswer
 }
 
 // Looks in order at the places of a plan file at which one leg, which was moved, can be read. Its name ends in the edition of the rules; in the header it is conepalhui_recheck.
-#[unsafe(no_mangle)]
-pub extern "C" fn conepalhui_recheck_3(plan: &[u8], leg: u32) -> RecheckedAnswer
+pub fn conepalhui_recheck_3(plan: &[u8], leg: u32) -> RecheckedAnswer
     ensures { HostRechecks plan.now leg result }
 {
     let mut words = [ANY_WORD; table::MAX_TABLE_WORDS];

@@ -1,5 +1,7 @@
 // The calls for C, on bytes and numbers. What a call writes to overlaps nothing else that is lent to it
 // (include/conepalhui.h).
+#![tactic(auto)]
+
 ghost use Rattle.std.specs.Prelude.{◌≤◌, length};
 ghost use Rattle.table.specs.Layout.{max_table_words};
 ghost use Rattle.table.specs.Records.{move_to};
@@ -25,14 +27,14 @@ pub(crate) const ANY_WORD: u32 = 1;
 // What C gets, laid out as the struct in include/conepalhui.h: a result (0 is nothing violated after a slice, and granted after a start, a move or a conversion), and a
 // number beside it. Refused, that is the position; after a slice the steps, after a start the number of places, after a move or a conversion the size of the new plan file.
 #[repr(C)]
-#[derive(Drop)]
+#[derive(Clone, Copy)]
 pub struct Answer {
     pub result: u32,
     pub beside: u32,
 }
 
 // A plan file and a saved cursor read: how many words the table has and the cursor, or a refusal's number and position.
-#[derive(Drop)]
+#[derive(Clone, Copy)]
 pub enum Opened {
     Both(usize, Cursor),
     Refused(u32, usize),
@@ -109,8 +111,7 @@ fn convert_plan(old: &[u8], file: &mut [u8], words: &mut [u32]) -> Answer
 
 // Starts a check of a plan file, and writes its first cursor. Its name ends in the edition of the rules, so that a program which was compiled for another one is not
 // linked; in the header it is conepalhui_start.
-#[unsafe(no_mangle)]
-pub extern "C" fn conepalhui_start_3(plan: &[u8], out: &mut [u8]) -> Answer
+pub fn conepalhui_start_3(plan: &[u8], out: &mut [u8]) -> Answer
     ensures { HostStarts plan.now out.old result out.new }
 {
     let mut words = [ANY_WORD; table::MAX_TABLE_WORDS];
@@ -118,8 +119,7 @@ pub extern "C" fn conepalhui_start_3(plan: &[u8], out: &mut [u8]) -> Answer
 }
 
 // The slice over a plan file and a saved cursor: the result alone.
-#[unsafe(no_mangle)]
-pub extern "C" fn conepalhui_slice(plan: &[u8], cursor: &[u8], budget: u32, out: &mut [u8]) -> u32
+pub fn conepalhui_slice(plan: &[u8], cursor: &[u8], budget: u32, out: &mut [u8]) -> u32
     ensures { HostSliceResult plan.now cursor.now budget out.old result out.new }
 {
     let mut words = [ANY_WORD; table::MAX_TABLE_WORDS];
@@ -128,13 +128,7 @@ pub extern "C" fn conepalhui_slice(plan: &[u8], cursor: &[u8], budget: u32, out:
 }
 
 // The same slice, with the steps or the position beside the result.
-#[unsafe(no_mangle)]
-pub extern "C" fn conepalhui_slice_full(
-    plan: &[u8],
-    cursor: &[u8],
-    budget: u32,
-    out: &mut [u8],
-) -> Answer
+pub fn conepalhui_slice_full(plan: &[u8], cursor: &[u8], budget: u32, out: &mut [u8]) -> Answer
     ensures { HostSlices plan.now cursor.now budget out.old result out.new }
 {
     let mut words = [ANY_WORD; table::MAX_TABLE_WORDS];
@@ -142,8 +136,7 @@ pub extern "C" fn conepalhui_slice_full(
 }
 
 // Moves one leg of a plan file, and writes the new plan file and the new cursor. Its name ends in the edition too, since its form changed with it; in the header it is conepalhui_move.
-#[unsafe(no_mangle)]
-pub extern "C" fn conepalhui_move_3(
+pub fn conepalhui_move_3(
     plan: &[u8],
     cursor: &[u8],
     leg: u32,
@@ -164,8 +157,7 @@ pub extern "C" fn conepalhui_move_3(
 }
 
 // Converts a plan file of the first layout, and writes the plan file of the table that its table becomes.
-#[unsafe(no_mangle)]
-pub extern "C" fn conepalhui_convert_first(old: &[u8], file: &mut [u8]) -> Answer
+pub fn conepalhui_convert_first(old: &[u8], file: &mut [u8]) -> Answer
     ensures { HostConverts old.now file.old result file.new }
 {
     let mut words = [ANY_WORD; table::MAX_TABLE_WORDS];

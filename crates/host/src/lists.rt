@@ -61,8 +61,7 @@ fn list_plan(plan: &[u8], link: u32, list: &mut [u8], words: &mut [u32]) -> Answ
 }
 
 // Writes the gate list of a link of an accepted plan as a list file. Its name ends in the edition of the rules; in the header it is conepalhui_gates.
-#[unsafe(no_mangle)]
-pub extern "C" fn conepalhui_gates_3(plan: &[u8], link: u32, list: &mut [u8]) -> Answer
+pub fn conepalhui_gates_3(plan: &[u8], link: u32, list: &mut [u8]) -> Answer
     ensures { HostListsGates plan.now link list.old result list.new }
 {
     let mut words = [ANY_WORD; table::MAX_TABLE_WORDS];
@@ -70,8 +69,7 @@ pub extern "C" fn conepalhui_gates_3(plan: &[u8], link: u32, list: &mut [u8]) ->
 }
 
 // Reads a list file into lent words: a mask and a duration in turn.
-#[unsafe(no_mangle)]
-pub extern "C" fn conepalhui_read_gates(list: &[u8], words: &mut [u32]) -> Answer
+pub fn conepalhui_read_gates(list: &[u8], words: &mut [u32]) -> Answer
     ensures { HostReadsGates list.now words.old result words.new }
 {
     let read = gate_files::read_list(list, words);

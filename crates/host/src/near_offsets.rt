@@ -10,7 +10,7 @@ use margins::{Nearest, NearestAnswer, Offset};
 // What C gets of the nearest offsets, laid out as the struct in include/conepalhui.h: a result (0), refused the position; whether there is a lower offset (1, or 0) and which,
 // and whether there is a higher one and which. What is not told is 0.
 #[repr(C)]
-#[derive(Drop)]
+#[derive(Clone, Copy)]
 pub struct NearestNumbers {
     pub result: u32,
     pub position: u32,
@@ -85,8 +85,7 @@ fn near_in_plan(plan: &[u8], leg: u32, place: u32, words: &mut [u32]) -> Nearest
 }
 
 // Tells the nearest offsets of a leg with which a place of it holds. Its name ends in the edition of the rules; in the header it is conepalhui_nearest.
-#[unsafe(no_mangle)]
-pub extern "C" fn conepalhui_nearest_3(plan: &[u8], leg: u32, place: u32) -> NearestNumbers
+pub fn conepalhui_nearest_3(plan: &[u8], leg: u32, place: u32) -> NearestNumbers
     ensures { HostNears plan.now leg place result }
 {
     let mut words = [ANY_WORD; table::MAX_TABLE_WORDS];

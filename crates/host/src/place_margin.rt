@@ -12,7 +12,7 @@ use rules::Rule;
 // What C gets of a margin, laid out as the struct in include/conepalhui.h: a result (0 where the place holds, 2 to 5 where it does not), refused the position; the rule of the place, 2 to 5,
 // and whether it asks anything there (1, or 0); and times in nanoseconds: how much is left or lacking, and the numbers of the rule. What is not told is 0.
 #[repr(C)]
-#[derive(Drop)]
+#[derive(Clone, Copy)]
 pub struct MarginNumbers {
     pub result: u32,
     pub position: u32,
@@ -183,8 +183,7 @@ fn margin_in_plan(plan: &[u8], leg: u32, place: u32, words: &mut [u32]) -> Margi
 }
 
 // Tells the numbers of the rule at a place of a plan file. Its name ends in the edition of the rules; in the header it is conepalhui_margin.
-#[unsafe(no_mangle)]
-pub extern "C" fn conepalhui_margin_3(plan: &[u8], leg: u32, place: u32) -> MarginNumbers
+pub fn conepalhui_margin_3(plan: &[u8], leg: u32, place: u32) -> MarginNumbers
     ensures { HostMargins plan.now leg place result }
 {
     let mut words = [ANY_WORD; table::MAX_TABLE_WORDS];

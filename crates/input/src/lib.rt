@@ -1,5 +1,7 @@
 // Reading to the end. No contract can say what a call of the operating system reads, so this promises only to be safe and to end. Why a plan file is refused is
 // said on standard error.
+#![tactic(auto)]
+
 use files::PlanRead;
 use libc::STDIN_FILENO;
 
@@ -7,7 +9,7 @@ use libc::STDIN_FILENO;
 const PLAN_ROOM: usize = files::MAX_FILE_BYTES + 1;
 
 // What standard input gives: as many words of a table, a refusal's number and position, or that it cannot be read.
-#[derive(Drop)]
+#[derive(Clone, Copy)]
 pub enum Given {
     Words(usize),
     Refused(u32, usize),

@@ -15,7 +15,7 @@ const ACCEPTED: u32 = 1000000;
 const ACCEPTED_HERE: u32 = ACCEPTED + rules::EDITION;
 
 // What is kept: a plan that is the same as a table but for one leg; nothing that tells so, which may be replaced; or a file that is not ours, which never is.
-#[derive(Drop)]
+#[derive(Clone, Copy)]
 pub enum Accepted {
     Same,
     Unknown,

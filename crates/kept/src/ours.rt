@@ -8,7 +8,7 @@ use seen::Of;
 
 // What stands where a start makes its files: nothing that would be lost, the cursor of a check that has begun, under these rules or under another edition of them, or a file
 // that is not ours.
-#[derive(Drop)]
+#[derive(Clone, Copy)]
 pub enum Standing {
     Free,
     Begun(Cursor),
@@ -17,7 +17,7 @@ pub enum Standing {
 }
 
 // What stands beside a cursor: nothing, a copy under these rules, a copy under another edition of them, or a file that is none.
-#[derive(Drop)]
+#[derive(Clone, Copy)]
 enum Beside {
     Nothing,
     Copy,

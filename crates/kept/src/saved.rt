@@ -14,7 +14,7 @@ const CURSOR_ROOM: usize = files::MAX_CURSOR_BYTES + 1;
 pub(crate) const SEEN_ROOM: usize = seen::MAX_SEEN_BYTES + 1;
 
 // A cursor file: its cursor, a refusal's number and position, that there is none, or that it cannot be read.
-#[derive(Drop)]
+#[derive(Clone, Copy)]
 pub enum Saved {
     At(Cursor),
     Refused(u32, usize),

@@ -1,4 +1,6 @@
 // What a rule needs and has at a place of a table, and the nearest offsets with which it is kept there.
+#![tactic(auto)]
+
 ghost use Rattle.margins.specs.Margins.{Margins};
 ghost use Rattle.margins.specs.Nearest.{Nears};
 
@@ -13,7 +15,7 @@ pub mod sparing;
 pub mod turning;
 
 // The two sides of a rule, in nanoseconds: what it needs, and what it has. It is kept where it needs no more than it has.
-#[derive(Drop)]
+#[derive(Clone, Copy)]
 pub struct Sides {
     pub needs: u64,
     pub has: u64,
@@ -21,7 +23,7 @@ pub struct Sides {
 
 // Two legs that take turns on one link, in nanoseconds: the greatest common divisor of their periods, how far the other leg lies after the leg by that divisor, and
 // how long the leg and the other one hold the link. The rule is kept where each ends before the other begins: hold <= after, and other <= divisor - after.
-#[derive(Drop)]
+#[derive(Clone, Copy)]
 pub struct Turns {
     pub divisor: u64,
     pub after: u64,
@@ -30,7 +32,7 @@ pub struct Turns {
 }
 
 // The numbers of the rule at a place: nothing is asked there, or the two sides, or the turns.
-#[derive(Drop)]
+#[derive(Clone, Copy)]
 pub enum Margin {
     Free,
     Sides(Sides),
@@ -38,7 +40,7 @@ pub enum Margin {
 }
 
 // By how much a rule is kept or missed: nothing is asked, so much is left, or so much is lacking.
-#[derive(Drop)]
+#[derive(Clone, Copy)]
 pub enum Spare {
     Free,
     Left(u64),
@@ -46,7 +48,7 @@ pub enum Spare {
 }
 
 // What is answered of a place: the numbers of its rule and what is to spare, or a refusal's number and position.
-#[derive(Drop)]
+#[derive(Clone, Copy)]
 pub enum MarginAnswer {
     At(Margin, Spare),
     Refused(u32, usize),
@@ -64,7 +66,7 @@ pub fn margin_at(t: &[u32], leg: u32, place: u32) -> MarginAnswer
 }
 
 // Offsets from one number up to but without another, and of those the ones that a condition allows.
-#[derive(Drop)]
+#[derive(Clone, Copy)]
 pub struct Range {
     pub from: u64,
     pub end: u64,
@@ -72,21 +74,21 @@ pub struct Range {
 }
 
 // An offset of a leg, or that there is none.
-#[derive(Drop)]
+#[derive(Clone, Copy)]
 pub enum Offset {
     At(u32),
     None,
 }
 
 // The nearest offsets of a leg, below and above its own.
-#[derive(Drop)]
+#[derive(Clone, Copy)]
 pub struct Nearest {
     pub below: Offset,
     pub above: Offset,
 }
 
 // What is answered of a place: the nearest offsets of its leg with which it holds, or a refusal's number and position.
-#[derive(Drop)]
+#[derive(Clone, Copy)]
 pub enum NearestAnswer {
     At(Nearest),
     Refused(u32, usize),

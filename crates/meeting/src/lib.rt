@@ -1,4 +1,6 @@
 // Where two legs of a table first meet on their link.
+#![tactic(auto)]
+
 ghost use Rattle.shape.specs.Shape.{WellFormedTable};
 ghost use Rattle.rules.specs.Steps.{LegIn};
 ghost use Rattle.meeting.specs.Meets.{CanMeet, Meets};
@@ -9,7 +11,7 @@ use overlap::Slot;
 use repeats::{Meeting, Met};
 
 // The first meeting of two legs on their link; that they never meet, being on different links or never holding theirs at once; or a refusal's number and position.
-#[derive(Drop)]
+#[derive(Clone, Copy)]
 pub enum MeetingAnswer {
     Met(Meeting),
     Never,

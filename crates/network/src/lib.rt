@@ -1,4 +1,6 @@
 // Simple temporal networks: constraints as words, and whether they are in range.
+#![tactic(auto)]
+
 ghost use Rattle.std.specs.Prelude.{◌≡◌, ◌≤◌, ◌<◌, nat_abs, length};
 ghost use Rattle.basics.specs.Tells.{Tells};
 ghost use Rattle.basics.specs.Lowest.{Finds};
@@ -20,7 +22,7 @@ const TOO_LARGE: u32 = 27;
 const OUT_OF_RANGE: u32 = 16;
 
 // A constraint: the time of event `to` minus the time of event `from` is at most `most`.
-#[derive(Drop)]
+#[derive(Clone, Copy)]
 pub struct Constraint {
     pub from: usize,
     pub to: usize,

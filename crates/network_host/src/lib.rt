@@ -1,4 +1,6 @@
 // The calls for C of temporal networks. What a call writes to overlaps nothing else that is lent to it (include/conepalhui-network.h).
+#![tactic(auto)]
+
 ghost use Rattle.network_host.specs.Calls.{HostSolves, HostTestsTimes, HostTestsChain};
 ghost use Rattle.std.specs.Prelude.{◌≡◌};
 ghost use Rattle.network_host.specs.Calls.{verdict, outcome_verdict, times_verdict, chain_verdict, refused_result};
@@ -20,7 +22,7 @@ const REFUSED: u32 = 100;
 
 // What C gets of solving, laid out as the struct in the header: a result, a number beside it, and the times.
 #[repr(C)]
-#[derive(Drop)]
+#[derive(Clone, Copy)]
 pub struct NetworkAnswer {
     pub result: u32,
     pub number: u32,
@@ -29,7 +31,7 @@ pub struct NetworkAnswer {
 
 // What C gets of a test: a result, and a number beside it.
 #[repr(C)]
-#[derive(Drop)]
+#[derive(Clone, Copy)]
 pub struct Verdict {
     pub result: u32,
     pub number: u32,
@@ -97,12 +99,7 @@ fn of_chain(test: ChainTest) -> Verdict
 }
 
 // Solves a network: the latest times, or a chain in the first of the lent words.
-#[unsafe(no_mangle)]
-pub extern "C" fn conepalhui_network(
-    events: usize,
-    constraints: &[i64],
-    chain: &mut [u32],
-) -> NetworkAnswer
+pub fn conepalhui_network(events: usize, constraints: &[i64], chain: &mut [u32]) -> NetworkAnswer
     ensures { HostSolves events constraints.now chain.old result chain.new }
 {
     let solved = solver::solve(events, constraints, chain);
@@ -117,12 +114,7 @@ pub extern "C" fn conepalhui_network(
 }
 
 // Tests times, whoever made them.
-#[unsafe(no_mangle)]
-pub extern "C" fn conepalhui_network_times(
-    events: usize,
-    constraints: &[i64],
-    times: &[i64],
-) -> Verdict
+pub fn conepalhui_network_times(events: usize, constraints: &[i64], times: &[i64]) -> Verdict
     ensures { HostTestsTimes events constraints.now times.now result }
 {
     let test = claims::test_times(events, constraints, times);
@@ -130,12 +122,7 @@ pub extern "C" fn conepalhui_network_times(
 }
 
 // Tests a chain, whoever made it.
-#[unsafe(no_mangle)]
-pub extern "C" fn conepalhui_network_chain(
-    events: usize,
-    constraints: &[i64],
-    numbers: &[u32],
-) -> Verdict
+pub fn conepalhui_network_chain(events: usize, constraints: &[i64], numbers: &[u32]) -> Verdict
     ensures { HostTestsChain events constraints.now numbers.now result }
 {
     let test = claims::test_chain(events, constraints, numbers);

@@ -1,4 +1,6 @@
 // Conditions on the first offset of a new stream, and lists of them.
+#![tactic(auto)]
+
 ghost use Rattle.std.specs.Prelude.{◌+◌, ◌*◌, ◌≤◌, length};
 ghost use Rattle.numbers.specs.Number.{max_word};
 ghost use Rattle.overlap.specs.Divisor.{IsGcd, Repeats};
@@ -13,7 +15,7 @@ pub mod search;
 pub const CONDITION_WORDS: usize = 4;
 
 // (x + shift) mod modulus is at least before, and at least after away from the modulus.
-#[derive(Drop)]
+#[derive(Clone, Copy)]
 pub struct Condition {
     pub modulus: u64,
     pub shift: u64,
@@ -22,7 +24,7 @@ pub struct Condition {
 }
 
 // The least number that is allowed, or that there is none.
-#[derive(Drop)]
+#[derive(Clone, Copy)]
 pub enum Searched {
     At(u64),
     Nothing,

@@ -8,7 +8,7 @@ ghost use Rattle.offsets.specs.Steps.{Passes, Skips, Waits};
 use crate::{Condition, Searched};
 
 // Where the search is, and the last four hints that moved it. Nothing is promised of the hints.
-#[derive(Drop)]
+#[derive(Clone, Copy)]
 pub struct State {
     pub x: u64,
     pub first: u32,

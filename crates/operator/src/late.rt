@@ -11,7 +11,7 @@ use show::answers::Part;
 use table::Move;
 
 // Which plan is to be kept as an accepted one: none, the one before a move, or the one after it.
-#[derive(Drop)]
+#[derive(Clone, Copy)]
 pub(crate) enum Keep {
     Nothing,
     Old,
@@ -19,7 +19,7 @@ pub(crate) enum Keep {
 }
 
 // What follows a move: nothing more, or the answer of a recheck, whether a plan that is the same but for that leg is known to have been accepted, and what is to be kept.
-#[derive(Drop)]
+#[derive(Clone, Copy)]
 pub(crate) enum After {
     Nothing,
     Rechecked(RecheckAnswer, bool, Keep),

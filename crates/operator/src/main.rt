@@ -1,6 +1,8 @@
 // What an operator and a planner do with a plan on standard input: words, shape; and with files: start PLAN CURSOR [--anew], slice PLAN CURSOR BUDGET,
 // move PLAN CURSOR LEG OFFSET [PERIODS], recheck PLAN CURSOR LEG [OFFSET [PERIODS]], convert OLD NEW. It writes one answer; where a file cannot be read or written or is not ours, or an argument is wrong,
 // it writes none and says so on standard error.
+#![tactic(auto)]
+
 use decimal::Decimal;
 use table::Move;
 
@@ -10,7 +12,7 @@ mod late;
 mod plans;
 
 // What is asked for. A start says whether a check that has begun may be dropped.
-#[derive(Drop)]
+#[derive(Clone, Copy)]
 pub(crate) enum Order {
     Words,
     Shape,
@@ -24,7 +26,7 @@ pub(crate) enum Order {
 }
 
 // An argument that has to be a number.
-#[derive(Drop)]
+#[derive(Clone, Copy)]
 enum Word {
     Given(u32),
     Wrong,

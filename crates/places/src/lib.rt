@@ -1,4 +1,6 @@
 // The places of a leg, looked at in order.
+#![tactic(auto)]
+
 ghost use Rattle.std.specs.Prelude.{◌≡◌, ◌≤◌};
 ghost use Rattle.table.specs.Layout.{max_legs};
 ghost use Rattle.rules.specs.Places.{places_of};
@@ -12,7 +14,7 @@ pub mod chains;
 pub mod leg;
 
 // What is told of some places of a leg: the first that is broken and its rule, or that all are kept.
-#[derive(Drop)]
+#[derive(Clone, Copy)]
 pub enum LegTold {
     Broken(usize, Rule),
     Kept,

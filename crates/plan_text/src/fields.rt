@@ -44,7 +44,7 @@ const NO_FIELD: u32 = 8;
 const MOST_WORDS: usize = 24;
 
 // What a value is.
-#[derive(Drop)]
+#[derive(Clone, Copy)]
 enum Form {
     Time,
     Rate,

@@ -1,6 +1,8 @@
 // Plans as a person writes them: a record to a line (docs/TEXTS.md). A text is read into a draft: the records of the plan, each kind at a place of its own, and
 // where the names lie in the text. What is wrong with a line is said on standard error. No contract can say what a call of the operating system writes, so these
 // promise to be safe and to end.
+#![tactic(auto)]
+
 ghost use Rattle.std.specs.Prelude.{◌≤◌};
 
 pub mod assembling;

@@ -5,14 +5,14 @@ use decimal::Decimal;
 use lines::words::{are_same, part_of, word};
 
 // A node of a line: its number, or that the line is wrong, which was said.
-#[derive(Drop)]
+#[derive(Clone, Copy)]
 pub(crate) enum Node {
     Number(u32),
     Wrong,
 }
 
 // The name with a place in the list of names, if there is one.
-#[derive(Drop)]
+#[derive(Clone, Copy)]
 pub(crate) enum Place {
     At(u32),
     Nowhere,

@@ -293,7 +293,7 @@ pub(crate) fn rest(line: &[u8], draft: &mut [u32]) {
 // ---- Legs
 
 // The link of a leg, or that the line is wrong, which was said.
-#[derive(Drop)]
+#[derive(Clone, Copy)]
 enum OfLeg {
     By(u32),
     Wrong,

@@ -2,7 +2,7 @@
 use crate::{get, link_at};
 
 // The link with two ends: one, none or several.
-#[derive(Drop)]
+#[derive(Clone, Copy)]
 pub(crate) enum Found {
     One(u32),
     None,

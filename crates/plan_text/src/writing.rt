@@ -262,7 +262,7 @@ fn put_stream(
 }
 
 // How far a text is: its end so far, and how many legs it has.
-#[derive(Drop)]
+#[derive(Clone, Copy)]
 struct Far {
     at: usize,
     legs: u32,

@@ -1,6 +1,8 @@
 // What a refusal says on standard error: one sentence with the record and its numbers. No contract can say what a call of the operating system writes, so
 // these promise only to be safe and to end; tests/printed.test holds each sentence against an independent checker. Where one record has several faults, the
 // first in the order of its words is said.
+#![tactic(auto)]
+
 ghost use Rattle.std.specs.Prelude.{◌≤◌, length};
 
 use libc::STDERR_FILENO;

@@ -1,4 +1,6 @@
 // One late move: the places at which a moved leg can be read, looked at in order.
+#![tactic(auto)]
+
 ghost use Rattle.shape.specs.Shape.{WellFormedTable};
 ghost use Rattle.recheck.specs.Rechecks.{Rechecks};
 
@@ -9,7 +11,7 @@ pub mod look;
 pub mod same;
 
 // A place of a table: a leg, and a place of that leg.
-#[derive(Drop)]
+#[derive(Clone, Copy)]
 pub struct Place {
     pub leg: u32,
     pub place: u32,
@@ -17,7 +19,7 @@ pub struct Place {
 
 // What a recheck gives: the first violated place, its rule, and how many places were looked at, itself included; that nothing is violated at the places that were looked at, and how
 // many they are; or a refusal's number and position.
-#[derive(Drop)]
+#[derive(Clone, Copy)]
 pub enum RecheckAnswer {
     Violated(Place, Rule, u32),
     NothingViolated(u32),

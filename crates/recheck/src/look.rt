@@ -13,7 +13,7 @@ use crate::{Place, RecheckAnswer};
 use rules::{Frame, Judged, Rule};
 
 // What is told after some places more: the first broken one of the leg and its rule, or that they are kept; and how many were looked at so far.
-#[derive(Drop)]
+#[derive(Clone, Copy)]
 pub enum Told {
     Broken(usize, Rule, usize),
     Kept(usize),

@@ -3,14 +3,14 @@ ghost use Rattle.std.specs.Prelude.{◌≤◌, ◌<◌};
 ghost use Rattle.repeats.specs.Landings.{LandsFirst, Nearest, Stretch, longest_period};
 
 // So many steps, and the whole turns round the circle that they make.
-#[derive(Drop)]
+#[derive(Clone, Copy)]
 pub struct Landing {
     pub steps: u64,
     pub turns: u64,
 }
 
 // The first landing, or that no step ever lands there.
-#[derive(Drop)]
+#[derive(Clone, Copy)]
 pub enum Landed {
     After(Landing),
     Never,

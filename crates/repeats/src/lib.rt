@@ -1,4 +1,6 @@
 // Where two legs on one link first meet: the earliest instant at which both hold the link, however many periods it takes.
+#![tactic(auto)]
+
 ghost use Rattle.std.specs.Prelude.{◌≡◌, ◌≤◌};
 ghost use Rattle.numbers.specs.Number.{max_word};
 ghost use Rattle.repeats.specs.Meetings.{MeetsFirst};
@@ -10,7 +12,7 @@ use overlap::Slot;
 pub mod landing;
 
 // An instant at which two legs hold their link, and the last repeat of each that has begun then; instants in nanoseconds, repeats counted from 0.
-#[derive(Drop)]
+#[derive(Clone, Copy)]
 pub struct Meeting {
     pub first: u64,
     pub second: u64,
@@ -18,14 +20,14 @@ pub struct Meeting {
 }
 
 // The first meeting of two legs, or that they never meet.
-#[derive(Drop)]
+#[derive(Clone, Copy)]
 pub enum Met {
     At(Meeting),
     Never,
 }
 
 // A repeat `second` of one slot begins `into` ns into the period of repeat `first` of another.
-#[derive(Drop)]
+#[derive(Clone, Copy)]
 pub struct Entry {
     pub first: u64,
     pub second: u64,

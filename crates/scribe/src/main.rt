@@ -1,6 +1,8 @@
 // Plans as text, both ways. encode NEW [--replace] reads a text on standard input and writes the plan file NEW, and NEW.names where the text has names; decode [PLAN]
 // reads a plan file on standard input and writes its text, with the names that stand beside PLAN. A last line says the exit status, and ./conepalhui takes it off.
 // Where something cannot be read or written, there is none.
+#![tactic(auto)]
+
 use lines::words::are_same;
 
 mod decode;

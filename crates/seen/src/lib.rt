@@ -1,4 +1,6 @@
 // What was last seen of a plan, kept beside its cursor under an edition of the rules: one whole plan file, or two, those before and after a move.
+#![tactic(auto)]
+
 ghost use Rattle.std.specs.Prelude.{◌≡◌, ◌≤◌, length};
 ghost use Rattle.basics.specs.Tells.{Tells};
 ghost use Rattle.seen.specs.Seen.{Known, KnownParts, PlanFile, Copy, PlanParts, Splits};
@@ -20,28 +22,28 @@ pub const MAX_FRONT_BYTES: usize = 5 + 5 + 5;
 pub const MAX_SEEN_BYTES: usize = MAX_FRONT_BYTES + 2 * files::MAX_FILE_BYTES;
 
 // Of which edition what was kept is.
-#[derive(Drop)]
+#[derive(Clone, Copy)]
 pub enum Of {
     Edition(u32),
     Nothing,
 }
 
 // Internal: what stands in front of what was seen: the edition that is named and the position after it; or no edition is named.
-#[derive(Drop)]
+#[derive(Clone, Copy)]
 pub enum Front {
     Named(u32, usize),
     Unnamed,
 }
 
 // Internal: where what was seen under an edition begins; or the bytes are not kept under that edition.
-#[derive(Drop)]
+#[derive(Clone, Copy)]
 pub enum Rest {
     At(usize),
     Nowhere,
 }
 
 // Internal: the two plans in what was seen: where the first begins and how many bytes it has; or the bytes do not have that form.
-#[derive(Drop)]
+#[derive(Clone, Copy)]
 pub enum Parts {
     At(usize, usize),
     Nowhere,

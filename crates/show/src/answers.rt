@@ -6,7 +6,7 @@ use rules::Rule;
 use table::{Leg, Move};
 
 // What a refusal lies in: the plan, a cursor of ours, a file in the cursor's place that is none, the move, or the leg that is asked for.
-#[derive(Drop)]
+#[derive(Clone, Copy)]
 pub enum Part {
     Plan,
     Cursor,

@@ -1,5 +1,7 @@
 // What the programs print to standard output. No contract can say what a call of the operating system writes, so these promise only to be
 // safe and to end; the programs' expected output tests the rest.
+#![tactic(auto)]
+
 ghost use Rattle.table.specs.Layout.{Sized};
 
 use basics::Checked;

@@ -1,4 +1,6 @@
 // Signed numbers: sums that fit, and a difference that is compared without being made.
+#![tactic(auto)]
+
 ghost use Rattle.std.specs.Prelude.{◌≡◌, ◌+◌, ◌≤◌, nat_abs, ◌+ℤ◌, ◌-ℤ◌};
 ghost use Rattle.std.specs.Int.Signed.{le_z};
 ghost use Rattle.signed.specs.Signed.{max_signed};

@@ -31,7 +31,7 @@ const OCTETS_AT: usize = 3;
 pub(crate) const WAY_ROOM: usize = MAX_ROUTE as usize + 2;
 
 // What is wanted of a stream. The way has so many numbers, and the first of them are kept.
-#[derive(Drop)]
+#[derive(Clone, Copy)]
 pub(crate) struct Given {
     pub(crate) kind: u32,
     pub(crate) want: Wanted,
@@ -40,7 +40,7 @@ pub(crate) struct Given {
 }
 
 // A word that has to be a number.
-#[derive(Drop)]
+#[derive(Clone, Copy)]
 enum Word {
     Value(u32),
     Wrong,

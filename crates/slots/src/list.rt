@@ -7,7 +7,7 @@ use checker::accepted::NOT_ACCEPTED;
 use numbers::Written;
 
 // How far it is: the words of the table, how many streams are admitted and left out, when something was said last, and whether a search did not end.
-#[derive(Drop)]
+#[derive(Clone, Copy)]
 struct Tally {
     words: usize,
     admitted: u32,

@@ -1,6 +1,8 @@
 // Admits streams to a plan, one after the other, and writes the enlarged plan under a new name: slots PLAN NEW, with what is wanted on standard input (lines.rt).
 // No old leg moves, and PLAN is only read. It writes one answer, and a last line with the exit status, which ./conepalhui takes off; where a file cannot be read or
 // written it writes no such line, and says so on standard error. NEW is written once, at the end.
+#![tactic(auto)]
+
 use durable::FileRead;
 use files::PlanRead;
 use libc::STDIN_FILENO;

@@ -8,7 +8,7 @@ use table::Link;
 pub(crate) const NO_LINK: u32 = 4294967295;
 
 // The links of a route. It has so many, of which the first are kept: too many to be admitted, where any are left out.
-#[derive(Drop)]
+#[derive(Clone, Copy)]
 pub(crate) struct Route {
     pub(crate) links: [u32; WAY_ROOM],
     pub(crate) count: usize,

@@ -13,7 +13,7 @@ const MOST_PIECES: u32 = MAX_PERIOD / LEAST_PIECE + 1;
 const QUIET: i64 = 2;
 
 // A piece: from which first offset it goes up to which one, and when it was begun. When something was said last.
-#[derive(Drop)]
+#[derive(Clone, Copy)]
 struct Pace {
     from: u32,
     until: u32,
@@ -22,7 +22,7 @@ struct Pace {
 }
 
 // What was found, and when something was said last.
-#[derive(Drop)]
+#[derive(Clone, Copy)]
 pub(crate) struct Found {
     pub(crate) answer: Admission,
     pub(crate) said: i64,

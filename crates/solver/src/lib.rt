@@ -1,4 +1,6 @@
 // Solves simple temporal networks: the latest times, or a closed chain of constraints with a negative sum.
+#![tactic(auto)]
+
 ghost use Rattle.std.specs.Prelude.{◌≤◌, length};
 ghost use Rattle.network.specs.Constraints.{NetworkInRange};
 ghost use Rattle.solver.specs.Solving.{Solves};
@@ -9,14 +11,14 @@ pub mod rounds;
 pub mod walk;
 
 // Internal: the last event that was lowered, if any.
-#[derive(Drop)]
+#[derive(Clone, Copy)]
 pub enum Step {
     Stayed,
     Lowered(usize),
 }
 
 // Times; a chain of so many constraints; or a refusal's number and position.
-#[derive(Drop)]
+#[derive(Clone, Copy)]
 pub enum Outcome {
     Times,
     Chain(usize),
@@ -24,7 +26,7 @@ pub enum Outcome {
 }
 
 // What solving gives. The times are 0 where there is a chain, where it is refused, and for events that there are not.
-#[derive(Drop)]
+#[derive(Clone, Copy)]
 pub struct Solved {
     pub outcome: Outcome,
     pub times: [i64; network::MAX_EVENTS],

@@ -6,7 +6,7 @@ ghost use Rattle.solver.specs.Solving.{GivesChain};
 ghost use Rattle.solver.specs.Steps.{Walking, no_path, Turned, Copied};
 
 // Where in the path a chain stands.
-#[derive(Drop)]
+#[derive(Clone, Copy)]
 pub struct Turn {
     pub start: usize,
     pub len: usize,

@@ -1,4 +1,6 @@
 // A survey: every violated place of a table, in order, by slices that go on after each.
+#![tactic(auto)]
+
 ghost use Rattle.places.specs.Order.{IsPlace};
 ghost use Rattle.checker.specs.Cursors.{CursorRight};
 ghost use Rattle.survey.specs.Survey.{RightAfter};
@@ -10,7 +12,7 @@ use rules::Rule;
 
 // What the next step of a survey finds: a violated place, how many places were looked at, its rule, and where the survey goes on; where it paused; or the end, since nothing is violated from here on. None of these is
 // a cursor for a check: before it there may be violated places.
-#[derive(Drop)]
+#[derive(Clone, Copy)]
 pub enum Found {
     Violated(Cursor, u32, Rule, Cursor),
     Paused(Cursor),

@@ -8,7 +8,7 @@ use wishes::reading::Counts;
 use wishes::{bounds, forms, names};
 
 // What was read: how many times, and how many constraints of a chain; the first line that is wrong, or 0; and whether a line that says something was passed.
-#[derive(Drop)]
+#[derive(Clone, Copy)]
 pub(crate) struct Claimed {
     pub(crate) times: usize,
     pub(crate) links: usize,

@@ -1,6 +1,8 @@
 // Reads a temporal network from standard input, a constraint to a line, and writes times that keep all of its constraints, or a chain of constraints that no times
 // keep; or a refusal, and on standard error why. With the path of a claim it writes whether its times keep the network, or whether it is such a chain. A last line
 // says the exit status, and ./conepalhui takes it off. Where the input cannot be read it writes nothing.
+#![tactic(auto)]
+
 use durable::FileRead;
 use libc::STDIN_FILENO;
 use wishes::reading::Counts;

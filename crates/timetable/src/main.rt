@@ -1,6 +1,8 @@
 // Reads a plan file from standard input, checks it whole, and writes what document 01 says: the number of legs and places, and accepted or the first
 // violated place with its rule; or a refusal's number and position, and on standard error why. A last line says the exit status, and ./conepalhui takes it off.
 // Where the input cannot be read it writes nothing. It takes no argument: so it rests on the contracts of read and write alone.
+#![tactic(auto)]
+
 use checker::{Grant, SliceAnswer};
 use input::Given;
 use reasons::records;

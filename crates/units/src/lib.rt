@@ -1,4 +1,6 @@
 // Times and rates as a person types them: digits with a unit, whole nanoseconds in the end.
+#![tactic(auto)]
+
 ghost use Rattle.std.specs.Prelude.{◌≤◌, ◌<◌, ◌^◌, ◌≡◌};
 ghost use Rattle.units.specs.Rates.{OctetTime};
 ghost use Rattle.units.specs.Times.{ScaledTold, PlainTold, AfterTold, PointedTold, TimeTold};
@@ -8,7 +10,7 @@ use lines::place_of;
 use lines::words::are_same;
 
 // A time read: so many ns; no unit at its end; no number before it; more than nine digits after the point; no whole number of ns; or more than a word holds.
-#[derive(Drop)]
+#[derive(Clone, Copy)]
 pub enum Time {
     Ns(u32),
     NoUnit,
@@ -19,7 +21,7 @@ pub enum Time {
 }
 
 // The units: how many bytes each has, and how many ns it is.
-#[derive(Drop)]
+#[derive(Clone, Copy)]
 pub enum Unit {
     Nano,
     Micro,
@@ -183,7 +185,7 @@ pub fn read_time(word: &[u8]) -> Time {
 }
 
 // The rates that have a name: 10, 100 and 1,000 Mb/s.
-#[derive(Drop)]
+#[derive(Clone, Copy)]
 pub enum Named {
     Ten,
     Hundred,
@@ -223,7 +225,7 @@ pub fn read_rate(word: &[u8]) -> Time {
 }
 
 // A number and the unit in which it is whole.
-#[derive(Drop)]
+#[derive(Clone, Copy)]
 pub struct Whole {
     pub number: u32,
     pub unit: Unit,

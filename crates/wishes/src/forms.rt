@@ -7,7 +7,7 @@ use lines::words::{are_same, count, has_control, word};
 
 // What a line of a network says: nothing; the name of an event; that the first name minus the third word is at most a number, or the third word minus the
 // first name; or what is none of these.
-#[derive(Drop)]
+#[derive(Clone, Copy)]
 pub enum Wish {
     Nothing,
     Event,
@@ -18,7 +18,7 @@ pub enum Wish {
 
 // What a line of a claim says: nothing; the first line of an answer; the time of an event, or one that has more than 64 bits; the line of a constraint; or what
 // is none of these.
-#[derive(Drop)]
+#[derive(Clone, Copy)]
 pub enum Claim {
     Nothing,
     Head,

@@ -1,5 +1,7 @@
 // A temporal network as a person writes it: a constraint to a line. It is read here, and nothing is printed. Events are numbered in the order in which their
 // names first appear.
+#![tactic(auto)]
+
 pub mod bounds;
 pub mod forms;
 pub mod names;

@@ -6,7 +6,7 @@ ghost use Rattle.wishes.specs.Number.{WorthTold, ReadsDigits, ReadsSigned};
 use decimal::Decimal;
 
 // A number read: whether it is below zero, and its size; only the former where it has more than 64 bits or close to it; or that it is none.
-#[derive(Drop)]
+#[derive(Clone, Copy)]
 pub enum Number {
     Value(bool, u64),
     Far(bool),
@@ -14,7 +14,7 @@ pub enum Number {
 }
 
 // What digits are worth. Enough are taken for any number of 64 bits with a sign.
-#[derive(Drop)]
+#[derive(Clone, Copy)]
 pub enum Worth {
     Value(u64),
     Far,

@@ -4,7 +4,7 @@ use crate::{CONSTRAINT_WORDS, forms, names, number};
 use lines::words;
 
 // What was read: how many events, one past the limit at most; how many constraints; and the first line that has none of the forms, or 0.
-#[derive(Drop)]
+#[derive(Clone, Copy)]
 pub struct Counts {
     pub events: usize,
     pub constraints: usize,
@@ -12,7 +12,7 @@ pub struct Counts {
 }
 
 // The event that has a name, and how many events there are once it was read.
-#[derive(Drop)]
+#[derive(Clone, Copy)]
 struct Met {
     event: usize,
     events: usize,

@@ -2,7 +2,7 @@
 use crate::number;
 
 // A sum: whether it is below zero, and its size.
-#[derive(Drop)]
+#[derive(Clone, Copy)]
 pub struct Sum {
     pub below: bool,
     pub size: u64,
