@@ -7,13 +7,9 @@ rust_target=x86_64-unknown-linux-gnu
 
 # Sets $emulator to what has to stand before a linked program of the comparison: nothing on x86-64.
 set_emulator() {
-    local kit
     case $(uname -m) in
     x86_64) emulator=() ;;
-    aarch64)
-        kit=$(rt doc </dev/null) || stop "cannot find the kit"
-        emulator=("$(dirname "$(dirname "$kit")")/on/aarch64/toolchain/bin/qemu-x86_64")
-        ;;
+    aarch64) emulator=(qemu-x86_64) ;;
     *) stop "the calls for C run on x86_64 and aarch64, and this processor is $(uname -m)" ;;
     esac
 }

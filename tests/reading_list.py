@@ -252,7 +252,7 @@ class Reading:
     def __init__(self):
         self.specs, self.sources, self.reached, self.due, self.edges, self.here = {}, {}, set(), [], set(), None
         self.signs, self.rust_signs, self.fields, self.literals = {}, {}, {}, {}
-        self.order = [line.split(":")[0] for line in content("crates.txt").splitlines() if line and not line.startswith("#")]
+        self.order = [line.split(":")[0].split(" ")[0] for line in content("crates.txt").splitlines() if line and not line.startswith("#")]
         self.libraries = [crate for crate in self.order if os.path.isdir(os.path.join(ROOT, f"crates/{crate}/specs"))]
         self.calls, self.statements = self.public_calls(), {}
         for call in self.calls:

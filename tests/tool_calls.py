@@ -143,6 +143,5 @@ def program(name="operator", folder=".built"):
     built = str(HOME / folder / name)
     if platform.machine() == "x86_64":
         return [built]
-    page = subprocess.run(["rt", "doc"], stdout=subprocess.PIPE, text=True, check=True).stdout.strip()
-    tools = Path(page).parent.parent / "on" / platform.machine() / "toolchain"
-    return [str(tools / "bin" / "qemu-x86_64"), str(tools / "lib" / "ld-linux-x86-64.so.2"), "--library-path", str(tools / "lib"), built]
+    cross = Path("/usr/x86_64-linux-gnu")
+    return ["qemu-x86_64", str(cross / "lib64" / "ld-linux-x86-64.so.2"), "--library-path", str(cross / "lib"), built]

@@ -7,7 +7,7 @@ has_rt() {
     has rt || { note "the command rt is not on the PATH: install the Rattle kit"; return 1; }
 }
 
-# One rt at a time may use target/. The lock is the open file 9. rt inherits it, so it lasts as long as rt runs.
+# One build at a time may take what rt leaves in crates/*/out. The lock is the open file 9. rt inherits it, so it lasts as long as rt runs.
 lock() {
     mkdir -p .built && exec 9>.built/lock || { note "cannot write to the folder .built"; return 1; }
     flock -n 9 || { note "waiting for another build to end"; flock 9; } || { note "cannot lock .built/lock"; return 1; }
@@ -21,13 +21,13 @@ uses() { # CRATE
     while [[ $wanted != "$before" ]]; do
         before=$wanted
         for line in "${lines[@]%%#*}"; do
-            read -r name <<<"${line%%:*}"
+            read -r name _ <<<"${line%%:*}" # A static library has that word after its name.
             [[ $line == *:* && $wanted == *" $name "* ]] || continue
             for word in ${line#*:}; do [[ $wanted == *" $word "* ]] || wanted+="$word "; done
         done
     done
     for line in "${lines[@]%%#*}"; do
-        read -r name <<<"${line%%:*}"
+        read -r name _ <<<"${line%%:*}"
         [[ $line != *:* || $wanted != *" $name "* ]] || printf '%s:%s\n' "$name" "${line#*:}"
     done
 }
@@ -53,26 +53,28 @@ is_fresh() { # FILE SOURCES
     [[ -f .built/$1 && $built == "$2" ]] && { ! has rt || [[ $kit == "$(rt version </dev/null)" ]]; }
 }
 
-# Prints how many crates a log of rt says are proved.
+# Prints how many functions, structs and enums a log of rt says are proved. rt names no crate as it ends it.
 proved_in() { # LOG
     local line count=0
-    while IFS= read -r line; do [[ $line != 'rt: '*' proved'* ]] || count=$((count + 1)); done <"$1"
+    while IFS= read -r line; do [[ $line != *': proved'* ]] || count=$((count + 1)); done <"$1"
     printf %d "$count"
 }
 
 # Says on the terminal, each second, how far rt is, for as long as this command runs. It does not keep the lock.
-show_build() { # LOG CRATES
+show_build() { # LOG
     local began=$SECONDS
     exec 9>&-
     while kill -0 $$ 2>/dev/null; do
-        printf '\rproved %d of %d parts, %d:%02d so far\033[K' "$(proved_in "$1")" "$2" $(((SECONDS - began) / 60)) $(((SECONDS - began) % 60)) >&2
+        printf '\rproved %d parts, %d:%02d so far\033[K' "$(proved_in "$1")" $(((SECONDS - began) / 60)) $(((SECONDS - began) % 60)) >&2
         sleep 1
     done
 }
 
-# Runs rt, which takes minutes: says so at once, and on a terminal how far it is. What rt says goes to the log.
+# Builds a crate with rt, which takes minutes: says so at once, and on a terminal how far it is. What rt says goes to the log.
+# A program is built by 'rt run', which proves it, links it as out/NAME and then runs it, with no input: no command of rt builds a program and
+# leaves it at that. Its status is then the program's own, so a build has ended well where rt says that it runs the program. An archive is built by 'rt lib'.
 run_rt() { # COMMAND CRATE LOG
-    local used status=0 shower='' began=$SECONDS what="the program $2" time=three
+    local status=0 shower='' began=$SECONDS what="the program $2" time=three
     case $2 in
     timetable) what="the checker" ;;
     operator) what="the program for slices, moves, words, shape and conversions" ;;
@@ -82,14 +84,15 @@ run_rt() { # COMMAND CRATE LOG
     desk) what="the program for explanations and surveys" time=five ;;
     scribe) what="the program for plans as text" time=five ;;
     draw) what="the program for pictures" time=five ;;
-    host) what="the calls for C" ;;
-    network_host) what="the calls for C of temporal networks" ;;
+    host_c) what="the calls for C" ;;
+    network_host_c) what="the calls for C of temporal networks" ;;
     esac
-    mapfile -t used < <(uses "$2")
     note "proving and building $what first. This is done once, until the sources change, and takes about $time minutes on two idle cores. If you stop it, what is proved stays proved"
     : >"$3"
-    [[ ! -t 2 ]] || { show_build "$3" ${#used[@]} & shower=$!; }
-    rt "$1" "$2" >"$3" 2>&1 </dev/null || status=$?
+    [[ ! -t 2 ]] || { show_build "$3" & shower=$!; }
+    # rt works in the crate's folder. The program ends at once, as its input is empty; where it does not, it is stopped.
+    (cd "crates/$2" && exec rt "$1") >"$3" 2>&1 </dev/null || status=$?
+    [[ $1 != run ]] || { status=1 && built_in "$3" "$2" && status=0; }
     if [[ -n $shower ]]; then
         { kill $shower && wait $shower; } 2>/dev/null
         printf '\r\033[K' >&2
@@ -98,9 +101,24 @@ run_rt() { # COMMAND CRATE LOG
     return $status
 }
 
+# Whether a log of 'rt run' says that the program stands. That line comes after each proof, and before all that the program writes itself.
+built_in() { # LOG CRATE
+    local line
+    while IFS= read -r line; do [[ $line != "rt: running out/$2;"* ]] || return 0; done <"$1"
+    return 1
+}
+
+# Puts a product in place as .built/FILE, with the stamp of its sources. The stamp goes first and comes last, so that a program never stands beside the stamp of another.
+put_in_place() { # PRODUCT FILE SOURCES CRATE
+    rm -f ".built/$2.stamp" && cp "$1" ".built/$2.new" && mv -f ".built/$2.new" ".built/$2" || return 1
+    # Where the sources changed during the build there is no stamp, and the next run builds it again.
+    [[ $(sources "$4" </dev/null) != "$3" ]] ||
+        { { printf '%s\n' "$3" && rt version </dev/null; } >".built/$2.stamp.new" && mv -f ".built/$2.stamp.new" ".built/$2.stamp"; }
+}
+
 # Proves and builds the program NAME as .built/NAME, unless it is fresh. Another COMMAND of rt builds another PRODUCT of the crate, which is FILE there.
 build() { # NAME [COMMAND PRODUCT FILE]
-    local stamp command=${2-check} product=${3-target/bin/$1} file=${4-$1}
+    local stamp command=${2-run} product=crates/$1/out/${3-$1} file=${4-$1}
     stamp=$(sources "$1" </dev/null) || stop "cannot read the sources of the crates"
     is_fresh "$file" "$stamp" && return
     has_rt && lock || exit 4
@@ -111,21 +129,21 @@ build() { # NAME [COMMAND PRODUCT FILE]
             cat ".built/$file.log" >&2
             stop "the program $1 cannot be built (see above)"
         fi
-        # The stamp goes first and comes last, so that a program never stands beside the stamp of another.
-        rm -f ".built/$file.stamp" && cp "$product" ".built/$file.new" && mv -f ".built/$file.new" ".built/$file" ||
-            stop "the program $1 was proved, and cannot be copied to .built/$file"
-        # Where the sources changed during the build there is no stamp, and the next run builds it again.
-        if [[ $(sources "$1" </dev/null) == "$stamp" ]]; then
-            { printf '%s\n' "$stamp" && rt version </dev/null; } >".built/$file.stamp.new" && mv -f ".built/$file.stamp.new" ".built/$file.stamp"
-        fi
+        put_in_place "$product" "$file" "$stamp" "$1" || stop "the program $1 was proved, and cannot be copied to .built/$file"
     fi
     unlock
 }
 
+# After rt ci took NAME's sources as they are in SOURCES, its program stands in crates/NAME/out, proved and built by LLVM: it is taken over, and not built again.
+# rt ci builds no archive, and removes those that stood there.
+take_over() { # NAME SOURCES
+    [[ ! -f crates/$1/out/$1 ]] || put_in_place "crates/$1/out/$1" "$1" "$2" "$1"
+}
+
 # Proves and builds the archives of the calls for C: .built/libconepalhui.a for plans, .built/libconepalhui-network.a for temporal networks.
 build_library() {
-    build host staticlib target/staticlib/libhost.a libconepalhui.a
-    build network_host staticlib target/staticlib/libnetwork_host.a libconepalhui-network.a
+    build host_c lib libhost_c.a libconepalhui.a
+    build network_host_c lib libnetwork_host_c.a libconepalhui-network.a
 }
 
 about_library() {

@@ -103,16 +103,24 @@ try_all() { # FILE...
     done
 }
 
-# Runs rt ci and adds its counts. Where rt fails and counts no failure, or counts nothing, that is one failure.
+# Runs rt ci and adds its counts. Where rt fails and counts no failure, or counts nothing, that is one failure. So is an edit of crates/*/must-fail that could not be
+# put to the prover: rt passes it as BAD EDIT, and says how many there are on its line 'rt: ok'.
 prove() {
-    local status=none last='' fault=''
+    local status=none last='' line ok='' fault='' name
+    local -A before=()
     if lock; then
-        rm -f .built/*.stamp # The tests run the programs that this run proved.
-        # Twice as many at a time as there are processors: crates of one level wait for the longest, and so do those that were begun with it.
-        RT_JOBS=${RT_JOBS:-$(($(nproc) * 2))} rt ci | tee "$temp/ci"
+        for name in "${all_programs[@]}" cases; do before[$name]=$(sources "$name" </dev/null); done
+        # It chooses itself how much runs side by side, by processors and memory: RT_JOBS would have it look at no memory.
+        env -u RT_JOBS rt ci | tee "$temp/ci"
         status=${PIPESTATUS[0]}
-        unlock
+        export EDITS_SAID=$temp/ci # tests/edits.test reads there why each edit was refused.
         last=$(tail -n 1 "$temp/ci")
+        while IFS= read -r line; do [[ $line != 'rt: ok; '* ]] || ok=$line; done <"$temp/ci"
+        # The tests run the programs that this run proved.
+        if ((status == 0)); then
+            for name in "${!before[@]}"; do [[ -z ${before[$name]} ]] || take_over "$name" "${before[$name]}"; done
+        fi
+        unlock
     fi
     if [[ $status == none ]]; then
         fault="it was not run"
@@ -123,6 +131,10 @@ prove() {
             fault="it ended with status $status although it counted no failure"
         elif ((bad == 0 && good == 0)); then
             fault="it counted nothing"
+        elif ((bad == 0)) && [[ -z $ok ]]; then
+            fault="it ended with status 0 and has no line 'rt: ok'"
+        elif [[ $ok =~ ,\ ([0-9]+)' bad;' ]]; then
+            fault="${BASH_REMATCH[1]} edits of crates/*/must-fail are bad"
         fi
     else
         fault="it ended with status $status and its last line is no count"
@@ -135,7 +147,8 @@ prove() {
 
 about_test() {
     cat <<'END'
-Checks the layout of the sources, proves every crate from nothing with 'rt ci', and runs each tests/*.test, two at a time.
+Proves every crate with 'rt ci', which also holds the sources to their layout, tries each edit of crates/*/must-fail and runs each program as two
+compilers build it; then runs each tests/*.test, two at a time. What rt ci passed on this machine is kept, and only what changed is proved again.
 The last line is 'N passed, M failed'. The exit status is 0 only where something passed and nothing failed.
 END
 }
@@ -149,7 +162,6 @@ do_test() {
         return 1
     fi
     install_missing
-    try format rt fmt --check
     prove
     # Two tests may want a program at once. Where one cannot be built, the tests that run it fail.
     ((failed > 0)) || (for file in "${all_programs[@]}"; do build "$file"; done) >/dev/null 2>&1

@@ -10,24 +10,18 @@ has() { [[ $1 == /* && -e $1 ]] || command -v "$1" >/dev/null; } # COMMAND-OR-FI
 
 cross=/usr/x86_64-linux-gnu # Where Debian's C library for x86-64 stands on other processors.
 
-# Finds how programs run here, $runner. They are for x86-64: on Arm they run as rt runs them, under the kit's emulator, and under
-# Debian's where there is no kit.
+# Finds how programs run here, $runner. They are for x86-64: on Arm they run under Debian's emulator.
 find_runner() {
-    local machine tools
+    local machine
     machine=$(uname -m)
     runner=()
     case $machine in
     x86_64) ;;
     aarch64)
-        if has rt; then
-            tools=$(rt doc </dev/null) && tools=$(dirname "$(dirname "$tools")")/on/aarch64/toolchain || stop "cannot find the kit"
-            runner=("$tools/bin/qemu-x86_64" "$tools/lib/ld-linux-x86-64.so.2" --library-path "$tools/lib")
-        else
-            has qemu-x86_64 && has "$cross/lib64/ld-linux-x86-64.so.2" ||
-                stop "programs are for x86-64, and its emulator is missing here: apt-get install qemu-user libc6-amd64-cross"
-            # The loader is named with its own libraries: others for x86-64 may stand on this machine, and do not go with it.
-            runner=(qemu-x86_64 "$cross/lib64/ld-linux-x86-64.so.2" --library-path "$cross/lib")
-        fi
+        has qemu-x86_64 && has "$cross/lib64/ld-linux-x86-64.so.2" ||
+            stop "programs are for x86-64, and its emulator is missing here: apt-get install qemu-user libc6-amd64-cross"
+        # The loader is named with its own libraries: others for x86-64 may stand on this machine, and do not go with it.
+        runner=(qemu-x86_64 "$cross/lib64/ld-linux-x86-64.so.2" --library-path "$cross/lib")
         ;;
     *) stop "programs run on x86_64 and aarch64, and this processor is ${machine:-unknown}" ;;
     esac
