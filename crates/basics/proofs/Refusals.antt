@@ -2,7 +2,6 @@
 use Prim.Native.Nat.{ℕ}
 use mathlib.Core.Path.{◌≡◌, refl, ◌∙◌, sym, subst}
 use mathlib.Core.Logic.{inl, inr}
-use Rattle.basics.specs.Lowest.{All, Lowest}
 use Rattle.basics.specs.Refusals.{Refusals, unless_at, unless, lowest, ◌then◌, ◌called◌, Told, OneFault, Exactly}
 use Rattle.basics.specs.declared.Checked.{Checked}
 use Rattle.basics.specs.declared.Checked.TheVariants as checked
