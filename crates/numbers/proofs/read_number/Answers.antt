@@ -1,0 +1,61 @@
+-- `numbers::read_number` meets its contract: after each byte `Passed` holds, and each way out of the loop is one of its laws.
+-- Assumes nothing.
+use Rattle.std.proofs.Common.{arith}
+use Rattle.numbers.proofs.Passing.{passed_none, passed_end, AtByte, byte_unfit, byte_last, byte_more, last_fits, more_fits, more_left}
+use Rattle.numbers.proofs.read_number.Goals.{After-group_kind-kind}
+use Rattle.numbers.proofs.read_number.Goals as goal
+
+-- The byte after the bytes that were passed, once its kind is told.
+abbrev at_byte : After-group_kind-kind → AtByte
+at_byte c =
+    record {
+      s = c.args.bytes.now;
+      at = c.args.at;
+      next = c.loop-next.next;
+      before = c.loop-next.before;
+      weight = c.loop-next.weight;
+      value = c.loop-next.value;
+      b = c.wide-b.result;
+      kind = c.group_kind-kind.result;
+      passed = c.loop-next.invariant;
+      inside = search;
+      is = c.wide-b.ensures;
+      byte = omega (arith, c.type_inv.bytes c.loop-next.next);
+      told = c.group_kind-kind.ensures;
+    }
+
+pub loop-next-init : goal.loop-next-init
+loop-next-init c = passed_none _ _
+
+pub returns-then-bytes-next : goal.returns-then-bytes-next
+returns-then-bytes-next c = search passed_end
+
+pub returns-in-Bad : goal.returns-in-Bad
+returns-in-Bad c = let a : AtByte = at_byte (goal.at.returns-in-Bad c).After-group_kind-kind in search (byte_unfit a)
+
+pub overflow_mul-result : goal.overflow_mul-result
+overflow_mul-result c = let a : AtByte = at_byte (goal.at.overflow_mul-result c).After-group_kind-kind in let f = last_fits a search in omega arith
+
+pub overflow_add-result : goal.overflow_add-result
+overflow_add-result c = let a : AtByte = at_byte (goal.at.overflow_add-result c).After-group_kind-kind in let f = last_fits a search in omega arith
+
+pub overflow_cast-result : goal.overflow_cast-result
+overflow_cast-result c = let a : AtByte = at_byte (goal.at.overflow_cast-result c).After-group_kind-kind in let f = last_fits a search in omega arith
+
+pub returns-in-Last : goal.returns-in-Last
+returns-in-Last c = let a : AtByte = at_byte (goal.at.returns-in-Last c).After-group_kind-kind in search (byte_last a)
+
+pub overflow_mul-value : goal.overflow_mul-value
+overflow_mul-value c = let a : AtByte = at_byte (goal.at.overflow_mul-value c).After-group_kind-kind in let f = more_fits a search in omega arith
+
+pub overflow_add-value : goal.overflow_add-value
+overflow_add-value c = let a : AtByte = at_byte (goal.at.overflow_add-value c).After-group_kind-kind in let f = more_fits a search in omega arith
+
+pub overflow_mul-weight : goal.overflow_mul-weight
+overflow_mul-weight c = let a : AtByte = at_byte (goal.at.overflow_mul-weight c).After-group_kind-kind in let f = more_fits a search in omega arith
+
+pub loop-next-smaller : goal.loop-next-smaller
+loop-next-smaller c = let a : AtByte = at_byte (goal.at.loop-next-smaller c).After-group_kind-kind in let f = more_left a search in omega arith
+
+pub loop-next-preserved : goal.loop-next-preserved
+loop-next-preserved c = let a : AtByte = at_byte (goal.at.loop-next-preserved c).After-group_kind-kind in search (byte_more a)

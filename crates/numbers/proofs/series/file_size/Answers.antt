@@ -1,0 +1,17 @@
+-- `numbers::series::file_size` meets its contract: the sum so far is the size of the words passed. Assumes nothing.
+use Rattle.std.proofs.Common.{arith}
+use Rattle.numbers.proofs.Rows.{sizing_start, sizing_few, sizing_next, sizing_end}
+use Rattle.numbers.proofs.series.file_size.Goals as goal
+
+pub loop-i-init : goal.loop-i-init
+loop-i-init c = sizing_start _
+
+pub overflow_add-size : goal.overflow_add-size
+overflow_add-size c =
+    omega (arith, sizing_few c.loop-i.invariant {n = c.number_size-size.result} (search) c.number_size-size.ensures)
+
+pub loop-i-preserved : goal.loop-i-preserved
+loop-i-preserved c = search sizing_next
+
+pub returns : goal.returns
+returns c = search sizing_end
