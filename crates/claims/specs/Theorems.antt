@@ -15,7 +15,7 @@ TestTimesOneAnswer = (n : ℕ) (ws ts : List ℤ) (r r' : TimesTest) → TestsTi
 abbrev pub TestChainOneAnswer : Type 0
 TestChainOneAnswer = (n : ℕ) (ws : List ℤ) (ks : List ℕ) (r r' : ChainTest) → TestsChain n ws ks r → TestsChain n ws ks r' → r ≡ r'
 
--- In a network that is not refused, each test says yes exactly when the definition holds. Of times that are fewer than the events (is-kept does not speak of them),
+-- In a network that is not refused, each test says yes exactly when the definition holds. Of times that are fewer than the events (is_kept does not speak of them),
 -- `KeepsOne` says what is kept.
 pub record TestsAreExact : Type 0 where
   pub kept : (n : ℕ) (ws ts : List ℤ) (r : TimesTest) → NetworkInRange n ws → TestsTimes n ws ts r → r ≡ times.Kept → Keeps (network_of ws) (times_of ts)

@@ -19,7 +19,7 @@ in_front : (t : List ℕ) (a p : ℕ) (qs : List Place) → FirstViolated t a p 
 in_front t a p [] first all i = absurd i
 in_front t a p (q ∷ qs) first all (inl e) = (qs, ap (λ (x : Place). x ∷ qs) (sym e))
 in_front t a p (q ∷ qs) first all (inr i) =
-    absurd (all.violated q (inl refl) (first.before q.leg q.place (all.places_of q (inl refl)) (all.in_order.0 (place_at a p) i)))
+    absurd (all.violated q (inl refl) (first.before q.leg q.place (all.places_is q (inl refl)) (all.in_order.0 (place_at a p) i)))
 
 pub surveys_agree : SurveysAgree
 surveys_agree = record {

@@ -43,7 +43,7 @@ pub record MoreCases : Type 0 where
 
 -- Document 02's L1: how long frames hold their link; and two slots end to end without the gap are violated, in Plan A, and in Plan B with unequal frames. There leg 0 is
 -- on the wire for 576 ns and leg 2 for 12,240 ns (case 1). Leg 2 at 576 is sent just when leg 0 is through; at 37,760 its second frame is through at 37,760 + 150,000 +
--- 12,240 = 200,000, just when leg 0 is sent. With the gap of 96 ns both hold, but not with 95 (overlap-first, overlap-second).
+-- 12,240 = 200,000, just when leg 0 is sent. With the gap of 96 ns both hold, but not with 95 (overlap_first, overlap_second).
 pub record GapCases : Type 0 where
   pub held : (hold_time 64 8 ≡ 672) × (hold_time 1522 8 ≡ 12336)
   -- At the other rates, and a window at 10 Mb/s, where the gap is 9,600 ns.

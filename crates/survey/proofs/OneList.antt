@@ -48,8 +48,8 @@ same_lists (q ∷ qs) (r ∷ rs) o p to from =
 
 pub one_list_of_violated : OneListOfViolated
 one_list_of_violated t qs rs f g = same_lists qs rs f.in_order g.in_order
-    (λ s i. g.all s.leg s.place (f.places_of s i) (f.violated s i))
-    (λ s i. f.all s.leg s.place (g.places_of s i) (g.violated s i))
+    (λ s i. g.all s.leg s.place (f.places_is s i) (f.violated s i))
+    (λ s i. f.all s.leg s.place (g.places_is s i) (g.violated s i))
 
 pub survey_one_answer : SurveyOneAnswer
 survey_one_answer t c d one other s u v w = one_list_of_violated t (noted one) (noted other) (surveys_tell_all t c one s v) (surveys_tell_all t d other u w)

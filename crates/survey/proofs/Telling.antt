@@ -24,7 +24,7 @@ use Rattle.survey.specs.Theorems.{AllViolated, SurveysTellAll, NothingNoted}
 
 -- The same from a rank on.
 record From (t : List ℕ) (n : ℕ) (places : List Place) : Type 0 where
-  places_of : (q : Place) → In q places → IsPlace t q.leg q.place
+  places_is : (q : Place) → In q places → IsPlace t q.leg q.place
   after : (q : Place) → In q places → n ≤ rank q.leg q.place
   violated : (q : Place) → In q places → PlaceHolds t q.leg q.place → ⊥
   all : (a p : ℕ) → IsPlace t a p → n ≤ rank a p → (PlaceHolds t a p → ⊥) → In (place_at a p) places
@@ -39,7 +39,7 @@ module _ (t : List ℕ) where
   -- Nothing is violated from a rank on.
   none_from : {n : ℕ} → HoldFrom t n (place_count t) → From t n []
   none_from h = record {
-    places_of = λ q i. absurd i;
+    places_is = λ q i. absurd i;
     after = λ q i. absurd i;
     violated = λ q i. absurd i;
     all = λ a p i from broken. absurd (broken (h a p i from (place_rank {t = t} i)));
@@ -50,7 +50,7 @@ module _ (t : List ℕ) where
   -- What was passed holds, so nothing more is violated from there on.
   earlier_from : {n m : ℕ} {places : List Place} → n ≤ m → HoldFrom t n m → From t m places → From t n places
   earlier_from {n} {m} {places} l h f = record {
-    places_of = f.places_of;
+    places_is = f.places_is;
     after = λ q i. omega (arith, f.after q i);
     violated = f.violated;
     all = λ a p i from broken. ⊎_elim
@@ -67,7 +67,7 @@ module _ (t : List ℕ) where
   -- A violated place, and those right after it on.
   one_more : {a p : ℕ} {places : List Place} → IsPlace t a p → (PlaceHolds t a p → ⊥) → From t (rank a p + 1) places → From t (rank a p) (place_at a p ∷ places)
   one_more {a} {p} {places} i broken f = record {
-    places_of = λ q. ⊎_elim (λ (e : q ≡ place_at a p). subst (λ (z : Place). IsPlace t z.leg z.place) (sym e) i) (f.places_of q);
+    places_is = λ q. ⊎_elim (λ (e : q ≡ place_at a p). subst (λ (z : Place). IsPlace t z.leg z.place) (sym e) i) (f.places_is q);
     after = λ q. ⊎_elim
         (λ (e : q ≡ place_at a p). subst (λ (z : Place). rank a p ≤ rank z.leg z.place) (sym e) (omega arith))
         (λ (k : In q places). omega (arith, f.after q k));
@@ -80,7 +80,7 @@ module _ (t : List ℕ) where
         inl cc)
         (λ (h : rank a p + 1 ≤ rank b s). inr (f.all b s j h bad))
         (lt_or_ge (rank b s) (rank a p + 1));
-    in_order = (λ r k. (order_by_leg t a p r.leg r.place (inl i) (inl (f.places_of r k))).0 (omega (arith, f.after r k)), f.in_order);
+    in_order = (λ r k. (order_by_leg t a p r.leg r.place (inl i) (inl (f.places_is r k))).0 (omega (arith, f.after r k)), f.in_order);
     none = λ e. absurd (not_empty e);
   }
 
@@ -101,7 +101,7 @@ module _ (t : List ℕ) where
   told_from c (answer.Refused k p d ∷ rest) s = absurd s
 
   whole : {places : List Place} → From t 0 places → AllViolated t places
-  whole f = record { places_of = f.places_of; violated = f.violated; all = λ a p i. f.all a p i (omega arith); in_order = f.in_order }
+  whole f = record { places_is = f.places_is; violated = f.violated; all = λ a p i. f.all a p i (omega arith); in_order = f.in_order }
 
 from_start : (t : List ℕ) (c : Cursor) (answers : List SliceAnswer) → Starts t (Granted c) → Surveys t c answers → From t 0 (noted answers)
 from_start t c answers s v = subst (λ m. From t m (noted answers)) (start_rank s) (told_from t c answers v)
@@ -112,7 +112,7 @@ surveys_tell_all t c answers s v = whole t (from_start t c answers s v)
 -- Where the rules hold, a list of violated places is empty.
 none_of : {t : List ℕ} (qs : List Place) → AllViolated t qs → RulesHold t → qs ≡ []
 none_of [] f h = refl
-none_of {t} (q ∷ qs) f h = absurd (broken_rules t q.leg q.place (f.places_of q (inl refl)) (f.violated q (inl refl)) h)
+none_of {t} (q ∷ qs) f h = absurd (broken_rules t q.leg q.place (f.places_is q (inl refl)) (f.violated q (inl refl)) h)
 
 pub nothing_noted : NothingNoted
 nothing_noted = record {

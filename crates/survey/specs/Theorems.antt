@@ -14,7 +14,7 @@ use Rattle.survey.specs.Survey.{Surveys, noted}
 
 -- These are exactly the violated places of table t, in order, and each once.
 pub record AllViolated (t : List ℕ) (places : List Place) : Type 0 where
-  pub places_of : (q : Place) → In q places → IsPlace t q.leg q.place
+  pub places_is : (q : Place) → In q places → IsPlace t q.leg q.place
   pub violated : (q : Place) → In q places → PlaceHolds t q.leg q.place → ⊥
   pub all : (a p : ℕ) → IsPlace t a p → (PlaceHolds t a p → ⊥) → In (place_at a p) places
   pub in_order : InOrder places
