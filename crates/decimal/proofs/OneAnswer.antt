@@ -1,12 +1,11 @@
 -- Reading a number has one answer: the first byte that is no digit is one, and digits are worth one number. Assumes nothing.
 use Prim.Native.Nat.{ℕ, ◌≤◌, ◌<◌}
-use mathlib.Core.Path.{◌≡◌, refl, ◌∙◌, sym, ap}
-use mathlib.Core.List.{List, [], ◌∷◌}
+use mathlib.Core.Path.{◌≡◌, refl, ◌∙◌, sym}
+use mathlib.Core.List.{List}
 use mathlib.Core.Logic.{◌⊎◌, inl, inr}
-use lib.ListN.{length, get_or}
 use native.Mathlib.Omega.{arith}
 use Rattle.basics.proofs.Splits.{lt_or_ge}
-use Rattle.decimal.specs.Decimal.{worth_after, worth_of, AllDigits, FirstOther, Typed}
+use Rattle.decimal.specs.Decimal.{worth_after, AllDigits, FirstOther}
 use Rattle.decimal.specs.Theorems.{ReadDecimalOneAnswer, DecimalsAtNumbers}
 use Rattle.decimal.specs.declared.Decimal.TheVariants as decimal
 
