@@ -1,0 +1,27 @@
+-- `shape::doubles::new_told` meets its contract: along the chain of the link's bucket every link passed has other ends. Assumes nothing.
+use Rattle.shape.proofs.DoubleLaws.{its_link_lies, chain_begins, earlier_link_lies, chain_meets, earlier_room, chain_less, chain_goes_on, chain_ends}
+use Rattle.shape.proofs.doubles.new_told.Goals as goal
+
+pub link_in-l-requires : goal.link_in-l-requires
+link_in-l-requires c = search its_link_lies
+
+pub loop-c-init : goal.loop-c-init
+loop-c-init c = search chain_begins
+
+pub link_in-m-requires : goal.link_in-m-requires
+link_in-m-requires c = search earlier_link_lies
+
+pub returns-in-Yes : goal.returns-in-Yes
+returns-in-Yes c = search chain_meets
+
+pub bounds-earlier-j : goal.bounds-earlier-j
+bounds-earlier-j c = search earlier_room
+
+pub loop-c-smaller : goal.loop-c-smaller
+loop-c-smaller c = search chain_less
+
+pub loop-c-preserved : goal.loop-c-preserved
+loop-c-preserved c = search chain_goes_on
+
+pub returns : goal.returns
+returns c = search chain_ends
