@@ -7,10 +7,9 @@ use mathlib.Core.List.{List, [], ◌∷◌, ◌++◌}
 use mathlib.Core.Logic.{inr}
 use lib.ListN.{length, get_or, length-append}
 use native.Mathlib.Omega.{arith}
-use Rattle.numbers.specs.Series.{AllWords, file_of, Row, overlaid, Laid}
+use Rattle.numbers.specs.Series.{file_of, Row, overlaid, Laid}
 use Rattle.numbers.specs.Steps.{Numbers, AllNumbers, Stopped, Filled}
 use Rattle.numbers.proofs.Rows.{row_append, row_whole, row_same, file_row}
-use Rattle.numbers.proofs.Overlay.{overlaid_all}
 use Rattle.table.specs.Layout.{head_words, words_in, LimitsIn, SizedIn}
 use Rattle.table.specs.Size.{LimitsTold}
 use Rattle.table.specs.declared.Edition.{Edition}

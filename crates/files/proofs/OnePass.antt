@@ -1,7 +1,7 @@
 -- A plan file taken into the reader's own words: the header lies in the first five, the records after it, and together they are the table.
 -- Assumes nothing.
-use Prim.Native.Nat.{ℕ, ◌+◌, ◌-◌, ◌≤◌, ◌<◌}
-use mathlib.Core.Path.{◌≡◌, refl, ◌∙◌, sym, ap, subst}
+use Prim.Native.Nat.{ℕ, ◌-◌, ◌≤◌, ◌<◌}
+use mathlib.Core.Path.{◌≡◌, ◌∙◌, sym, ap, subst}
 use mathlib.Core.List.{List, ◌++◌, append_assoc}
 use mathlib.Core.Logic.{inl}
 use lib.ListN.{length, take, drop, length-append, length-drop}
@@ -10,13 +10,12 @@ use native.Mathlib.Omega.{arith}
 use Rattle.numbers.specs.Series.{Row}
 use Rattle.numbers.specs.Steps.{Numbers, Stopped}
 use Rattle.table.specs.Layout.{current, head_words, max_table_words}
-use Rattle.table.specs.Size.{LimitsTold}
 use Rattle.table.specs.declared.Limits.{Limits}
 use Rattle.table.specs.declared.Limits.TheVariants.{Within}
 use Rattle.files.specs.Reading.{Cut, Over}
 use Rattle.files.specs.Plan.{PlanDue, InFront}
 use Rattle.table.specs.Layout.{Sized}
-use Rattle.files.proofs.Looking.{Header, within, header_first, table_over, table_cut, table_is, table_size}
+use Rattle.files.proofs.Looking.{Header, within, table_over, table_cut, table_is, table_size}
 
 -- Words that have room for any table, with the reader's header in front.
 module _ (w : List ℕ) (room : max_table_words ≤ length w) where
