@@ -15,7 +15,7 @@ use Rattle.overlap.specs.Meeting.{NeverMeet}
 use Rattle.overlap.proofs.Law.{meeting_is_symmetric}
 use Rattle.rules.specs.Times.{preamble_octets, gap_octets, hold_octets, lasting, wire_time, hold_time, hold_of, wire_of, slot_of}
 use Rattle.rules.specs.Rules.{Window, Overlap}
-use Rattle.rules.specs.Gap.{sent_in, gap_of, GapKept, OverlapIsTheGap, WindowKeepsTheGap}
+use Rattle.rules.specs.Gap.{sent_in, gap_of, OverlapIsTheGap, WindowKeepsTheGap}
 
 -- A frame holds its link for its wire time and the gap.
 hold_is : (octets rate : ℕ) → hold_time octets rate ≡ wire_time octets rate + lasting gap_octets rate

@@ -1,0 +1,28 @@
+-- `rules::times::start_time` meets its contract: no more periods than the most, and none longer than the longest. Assumes nothing.
+use Rattle.std.proofs.Common.{ℕ, ◌*◌, ◌≤◌, mul-le-mul, arith}
+use Rattle.shape.specs.Streams.{max_period, max_periods}
+use Rattle.rules.specs.Times.{start_time}
+use Rattle.rules.proofs.times.start_time.Goals as goal
+
+-- So late a leg lies at the most.
+latest : (n p : ℕ) → n ≤ max_periods → p ≤ max_period → n * p ≤ max_periods * max_period
+latest n p few short = mul-le-mul few short
+
+pub overflow_mul-late : goal.overflow_mul-late
+overflow_mul-late c =
+    let l = latest c.wide.result c.wide-2.result (omega arith) (omega arith) in
+    omega arith
+
+pub overflow_add-result : goal.overflow_add-result
+overflow_add-result c =
+    let l = latest c.wide.result c.wide-2.result (omega arith) (omega arith) in
+    omega arith
+
+pub returns : goal.returns
+unfolding start_time
+returns c =
+    let l = latest c.wide.result c.wide-2.result (omega arith) (omega arith) in
+    let n = c.wide.ensures.0 in
+    let p = c.wide-2.ensures.0 in
+    let o = c.wide-3.ensures.0 in
+    record { same = cc; small = omega arith }
