@@ -1,13 +1,13 @@
 -- The places of one leg, one after the other. Assumes nothing.
-use Prim.Native.Nat.{ℕ, ◌+◌, ◌-◌, ◌≤◌, ◌<◌}
-use mathlib.Core.Path.{◌≡◌, refl, sym, subst}
+use Prim.Native.Nat.{ℕ, ◌+◌, ◌≤◌, ◌<◌}
+use mathlib.Core.Path.{◌≡◌, sym, subst}
 use mathlib.Core.List.{List}
 use mathlib.Core.Logic.{⊎_elim}
 use native.Mathlib.Nat.{eq-or-lt_of_le}
 use native.Mathlib.Omega.{arith}
 use Rattle.basics.proofs.Splits.{lt_or_ge}
 use Rattle.table.specs.Layout.{max_legs}
-use Rattle.rules.specs.Places.{own_places, pair_place, places_of, PlaceHolds, PairHolds, JudgedTold}
+use Rattle.rules.specs.Places.{pair_place, places_of, PlaceHolds, PairHolds, JudgedTold}
 use Rattle.rules.specs.Steps.{LegIn, PlaceWith}
 use Rattle.rules.specs.declared.Judged.{Judged}
 use Rattle.rules.specs.declared.Judged.TheVariants as judged
@@ -17,8 +17,6 @@ use Rattle.basics.specs.Lowest.{Lowest}
 use Rattle.basics.specs.declared.Found.{Found}
 use Rattle.basics.specs.declared.Found.TheVariants as found
 use Rattle.places.specs.Told.{LegHolds, FirstBroken, ToldOfPairs, BrokenFrom, WholeFrom, NextPlace}
-use Rattle.places.specs.declared.LegTold.{LegTold}
-use Rattle.places.specs.declared.LegTold.TheVariants.{Broken, Kept}
 
 -- Each turn: the places of leg a from p on and below q were passed.
 pub record Passed (t : List ℕ) (a p q : ℕ) : Type 0 where

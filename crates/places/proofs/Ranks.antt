@@ -3,7 +3,7 @@ use Prim.Native.Nat.{ℕ, zero, suc, ◌+◌, ◌*◌, ◌-◌, ◌/◌, ◌≤�
 use mathlib.Core.Path.{◌≡◌, refl, ◌∙◌, sym, ap, subst}
 use mathlib.Core.List.{List}
 use mathlib.Core.Logic.{inl, inr, ⊎_elim}
-use native.Mathlib.Nat.{add-zero, add-mul, mul-add, mul-sub, mul-one, eq-or-lt_of_le, le-mul_of_pos_right, mul-div_cancel_left}
+use native.Mathlib.Nat.{add-zero, add-mul, mul-add, mul-sub, mul-one, eq-or-lt_of_le, mul-div_cancel_left}
 use native.Mathlib.Numerals.{add-one}
 use native.Mathlib.Omega.{arith}
 use Rattle.basics.proofs.Splits.{lt_or_ge}

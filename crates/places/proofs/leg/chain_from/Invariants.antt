@@ -1,0 +1,10 @@
+-- `places::leg::chain_from` meets its contract: no leg of the link is passed over from n on. Assumes nothing.
+use Rattle.std.proofs.Common.{◌-◌}
+use Rattle.places.proofs.ChainLaws.{Seeking}
+use Rattle.places.proofs.leg.chain_from.Given as goal
+
+abbrev pub invariant-loop-b : goal.invariant-loop-b
+invariant-loop-b l = Seeking l.t l.next l.l l.n l.b
+
+abbrev pub decreases-loop-b : goal.decreases-loop-b
+decreases-loop-b l = l.n - l.b
