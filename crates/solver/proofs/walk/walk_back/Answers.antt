@@ -1,0 +1,78 @@
+-- `solver::walk::walk_back` meets its contract: the walk ends, since each step leaves an event that was not left before. Assumes nothing.
+use Rattle.std.proofs.Common.{◌≡◌, ℕ, ◌+◌, ◌-◌, ◌<◌, ◌≤◌, arith, get_or}
+use Rattle.solver.proofs.SteppingBack.{space, found, short}
+use Rattle.solver.proofs.walk.walk_back.Goals.{After-loop-seen, At-loop-seen, In-loop-seen}
+use Rattle.solver.proofs.walk.walk_back.Goals as goal
+
+here : (c : At-loop-seen) → c.loop-seen.x < 128
+here c = omega (arith, c.loop-seen.invariant.walked.here, c.requires.network_in_range.size.events)
+
+walked-in : (c : At-loop-seen) → c.loop-seen.k ≤ 128
+walked-in c = omega (arith, c.loop-seen.invariant.walked.count, c.requires.network_in_range.size.events)
+
+space-of : (c : In-loop-seen) → c.loop-seen.k < c.args.events
+space-of c =
+    space c.args.events c.args.constraints.now c.args.by.now c.loop-seen.k c.loop-seen.x c.loop-seen.path c.loop-seen.seen c.requires.network_in_range c.loop-seen.invariant c.loop-seen-test.true
+
+met : (c : After-loop-seen) → 0 < get_or c.loop-seen.seen c.loop-seen.x 0
+met c = omega (arith, c.loop-seen-test.false)
+
+seen_in : (c : After-loop-seen) → get_or c.loop-seen.seen c.loop-seen.x 0 ≤ c.loop-seen.k
+seen_in c =
+    (c.loop-seen.invariant.walked.found c.loop-seen.x c.loop-seen.invariant.walked.here (met c)).0
+
+pub loop-seen-init : goal.loop-seen-init
+loop-seen-init c = c.requires.walking
+
+pub offset_bounds-seen-x : goal.offset_bounds-seen-x
+offset_bounds-seen-x c = record { fits = omega (arith, here (goal.at.offset_bounds-seen-x c).At-loop-seen) }
+
+pub bounds-seen-x : goal.bounds-seen-x
+bounds-seen-x c = omega (arith, here (goal.at.bounds-seen-x c).At-loop-seen)
+
+pub back-x-requires-clause-k_lt_max_events : goal.back-x-requires-clause-k_lt_max_events
+back-x-requires-clause-k_lt_max_events c = (omega (arith, space-of (goal.at.back-x-requires-clause-k_lt_max_events c).In-loop-seen, c.requires.network_in_range.size.events), omega (arith, here (goal.at.back-x-requires-clause-k_lt_max_events c).At-loop-seen))
+
+pub back-x-requires-clause-network_in_range : goal.back-x-requires-clause-network_in_range
+back-x-requires-clause-network_in_range c = c.requires.network_in_range
+
+pub back-x-requires-clause-walking : goal.back-x-requires-clause-walking
+back-x-requires-clause-walking c = c.loop-seen.invariant
+
+pub back-x-requires-clause-x_value : goal.back-x-requires-clause-x_value
+back-x-requires-clause-x_value c = c.loop-seen-test.true
+
+pub overflow_add-k : goal.overflow_add-k
+overflow_add-k c = record { fits = omega (arith, space-of (goal.at.overflow_add-k c).In-loop-seen, c.requires.network_in_range.size.events) }
+
+pub loop-seen-smaller : goal.loop-seen-smaller
+loop-seen-smaller c = omega (arith, space-of (goal.at.loop-seen-smaller c).In-loop-seen)
+
+pub loop-seen-preserved : goal.loop-seen-preserved
+loop-seen-preserved c = c.back-x.ensures
+
+pub overflow_sub-result : goal.overflow_sub-result
+overflow_sub-result c = omega (arith, walked-in (goal.at.overflow_sub-result c).At-loop-seen)
+
+pub overflow_add-result : goal.overflow_add-result
+overflow_add-result c = record { fits = omega (arith, walked-in (goal.at.overflow_add-result c).At-loop-seen) }
+
+pub offset_bounds-seen-x-2 : goal.offset_bounds-seen-x-2
+offset_bounds-seen-x-2 c = record { fits = omega (arith, here (goal.at.offset_bounds-seen-x-2 c).At-loop-seen) }
+
+pub bounds-seen-x-2 : goal.bounds-seen-x-2
+bounds-seen-x-2 c = omega (arith, here (goal.at.bounds-seen-x-2 c).At-loop-seen)
+
+pub overflow_sub-result-2 : goal.overflow_sub-result-2
+overflow_sub-result-2 c = omega (arith, seen_in (goal.at.overflow_sub-result-2 c).After-loop-seen)
+
+pub returns : goal.returns
+returns c =
+    let len : ℕ = c.loop-seen.k + 1 - get_or c.loop-seen.seen c.loop-seen.x 0 in
+    let e : len + get_or c.loop-seen.seen c.loop-seen.x 0 ≡ c.loop-seen.k + 1 = omega (arith, seen_in (goal.at.returns c).After-loop-seen) in
+    record {
+      chain = found c.args.events c.args.constraints.now c.args.by.now c.loop-seen.k c.loop-seen.x c.loop-seen.path c.loop-seen.seen c.requires.network_in_range c.loop-seen.invariant (met (goal.at.returns c).After-loop-seen) len e;
+      short = short c.args.events c.args.constraints.now c.args.by.now c.loop-seen.k c.loop-seen.x c.loop-seen.path c.loop-seen.seen c.requires.network_in_range c.loop-seen.invariant (met (goal.at.returns c).After-loop-seen) len e;
+      within = omega (arith, seen_in (goal.at.returns c).After-loop-seen, met (goal.at.returns c).After-loop-seen, walked-in (goal.at.returns c).At-loop-seen);
+      long = c.loop-seen.invariant.paths;
+    }
