@@ -1,7 +1,7 @@
 -- Records made longer, word by word, and how long the table is that an older one becomes. Assumes nothing.
 use Prim.Native.Nat.{ℕ, zero, suc, ◌+◌, ◌*◌, ◌-◌, ◌≤◌, ◌<◌}
 use mathlib.Core.Path.{◌≡◌, refl, ◌∙◌, sym, ap}
-use mathlib.Core.List.{List, [], ◌∷◌, ◌++◌, append_assoc}
+use mathlib.Core.List.{List, [], ◌++◌, append_assoc}
 use lib.ListN.{length, get_or, take, drop, replicate, length-append, length-drop, length-replicate, get_or-replicate, get_or-append}
 use lib.Seq.{length-take-le, take-add, take_at, drop_at, get_or-take, get_or-drop, get_or-append-add}
 use native.Mathlib.Nat.{mul-suc, mul-zero}
