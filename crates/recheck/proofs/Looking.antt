@@ -18,7 +18,7 @@ use Rattle.rules.specs.declared.Judged.{Judged}
 use Rattle.rules.specs.declared.Judged.TheVariants as judged
 use Rattle.rules.specs.declared.Rule.{Rule}
 use Rattle.places.proofs.Ranks.{below_mono, below_more, places_at_most}
-use Rattle.recheck.specs.Listed.{can_read, place_at, listed_below, listed}
+use Rattle.recheck.specs.Listed.{can_read, place_at, listed_below}
 use Rattle.recheck.specs.Rechecks.{CanRecheck, AllHold, Rechecks}
 use Rattle.recheck.specs.Steps.{listed_to, LookedTo, BrokenAt, StepTold, Later, Words}
 use Rattle.recheck.specs.declared.Place.{Place}

@@ -1,0 +1,10 @@
+-- `recheck::recheck` meets its contract. Assumes nothing.
+use Rattle.std.proofs.Common.{inl, subst}
+use Rattle.shape.specs.Shape.{ShapeTold}
+use Rattle.recheck.proofs.recheck.Goals as goal
+
+pub leg_rechecked-requires : goal.leg_rechecked-requires
+leg_rechecked-requires c = subst (ShapeTold _) c.in-Clear.is c.judged_shape-told.ensures
+
+pub returns-in-Refused : goal.returns-in-Refused
+returns-in-Refused c = inl (subst (ShapeTold _) c.in-Refused.is c.judged_shape-told.ensures)
