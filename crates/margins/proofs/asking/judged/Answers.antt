@@ -1,0 +1,10 @@
+-- `margins::asking::judged` meets its contract. Assumes nothing.
+use Rattle.std.proofs.Common.{inl, subst}
+use Rattle.shape.specs.Shape.{ShapeTold}
+use Rattle.margins.proofs.asking.judged.Goals as goal
+
+pub placed-requires : goal.placed-requires
+placed-requires c = subst (ShapeTold _) c.in-Clear.is c.judged_shape-told.ensures
+
+pub returns-in-Refused : goal.returns-in-Refused
+returns-in-Refused c = inl (subst (ShapeTold _) c.in-Refused.is c.judged_shape-told.ensures)
