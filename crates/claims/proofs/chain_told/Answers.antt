@@ -90,7 +90,7 @@ pub returns-then-at-first : goal.returns-then-at-first
 returns-then-at-first c = not_closed c.loop-a.invariant.1 (omega arith) (omega arith) c.if-at-first.true
 
 pub returns-then-sum-ge0 : goal.returns-then-sum-ge0
-returns-then-sum-ge0 c = not_negative c.loop-a.invariant.1 (omega arith) (omega arith) (le_true c.if-sum-ge0.true)
+returns-then-sum-ge0 c = not_negative c.loop-a.invariant.1 (omega arith) (omega arith) (le_true (search))
 
 pub returns : goal.returns
-returns c = closes c.loop-a.invariant.1 (omega arith) (omega arith) c.if-at-first.false (le_false c.if-sum-ge0.false)
+returns c = closes c.loop-a.invariant.1 (omega arith) (omega arith) c.if-at-first.false (le_false (search))
