@@ -1,6 +1,6 @@
 -- Two lists of exactly the violated places, both in order, are one. Assumes nothing.
-use Prim.Native.Nat.{ℕ, ◌<◌}
-use mathlib.Core.Path.{◌≡◌, refl, sym, subst, ap}
+use Prim.Native.Nat.{◌<◌}
+use mathlib.Core.Path.{◌≡◌, refl, sym, subst}
 use mathlib.Core.List.{List, [], ◌∷◌}
 use mathlib.Core.Logic.{inl, inr, ⊎_elim}
 use native.Mathlib.Omega.{arith}
@@ -8,7 +8,7 @@ use Rattle.places.specs.Order.{Earlier}
 use Rattle.recheck.specs.Theorems.{In, InOrder}
 use Rattle.recheck.specs.declared.Place.{Place}
 use Rattle.survey.specs.Survey.{noted}
-use Rattle.survey.specs.Theorems.{AllViolated, OneListOfViolated, SurveyOneAnswer}
+use Rattle.survey.specs.Theorems.{OneListOfViolated, SurveyOneAnswer}
 use Rattle.survey.proofs.Telling.{surveys_tell_all}
 
 -- Of two places only one comes before the other.

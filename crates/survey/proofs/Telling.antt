@@ -8,10 +8,10 @@ use Rattle.basics.proofs.Splits.{lt_or_ge}
 use Rattle.files.specs.declared.Cursor.{Cursor}
 use Rattle.rules.specs.Rules.{RulesHold}
 use Rattle.rules.specs.Places.{PlaceHolds}
-use Rattle.places.specs.Order.{rank, IsPlace, HoldFrom, place_count, Earlier}
+use Rattle.places.specs.Order.{rank, IsPlace, HoldFrom, place_count}
 use Rattle.places.proofs.Ranks.{place_rank, end_rank, order_by_leg, rank_one}
 use Rattle.checker.specs.Cursors.{cursor_rank}
-use Rattle.checker.specs.Slices.{Starts, Slices}
+use Rattle.checker.specs.Slices.{Starts}
 use Rattle.checker.specs.declared.Grant.TheVariants.{Granted}
 use Rattle.checker.specs.declared.SliceAnswer.{SliceAnswer}
 use Rattle.checker.specs.declared.SliceAnswer.TheVariants as answer
