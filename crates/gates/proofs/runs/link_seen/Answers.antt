@@ -1,9 +1,6 @@
 -- `gates::runs::link_seen` meets its contract: the slots below the present one were asked. Assumes nothing.
-use Rattle.gates.proofs.Seeing.{looked_none, seen_idle}
+use Rattle.gates.proofs.Seeing.{seen_idle}
 use Rattle.gates.proofs.runs.link_seen.Goals as goal
-
-pub loop-i-init : goal.loop-i-init
-loop-i-init c = search looked_none
 
 pub returns : goal.returns
 returns c =
