@@ -5,7 +5,6 @@ use mathlib.Core.List.{List}
 use mathlib.Core.Logic.{◌⊎◌, inl, inr}
 use native.Mathlib.Omega.{arith}
 use Rattle.table.specs.Layout.{Sized}
-use Rattle.files.specs.Reading.{IsFile}
 use Rattle.shape.proofs.Refused.{sized_refused}
 use Rattle.rules.specs.Places.{rule_at, PlaceHolds}
 use Rattle.rules.specs.declared.Rule.{Rule}
@@ -19,8 +18,6 @@ use Rattle.meeting.proofs.OneAnswer.{meeting_one_answer}
 use Rattle.margins.specs.Asking.{ask_refusals}
 use Rattle.margins.specs.Margins.{Margins}
 use Rattle.margins.specs.Nearest.{Nears}
-use Rattle.margins.specs.declared.Margin.{Margin}
-use Rattle.margins.specs.declared.Spare.{Spare}
 use Rattle.margins.specs.declared.Spare.TheVariants as spare
 use Rattle.margins.specs.declared.MarginAnswer.{MarginAnswer}
 use Rattle.margins.specs.declared.MarginAnswer.TheVariants as margin
@@ -34,7 +31,7 @@ use Rattle.host.specs.declared.place_margin.MarginNumbers.{MarginNumbers}
 use Rattle.host.specs.declared.near_offsets.NearestNumbers.{NearestNumbers}
 use Rattle.host.specs.Answers.{refused_result, rule_result}
 use Rattle.host.specs.Meetings.{meeting_numbers, HostMeets}
-use Rattle.host.specs.Margins.{place_result, margin_numbers, HostMargins}
+use Rattle.host.specs.Margins.{margin_numbers, HostMargins}
 use Rattle.host.specs.NearOffsets.{nearest_numbers, HostNears}
 use Rattle.host.specs.ExplainTheorems.{HostMeetingOneAnswer, HostMarginOneAnswer, HostNearestOneAnswer, RefusedBy, TellsRefusal, ExplainResultsAreThese, HostMarginsDecide, ExplanationsInNumbers}
 use Rattle.host.proofs.Asking.{numbers_one, of_the_table, plan_results}

@@ -1,6 +1,6 @@
 -- The calls for C on gate lists at numbers: the plan files are those of the tables, whose lists are known. Assumes nothing.
 use Prim.Native.Nat.{ℕ, ◌≤◌}
-use mathlib.Core.Path.{◌≡◌, refl}
+use mathlib.Core.Path.{refl}
 use mathlib.Core.List.{List}
 use mathlib.Core.Logic.{inr}
 use native.Mathlib.Omega.{arith}
@@ -10,12 +10,12 @@ use Rattle.numbers.specs.declared.Written.{Written}
 use Rattle.numbers.specs.declared.Written.TheVariants as written
 use Rattle.numbers.proofs.Computed.{total, small_words}
 use Rattle.table.specs.Layout.{Sized}
-use Rattle.table.specs.PlanA.{PlanNumbers, plan_with, like_a, offsets_a, plan_a, hold_a}
+use Rattle.table.specs.PlanA.{PlanNumbers, plan_with, like_a, offsets_a, hold_a}
 use Rattle.files.specs.Reading.{IsFile}
 use Rattle.gate_files.specs.declared.ListRead.TheVariants as read
 use Rattle.gate_files.proofs.AtNumbers.{list_files_at_numbers}
 use Rattle.gate_lists.specs.Lists.{WritesGateList}
-use Rattle.gate_lists.specs.AtNumbers.{accepted_a, list_of_a, comb, slow_a}
+use Rattle.gate_lists.specs.AtNumbers.{list_of_a}
 use Rattle.gate_lists.proofs.AtNumbers.{gate_lists_at_numbers}
 use Rattle.host.specs.GateLists.{gates_answered, HostListsGates}
 use Rattle.host.specs.GateTheorems.{HostGatesAtNumbers}

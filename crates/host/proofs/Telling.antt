@@ -1,10 +1,9 @@
 -- What the calls for C tell of first meetings, margins and nearest offsets, put into numbers. Assumes nothing.
-use Prim.Native.Nat.{ℕ, zero, suc}
-use mathlib.Core.Path.{◌≡◌, refl, ◌∙◌, sym, ap, subst}
+use Prim.Native.Nat.{ℕ}
+use mathlib.Core.Path.{◌≡◌, ◌∙◌, sym, ap, subst}
 use mathlib.Core.List.{List}
 use mathlib.Core.Logic.{inl, inr}
 use native.Mathlib.Omega.{arith}
-use Rattle.table.specs.Layout.{leg_count}
 use Rattle.shape.specs.OfTables.{OfTable}
 use Rattle.shape.proofs.Refused.{of_table, shape_of_table}
 use Rattle.rules.specs.Places.{rule_at}
@@ -27,7 +26,6 @@ use Rattle.margins.specs.declared.MarginAnswer.TheVariants as margin
 use Rattle.margins.specs.declared.Nearest.{Nearest}
 use Rattle.margins.specs.declared.NearestAnswer.{NearestAnswer}
 use Rattle.margins.specs.declared.NearestAnswer.TheVariants as nearest
-use Rattle.host.specs.declared.first_meeting.MeetingNumbers.{MeetingNumbers}
 use Rattle.host.specs.declared.place_margin.MarginNumbers.{MarginNumbers}
 use Rattle.host.specs.declared.near_offsets.NearestNumbers.{NearestNumbers}
 use Rattle.host.specs.Answers.{refused_result, rule_result}

@@ -1,0 +1,23 @@
+-- `host::move_plan` meets its contract: the words that were read are the table of the file. Assumes nothing.
+use Rattle.host.proofs.Steps.{both_opened, front_length, opened_small, move_unopened, move_on}
+use Rattle.host.proofs.move_plan.Goals as goal
+
+pub refused-requires : goal.refused-requires
+refused-requires c =
+    opened_small _ _ _ c.in-Refused.is c.open_both-read.ensures
+
+pub slice_bounds-move_table-end : goal.slice_bounds-move_table-end
+slice_bounds-move_table-end c =
+    (both_opened _ _ _ c.in-Both.is c.open_both-read.ensures).0.inside
+
+pub slice_bounds-move_table-end-in-Both : goal.slice_bounds-move_table-end-in-Both
+slice_bounds-move_table-end-in-Both c =
+    front_length (both_opened _ _ _ c.in-Both.is c.open_both-read.ensures).0
+
+pub returns-in-Refused : goal.returns-in-Refused
+returns-in-Refused c =
+    move_unopened _ _ _ c.in-Refused.is c.open_both-read.ensures c.refused.ensures
+
+pub returns-in-Both : goal.returns-in-Both
+returns-in-Both c =
+    move_on _ _ _ c.in-Both.is c.open_both-read.ensures c.move_table.ensures
