@@ -13,9 +13,6 @@ overflow_add-size c =
     let i = c.loop-rest.invariant in
     omega (arith, rest_within _ i.0 _ i.2, number_bytes_at_most c.args.x)
 
-pub loop-rest-smaller : goal.loop-rest-smaller
-loop-rest-smaller c = omega arith
-
 pub loop-rest-preserved : goal.loop-rest-preserved
 loop-rest-preserved c =
     let i = c.loop-rest.invariant in

@@ -1,5 +1,5 @@
 -- `numbers::put_number` meets its contract: after each group the buffer holds the groups written so far. Assumes nothing.
-use Rattle.std.proofs.Common.{ℕ, ◌+◌, ◌%◌, ◌<◌, ◌≡◌, ◌∙◌, sym, ap, [], ◌∷◌, ◌++◌, length, set, length-append, length-set, arith}
+use Rattle.std.proofs.Common.{ℕ, ◌+◌, ◌%◌, ◌<◌, ◌≡◌, ◌∙◌, sym, ap, [], ◌∷◌, ◌++◌, length, set, length-append, arith}
 use Rattle.numbers.specs.Number.{group_values}
 use Rattle.numbers.specs.Series.{overlaid}
 use Rattle.numbers.proofs.Rest.{rest_none, rest_more, rest_last, rest_within}
@@ -24,20 +24,8 @@ module _ (c : At-loop-rest) where
 pub loop-rest-init : goal.loop-rest-init
 loop-rest-init c = ([], rest_none _ (omega arith), omega arith, sym (overlaid_none c.args.out.now c.args.at))
 
-pub overflow_add-out : goal.overflow_add-out
-overflow_add-out c = omega arith
-
-pub overflow_cast-out : goal.overflow_cast-out
-overflow_cast-out c = omega arith
-
 pub bounds-out-next : goal.bounds-out-next
 bounds-out-next c = inside (goal.at.bounds-out-next c).At-loop-rest
-
-pub overflow_add-next : goal.overflow_add-next
-overflow_add-next c = omega (arith, room (goal.at.overflow_add-next c).At-loop-rest, c.loop-rest.invariant.2)
-
-pub loop-rest-smaller : goal.loop-rest-smaller
-loop-rest-smaller c = omega arith
 
 pub loop-rest-preserved : goal.loop-rest-preserved
 loop-rest-preserved c =
@@ -46,17 +34,8 @@ loop-rest-preserved c =
     let l = length-append i.0 (b ∷ []) in
     (i.0 ++ (b ∷ []), rest_more _ i.0 _ c.loop-rest-test.true i.1, omega arith, one_more (goal.at.loop-rest-preserved c).At-loop-rest b)
 
-pub overflow_cast-out-2 : goal.overflow_cast-out-2
-overflow_cast-out-2 c = omega arith
-
 pub bounds-out-next-2 : goal.bounds-out-next-2
 bounds-out-next-2 c = inside (goal.at.bounds-out-next-2 c).At-loop-rest
-
-pub overflow_add-result : goal.overflow_add-result
-overflow_add-result c = omega (arith, room (goal.at.overflow_add-result c).At-loop-rest, c.loop-rest.invariant.2)
-
-pub shape_of-out : goal.shape_of-out
-shape_of-out c = simp length-set (as_long (goal.at.shape_of-out c).At-loop-rest)
 
 pub returns : goal.returns
 returns c =

