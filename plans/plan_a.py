@@ -1,6 +1,6 @@
 """Plan A and Plan B of document 01, read from their definition, crates/table/specs/PlanA.antt.
 
-words("planA") is Plan A's table, words("planA", {"revision": 1, "offset-2": 576}) the same with other numbers of PlanNumbers, and rows(..) its records one by one.
+words("plan_a") is Plan A's table, words("plan_a", {"revision": 1, "offset_2": 576}) the same with other numbers of PlanNumbers, and rows(..) its records one by one.
 """
 
 import re
@@ -100,11 +100,11 @@ class Given(dict):
 
 
 def rows(name, numbers=None):
-    """Gives the records of a plan: what stands in a line of planWith is one."""
+    """Gives the records of a plan: what stands in a line of plan_with is one."""
     definitions = Definitions()
-    definitions["planWith"] = lambda n: n
+    definitions["plan_with"] = lambda n: n
     n = {**definitions[name], **(numbers or {})}
-    lines = definitions.known["planWith"][1].strip().split("\n")
+    lines = definitions.known["plan_with"][1].strip().split("\n")
     return [Text(line.replace("[]", "").rstrip(" ∷") + " ∷ []", {"n": n}).list() for line in lines]
 
 

@@ -31,15 +31,15 @@ DEMANDS = [("demands", demand, demand) for demand in ("DemandOne", "DemandTwo", 
 
 # What the language has of its own, what every contract may say, and the constructors of the kit.
 WORDS = {"→", "×", "⊥", ":", "=", "Type", "Unit", "record", "data", "where", "pub", "abbrev", "unfoldable"}
-CONTRACT = {"now", "⌜", "⌝"}
-MOMENTS = {".entry", ".exit"}
+RESULT = "result"
+MOMENTS = {".now", ".old", ".new"}
 CONSTRUCTORS = {"zero", "suc", "[]", "∷", "true", "false"}
-KIT = ("Prim", "mathlib", "lib", "native", "borrow")
+KIT = ("std",)
 NUMBERS = {"u8", "u16", "u32", "u64", "usize", "i64", "bool"}
 
 NAME = r"[^\s(){}.;,]+"
-TOKEN = re.compile(rf"(?<![^\s(])\.{NAME}|{NAME}(?:\.{NAME})*|[(){{}}.;,]")
-RUST = re.compile(r"\w+|->|::|\"[^\"]*\"|#\[\w+\]|[^\s\w]")
+TOKEN = re.compile(rf"(?<![^\s()])\.{NAME}|{NAME}(?:\.{NAME})*|[(){{}}.;,]")
+RUST = re.compile(r"\w+|->|::|\"[^\"]*\"|#\[\w+(?:\([\w, ]*\))?\]|[^\s\w]")
 PLAIN = re.compile(rf"{NAME}$")
 
 
@@ -54,6 +54,11 @@ def content(path):
 
 def tokens(text):
     return TOKEN.findall(re.sub(r"(?m)(?<!\S)--.*$", "", text))
+
+
+def marks_of(name):
+    """The mark at the end of a name of what another became: ' or ''."""
+    return re.findall(r"(?<=[\w'])'+$", name)
 
 
 def counts_as_line(line):
@@ -72,10 +77,10 @@ def closing(toks, i, where):
 
 class Definition:
     """A definition of specs/: its text, the comment that it is read with, and the fields or constructors that it declares. An operator, written
-    _name_, stands between what it takes."""
+    ◌name◌, stands between what it takes."""
 
     def __init__(self, written, kind, comment):
-        operator = re.fullmatch(r"_(.+)_", written)
+        operator = re.fullmatch(r"◌(.+)◌", written)
         self.name, self.written, self.operator = operator.group(1) if operator else written, written, bool(operator)
         self.kind, self.comment, self.lines, self.members = kind, comment, [], []
 
@@ -106,26 +111,26 @@ class Uses:
             name = name.strip()
             if not PLAIN.match(name) or " " in name:
                 raise Unknown(f"{self.path}: a use that is not known: {line}")
-            operator = re.fullmatch(r"_(.+)_", name)
-            if target[0] == "kit" and "_" in (operator.group(1) if operator else name):
+            operator = re.fullmatch(r"◌(.+)◌", name)
+            if target[0] == "kit" and "◌" in (operator.group(1) if operator else name):
                 raise Unknown(f"{self.path}: an operator that is not known: {name}")
             self.names[operator.group(1) if operator else name] = target + (operator.group(1) if operator else name,)
 
     def target(self, module, crate, line):
         """The kit; a module of specs/; or a struct or enum of src/, by itself or for its variants."""
-        if module.split(".")[0] in KIT:
-            return ("kit", module)
-        form = re.fullmatch(r"Rattle·(\w+?)(·specs\.specs|\.specs)\.(.+)", module)
-        if not form or (form.group(1) == crate) != (form.group(2) == "·specs.specs"):
+        form = re.fullmatch(r"Rattle\.(\w+)\.specs\.(.+)", module)
+        if not form:
             raise Unknown(f"{self.path}: a use that is not known: {line}")
-        parts = form.group(3).split(".")
+        if form.group(1) in KIT:
+            return ("kit", module)
+        parts = form.group(2).split(".")
         if parts[0] != "declared":
             if len(parts) != 1:
                 raise Unknown(f"{self.path}: a use that is not known: {line}")
             return ("spec", form.group(1), parts[0])
         parts = parts[1:]
         kind = "type"
-        if parts[-1] == "the-variants":
+        if parts[-1] == "TheVariants":
             kind, parts = "variant", parts[:-1]
         return (kind, form.group(1), "/".join(parts[:-1]) or "lib", parts[-1])
 
@@ -149,7 +154,7 @@ class Spec:
                 continue
             if line.startswith("use "):
                 uses.append(line)
-            elif re.fullmatch(r"infix[lr]? \d+ _\S+_", line):
+            elif re.fullmatch(r"infix[lr]? \d+ ◌\S+◌", line):
                 continue
             elif line.startswith("--"):
                 comment, fresh = (comment if fresh else []) + [n], True
@@ -307,9 +312,8 @@ class Reading:
 
     def sign(self, sign, path):
         self.signs.setdefault(sign, path)
-        for mark in "′″":
-            if mark in sign:
-                self.signs.setdefault(mark, path)
+        for mark in marks_of(sign):
+            self.signs.setdefault(mark, path)
 
     def resolve(self, token, bound, uses, own, path):
         """Follows one name of a definition or of a contract."""
@@ -330,9 +334,8 @@ class Reading:
             self.sign("short.Name", path)
             self.follow_target(uses.short[head] + (rest[0],), path)
         elif token in bound:
-            for mark in "′″":
-                if mark in token:
-                    self.sign(mark, path)
+            for mark in marks_of(token):
+                self.sign(mark, path)
         elif own and token in own.definitions:
             self.reach(("definition", own.crate, own.module, token))
         elif own and token in own.constructors:
@@ -508,6 +511,16 @@ class Reading:
             if other not in NUMBERS:
                 self.reach(("type",) + source.type_of(other))
 
+    def at_a_moment(self, token, parameters, path):
+        """A word of a contract, where a lent parameter is told as it is, as it was or as it becomes: without that moment."""
+        head, *rest = token.split(".")
+        if head == RESULT:
+            self.sign(RESULT, path)
+        if head not in parameters or not rest or f".{rest[0]}" not in MOMENTS:
+            return token
+        self.sign(f".{rest[0]}", path)
+        return ".".join([head] + rest[1:])
+
     def follow_call(self, crate, module, name):
         source = self.source(crate, module)
         path = f"{source.path}: {name}"
@@ -531,13 +544,11 @@ class Reading:
         bound = {parameter.split(":")[0] for parameter in parameters}
         self.statements[crate, module, name] = set()
         for clause in clauses:
-            toks = [token.strip("«»") for token in tokens(clause.group(2))]
+            toks = [self.at_a_moment(token.strip("«»"), bound, path) for token in tokens(clause.group(2))]
             for token in toks:
-                if token in CONTRACT | MOMENTS:
-                    self.sign(token, path)
-                elif token in uses.names and uses.names[token][0] == "spec":
+                if token in uses.names and uses.names[token][0] == "spec":
                     self.statements[crate, module, name].add(uses.names[token][1:])
-            self.walk([token for token in toks if token not in CONTRACT | MOMENTS], bound, uses, None, path)
+            self.walk(toks, bound | {RESULT}, uses, None, path)
 
     # The list
 
@@ -610,7 +621,7 @@ def legend_signs(page):
         for code in re.findall(r"`([^`]+)`", row):
             rust.update(RUST.findall(code))
             for token in tokens(code):
-                signs.update(mark for mark in "′″" if mark in token)
+                signs.update(marks_of(token))
                 if token.startswith(".") and token != ".":
                     signs.update({".field", token} if token in MOMENTS else {".field"})
                 elif "." in token and token != ".":
