@@ -4,6 +4,7 @@
 It begins at the contracts of the public calls (docs/CALLS.md) and at the demands, and follows every name that they use, name by name: through the
 `use` lines to definitions in specs/, and to the structs and enums in src/. A form that it does not know, or a name that it cannot find, is an error.
 The rows of docs/CALLS.md are held to it too: each has a public call, its statement, the theorem of one answer, and two edits that must fail.
+A call for C stands in a library NAME and is exported by the crate NAME_c: the export has the same parameters, the same result and the same contract, and calls it.
 
 tests/reading_list.py prints the list; with --write it writes the list into docs/TRUST.md.
 """
@@ -200,7 +201,6 @@ class Source:
         for n, line in enumerate(self.lines):
             declared = re.match(r"pub (struct|enum) (\w+) \{$", line)
             function = re.match(r"\s*pub (?:(?:const|unsafe|extern \"C\") )*fn (\w+)", line)
-            imported = re.fullmatch(r"use (\w+)((?:::\w+)*)::([A-Z]\w*);", line)
             if declared:
                 end = self.lines.index("}", n)
                 body = [line.strip() for line in self.lines[n + 1:end] if not line.strip().startswith("//")]
@@ -216,9 +216,9 @@ class Source:
                 self.functions[function.group(1)] = n
             elif re.match(r"\s*pub\b(?!\().*\bfn\b", line):
                 raise Unknown(f"{self.path}:{n + 1}: a form that is not known: {line}")
-            elif imported:
-                own = imported.group(1) == "crate"
-                self.imported[imported.group(3)] = (crate if own else imported.group(1), imported.group(2)[2:].replace("::", "/") or "lib")
+        for first, within, names in re.findall(r"^use (\w+)((?:::\w+)*)::([A-Z]\w*|\{[^{}]*\});", "\n".join(self.lines), re.M):
+            for name in re.findall(r"[A-Z]\w*", names):
+                self.imported[name] = (crate if first == "crate" else first, within[2:].replace("::", "/") or "lib")
 
     def above(self, n):
         """The comment and the attributes right above a line."""
@@ -622,19 +622,46 @@ def legend_signs(page):
             rust.update(RUST.findall(code))
             for token in tokens(code):
                 signs.update(marks_of(token))
-                if token.startswith(".") and token != ".":
-                    signs.update({".field", token} if token in MOMENTS else {".field"})
-                elif "." in token and token != ".":
-                    signs.add("short.Name")
+                if "." in token and token != ".":
+                    last = "." + token.split(".")[-1] # A moment, a field, or the name of a case.
+                    signs.add(last if last in MOMENTS else "short.Name" if last[1:2].isupper() else ".field")
                 else:
                     signs.add(token)
     return signs, rust
 
 
+def exports(reading):
+    """What is wrong with the crates that export calls for C: each has those of its library, word for word, and calls them."""
+    told = []
+    close = lambda text: re.sub(r"\s+", "", text).replace(",)", ")")
+    for crate in [line.split()[0] for line in content("crates.txt").splitlines() if line.split(":")[0].endswith(" staticlib")]:
+        library, out = crate.removesuffix("_c"), Source(crate, "lib")
+        calls = {name: module for of, module, name in reading.calls if of == library}
+        told += [f"{out.path}: no export of {name} of crate {library}" for name in calls if name not in out.functions]
+        told += [f"{out.path}: {name} is no public call of crate {library}" for name in out.functions if name not in calls]
+        for name in [name for name in out.functions if name in calls]:
+            source = reading.source(library, calls[name])
+            (lines, head), (_, same) = out.head(name), source.head(name)
+            if close(head) != close(same.replace("pub fn", 'pub extern "C" fn', 1)) or "#[unsafe(no_mangle)]" not in [out.lines[n] for n in lines]:
+                told.append(f"{out.path}: the head of {name} is not that of {source.path}")
+            first = lines[-1] + 1
+            body = close("".join(out.lines[first:out.lines.index("}", first) + 1]))
+            parameters = re.findall(r"(\w+): ", head[:head.index(")")])
+            path = "::".join([library] + ([] if calls[name] == "lib" else calls[name].split("/")) + [name])
+            if body != close(f"{{{path}({', '.join(parameters)})}}"):
+                told.append(f"{out.path}: {name} does not hand what it is given to {path}")
+            here, there = (Uses(it.path, it.crate, [line for line in it.lines if line.startswith("ghost use ")]).names for it in (out, source))
+            told += [f"{out.path}: {word} is another one than in {source.path}" for word in set(re.findall(r"\w+", head)) if here.get(word) != there.get(word)]
+            kinds = set(re.findall(r"\b[A-Z]\w*", head[:head.index("ensures")])) - {"C"}
+            told += [f"{out.path}: {word} is another type than in {source.path}" for word in kinds if out.type_of(word) != source.type_of(word)]
+    return told
+
+
 def faults():
     """What is wrong with the pages, and how many definitions and signs were held against them."""
     try:
-        reading, page, told = Reading(), content(TRUST), []
+        reading, page = Reading(), content(TRUST)
+        told = exports(reading)
         edits = {os.path.basename(path)[:-len(".edit")] for path in glob.glob(os.path.join(ROOT, "crates/*/*/*.edit"))}
         named = {}
         for row in re.findall(r"^\| `\w+::.*$", content(CALLS), re.M):
