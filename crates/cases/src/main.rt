@@ -225,6 +225,6 @@ fn main() {
     let mut table = [0u32; table::MAX_TABLE_WORDS];
     let mut plan = [0u8; MAX_PLAN];
     let mut saved = [0u8; MAX_SAVED];
-    let n = io::read_full(libc::STDIN_FILENO, &mut list);
+    let n = input::standard_part(&mut list);
     lines(&list[..n], &mut table, &mut plan, &mut saved);
 }

@@ -33,8 +33,8 @@ fn no_number(what: &[u8]) -> Word {
 }
 
 pub(crate) fn number_at(i: usize, what: &[u8]) -> Word {
-    let mut digits = io::buffer();
-    let n = os::arg(i, &mut digits);
+    let mut digits = [0u8; 4096];
+    let n = input::argument_or_nothing(i, &mut digits);
     let read = decimal::read_decimal(&digits[..n]);
     match read {
         Decimal::Value(value) => Word::Given(value),

@@ -48,8 +48,8 @@ fn order_of(verb: &[u8]) -> Order {
 }
 
 fn order_given() -> Order {
-    let mut verb = io::buffer();
-    let n = os::arg(args::VERB_AT, &mut verb);
+    let mut verb = [0u8; 4096];
+    let n = input::argument_or_nothing(args::VERB_AT, &mut verb);
     order_of(&verb[..n])
 }
 
@@ -66,13 +66,11 @@ fn given_place(t: &[u32], names_text: &[u8], draft: &[u32]) {
 }
 
 fn cursor_place(t: &[u32], names_text: &[u8], draft: &[u32]) {
-    let mut path = io::buffer();
-    let n = os::arg(args::CURSOR_AT, &mut path);
-    if os::errno() != 0 {
-        os::fail(b"the path of the cursor");
-        return;
+    let mut path = [0u8; 4096];
+    let given = input::argument(args::CURSOR_AT, &mut path, b"the path of the cursor");
+    if let Some(n) = given {
+        saved::place(t, names_text, draft, &path[..n]);
     }
-    saved::place(t, names_text, draft, &path[..n]);
 }
 
 // What is answered with the names of nodes and streams.
@@ -98,8 +96,8 @@ fn named(t: &[u32], names_text: &[u8], draft: &[u32], order: Order) {
 
 // The names beside the plan are read first.
 fn named_in(t: &[u32], order: Order, names_text: &mut [u8], draft: &mut [u32]) {
-    let mut path = io::buffer();
-    let n = os::arg(args::PLAN_AT, &mut path);
+    let mut path = [0u8; 4096];
+    let n = input::argument_or_nothing(args::PLAN_AT, &mut path);
     plan_text::names::beside(&path[..n], t, names_text, draft);
     named(t, names_text, draft, order);
 }

@@ -85,7 +85,7 @@ pub(crate) fn place(t: &[u32], names_text: &[u8], draft: &[u32], path: &[u8]) {
             read_first(t, names_text, draft, &bytes, n);
         }
         FileRead::Missing => {
-            os::fail(path);
+            durable::missing(path);
         }
         FileRead::Failed => {}
     }

@@ -64,8 +64,8 @@ fn word_of(digits: &[u8]) -> Word {
 }
 
 fn word_at(i: usize) -> Word {
-    let mut digits = io::buffer();
-    let n = os::arg(i, &mut digits);
+    let mut digits = [0u8; 4096];
+    let n = input::argument_or_nothing(i, &mut digits);
     word_of(&digits[..n])
 }
 
@@ -111,8 +111,8 @@ fn order_of(kind: &[u8]) -> Order {
 }
 
 fn order_given() -> Order {
-    let mut kind = io::buffer();
-    let n = os::arg(KIND_AT, &mut kind);
+    let mut kind = [0u8; 4096];
+    let n = input::argument_or_nothing(KIND_AT, &mut kind);
     order_of(&kind[..n])
 }
 
@@ -176,8 +176,8 @@ fn draw(order: Order, t: &[u32], names: &[u8], draft: &[u32])
 
 // Reads the names beside the plan whose path is given, if there are some.
 fn read_names(t: &[u32], text: &mut [u8], draft: &mut [u32]) {
-    let mut path = io::buffer();
-    let n = os::arg(PATH_AT, &mut path);
+    let mut path = [0u8; 4096];
+    let n = input::argument_or_nothing(PATH_AT, &mut path);
     if n == 0 {
         plan_text::names::nameless(t, draft);
         return;

@@ -6,6 +6,7 @@ use crate::text::{add, add_number};
 use crate::{judge, one, out, taprio, why};
 use basics::Checked;
 use gate_lists::Listed;
+use std::io;
 
 // So many seconds after it said something it says again how far it is.
 const QUIET: i64 = 2;
@@ -23,8 +24,7 @@ pub(crate) struct Tally {
 
 // The time in whole seconds.
 fn now() -> i64 {
-    let mut t: i64 = 0;
-    libc::time(&mut t)
+    input::seconds()
 }
 
 fn plus_one(n: u32) -> u32 {
@@ -125,38 +125,14 @@ fn path_of(folder: &[u8], link: u32, base: &[u8], name: &mut [u8]) -> usize {
     add(name, n, b".gates")
 }
 
-fn write_parts(fd: i32, bytes: &[u8]) -> bool {
-    if !io::write_all(fd, bytes) {
-        return false;
-    }
-    if libc::fsync(fd) < 0 {
-        return false;
-    }
-    libc::close(fd) == 0
-}
-
-// Makes a file, which no other has the name of, and brings it to the disk.
-fn made(path: &[u8], bytes: &[u8]) -> bool {
-    let fd = os::create(path);
-    if fd < 0 {
-        os::fail(path);
-        return false;
-    }
-    if write_parts(fd, bytes) {
-        return true;
-    }
-    os::fail(path);
-    false
-}
-
 fn made_in(folder: &[u8], link: u32, base: &[u8], bytes: &[u8]) -> bool {
-    let mut name = io::buffer();
+    let mut name = [0u8; 4096];
     let n = path_of(folder, link, base, &mut name);
     if name.len() < n {
-        os::fail(folder);
+        reasons::fail(folder, &io::Error::from_raw_os_error(0));
         return false;
     }
-    made(&name[0..n], bytes)
+    durable::made(&name[0..n], bytes)
 }
 
 fn put(t: &[u32], link: u32, folder: &[u8], words: &[u32], base: &[u8], tally: Tally) -> Tally {

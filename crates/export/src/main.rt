@@ -61,8 +61,8 @@ fn of_link(write: bool, digits: &[u8]) -> Order {
 }
 
 fn link_order(write: bool) -> Order {
-    let mut digits = io::buffer();
-    let n = os::arg(LINK_AT, &mut digits);
+    let mut digits = [0u8; 4096];
+    let n = input::argument_or_nothing(LINK_AT, &mut digits);
     of_link(write, &digits[..n])
 }
 
@@ -86,28 +86,26 @@ fn order_of(verb: &[u8]) -> Order {
 }
 
 fn order_given() -> Order {
-    let mut verb = io::buffer();
-    let n = os::arg(VERB_AT, &mut verb);
+    let mut verb = [0u8; 4096];
+    let n = input::argument_or_nothing(VERB_AT, &mut verb);
     order_of(&verb[..n])
 }
 
 fn write_to_file(t: &[u32], link: u32, base: &[u8], device: &[u8]) {
-    let mut path = io::buffer();
-    let n = os::arg(FILE_AT, &mut path);
-    if os::errno() != 0 {
-        os::fail(b"the path of the list");
+    let mut path = [0u8; 4096];
+    let given = input::argument(FILE_AT, &mut path, b"the path of the list");
+    let Some(n) = given else {
         return;
-    }
+    };
     one::written(t, link, &path[..n], base, device);
 }
 
 fn write_to_folder(t: &[u32], base: &[u8]) {
-    let mut path = io::buffer();
-    let n = os::arg(FOLDER_AT, &mut path);
-    if os::errno() != 0 {
-        os::fail(b"the path of the folder");
+    let mut path = [0u8; 4096];
+    let given = input::argument(FOLDER_AT, &mut path, b"the path of the folder");
+    let Some(n) = given else {
         return;
-    }
+    };
     all::written(t, &path[..n], base);
 }
 
@@ -131,10 +129,10 @@ fn on_table(order: Order, words: &[u32], n: usize) {
     if words.len() < n {
         return;
     }
-    let mut base = io::buffer();
-    let i = os::arg(BASE_AT, &mut base);
-    let mut device = io::buffer();
-    let j = os::arg(DEVICE_AT, &mut device);
+    let mut base = [0u8; 4096];
+    let i = input::argument_or_nothing(BASE_AT, &mut base);
+    let mut device = [0u8; 4096];
+    let j = input::argument_or_nothing(DEVICE_AT, &mut device);
     ordered(order, &words[0..n], &base[..i], &device[..j]);
 }
 

@@ -1,7 +1,6 @@
 // The list file on standard input, of whatever make: its pairs.
 use crate::out;
 use gate_files::ListRead;
-use libc::STDIN_FILENO;
 use show::answers;
 
 // The most bytes that it may have, and so the most words.
@@ -33,10 +32,10 @@ fn on_bytes(bytes: &[u8]) {
 // Internal: prints the pairs of a list file.
 pub(crate) fn printed() {
     let mut bytes = [0u8; ROOM];
-    let n = io::read_full(STDIN_FILENO, &mut bytes);
-    if !input::is_whole(STDIN_FILENO, n, ROOM) {
+    let read = input::standard(&mut bytes);
+    let Ok(n) = read else {
         return;
-    }
+    };
     if n == ROOM {
         reasons::line(b"the list has more than # bytes", &[MAX_BYTES as u32]);
         out::too_long();

@@ -111,7 +111,7 @@ fn known_in(path: &[u8], bytes: &[u8], n: usize, plan: &[u8], revision: u32) -> 
 
 // Reads a file beside a cursor, by its ending.
 pub(crate) fn file_beside(path: &[u8], ending: &[u8], bytes: &mut [u8]) -> FileRead {
-    let mut name = io::buffer();
+    let mut name = [0u8; 4096];
     let n = durable::ended(path, ending, &mut name);
     durable::file(&name[..n], bytes)
 }
@@ -210,7 +210,7 @@ pub(crate) fn copy_beside(
     plan: &[u8],
     other: &[u8],
 ) -> bool {
-    let mut name = io::buffer();
+    let mut name = [0u8; 4096];
     let n = durable::ended(path, ending, &mut name);
     let mut front = [0u8; seen::MAX_FRONT_BYTES];
     if files::MAX_FILE_BYTES < plan.len() {
@@ -225,7 +225,7 @@ pub(crate) fn copy_beside(
 
 // Gives what was written beside a copy its name.
 pub(crate) fn put_copy_in_place(path: &[u8], ending: &[u8]) -> bool {
-    let mut name = io::buffer();
+    let mut name = [0u8; 4096];
     let n = durable::ended(path, ending, &mut name);
     durable::put_in_place(&name[..n])
 }

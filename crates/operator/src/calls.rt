@@ -395,7 +395,7 @@ pub(crate) fn on_file(order: Order, plan_path: &[u8], cursor_path: &[u8]) {
             on_bytes(order, plan_path, cursor_path, &bytes, n);
         }
         FileRead::Missing => {
-            os::fail(plan_path);
+            durable::missing(plan_path);
         }
         FileRead::Failed => {}
     }

@@ -66,7 +66,7 @@ pub(crate) fn first(old_path: &[u8], new_path: &[u8]) {
             on_bytes(new_path, &bytes, n);
         }
         FileRead::Missing => {
-            os::fail(old_path);
+            durable::missing(old_path);
         }
         FileRead::Failed => {}
     }

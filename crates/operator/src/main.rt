@@ -66,21 +66,20 @@ fn word_of(text: &[u8], what: &[u8]) -> Word {
 }
 
 fn number_at(i: usize, what: &[u8]) -> Word {
-    let mut text = io::buffer();
-    let n = os::arg(i, &mut text);
-    if os::errno() != 0 {
-        os::fail(what);
-        return Word::Wrong;
+    let mut text = [0u8; 4096];
+    let given = input::argument(i, &mut text, what);
+    match given {
+        Some(n) => word_of(&text[..n], what),
+        None => Word::Wrong,
     }
-    word_of(&text[..n], what)
 }
 
 fn start_order() -> Order {
-    let mut text = io::buffer();
-    let n = os::arg(ANEW_AT, &mut text);
-    if os::errno() == libc::EINVAL {
+    if !input::has_argument(ANEW_AT) {
         return Order::Start(false);
     }
+    let mut text = [0u8; 4096];
+    let n = input::argument_or_nothing(ANEW_AT, &mut text);
     if calls::are_same(&text[..n], b"--anew") {
         return Order::Start(true);
     }
@@ -98,7 +97,7 @@ fn slice_order() -> Order {
 
 // The period word of a move: 0 where it is not given.
 fn periods_given() -> Word {
-    if os::arg_count() <= PERIODS_AT {
+    if !input::has_argument(PERIODS_AT) {
         return Word::Given(0);
     }
     number_at(PERIODS_AT, b"the period word")
@@ -126,7 +125,7 @@ fn move_order() -> Order {
 
 // A recheck moves the leg first, where an offset is given.
 fn recheck_order() -> Order {
-    if OFFSET_AT < os::arg_count() {
+    if input::has_argument(OFFSET_AT) {
         let order = move_order();
         if let Order::Move(mv) = order {
             return Order::MoveAndRecheck(mv);
@@ -172,8 +171,8 @@ fn order_of(verb: &[u8]) -> Order {
 }
 
 fn order_given() -> Order {
-    let mut verb = io::buffer();
-    let n = os::arg(VERB_AT, &mut verb);
+    let mut verb = [0u8; 4096];
+    let n = input::argument_or_nothing(VERB_AT, &mut verb);
     order_of(&verb[..n])
 }
 
@@ -187,18 +186,16 @@ fn on_paths(order: Order, plan: &[u8], cursor: &[u8]) {
 }
 
 fn on_files(order: Order) {
-    let mut plan = io::buffer();
-    let n = os::arg(PLAN_AT, &mut plan);
-    if os::errno() != 0 {
-        os::fail(b"the path of the plan");
+    let mut plan = [0u8; 4096];
+    let first = input::argument(PLAN_AT, &mut plan, b"the path of the plan");
+    let Some(n) = first else {
         return;
-    }
-    let mut cursor = io::buffer();
-    let m = os::arg(CURSOR_AT, &mut cursor);
-    if os::errno() != 0 {
-        os::fail(b"the path of the cursor or of the new file");
+    };
+    let mut cursor = [0u8; 4096];
+    let second = input::argument(CURSOR_AT, &mut cursor, b"the path of the cursor or of the new file");
+    let Some(m) = second else {
         return;
-    }
+    };
     on_paths(order, &plan[..n], &cursor[..m]);
 }
 

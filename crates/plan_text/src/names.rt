@@ -1,9 +1,11 @@
 // The names of a plan's nodes and streams, which stand in a text beside the plan file: PLAN.names.
-ghost use Rattle.io.specs.Counts.{IsPrefixLen};
+ghost use Rattle.durable.specs.Counts.{IsPrefixLen};
 
 use crate::nodes::Place;
 use crate::{NAMED_AT, assembling, get, link_at, nodes, reading, records, set, stream_name_at};
 use durable::FileRead;
+use std::io;
+use std::io::Write;
 
 // Internal: the name of a node, or nothing.
 pub fn node<'a>(text: &'a [u8], draft: &[u32], number: u32) -> &'a [u8] {
@@ -22,35 +24,33 @@ pub fn stream<'a>(text: &'a [u8], draft: &[u32], number: u32) -> &'a [u8] {
     records::stream_name(text, draft, number)
 }
 
-fn print_name(fd: i32, name: &[u8], kind: &[u8], number: u32) {
+fn print_name<O: Write>(out: &mut O, name: &[u8], kind: &[u8], number: u32) -> io::Result<()> {
     if 0 < name.len() {
-        io::write_all(fd, name);
-        return;
+        return out.write_all(name);
     }
-    io::write_all(fd, kind);
-    io::print_decimal(fd, number as u64);
+    out.write_all(kind)?;
+    write!(out, "{number}")
 }
 
 // Internal: prints the name of a node, or its number.
-pub fn print_node(fd: i32, text: &[u8], draft: &[u32], number: u32) {
-    print_name(fd, node(text, draft, number), b"node ", number);
+pub fn print_node<O: Write>(out: &mut O, text: &[u8], draft: &[u32], number: u32) -> io::Result<()> {
+    print_name(out, node(text, draft, number), b"node ", number)
 }
 
 // Internal: prints the name of a stream, or its number.
-pub fn print_stream(fd: i32, text: &[u8], draft: &[u32], number: u32) {
-    print_name(fd, stream(text, draft, number), b"stream ", number);
+pub fn print_stream<O: Write>(out: &mut O, text: &[u8], draft: &[u32], number: u32) -> io::Result<()> {
+    print_name(out, stream(text, draft, number), b"stream ", number)
 }
 
 // Internal: prints the two ends of a link, or its number where there is no such link.
-pub fn print_link(fd: i32, text: &[u8], draft: &[u32], link: u32) {
+pub fn print_link<O: Write>(out: &mut O, text: &[u8], draft: &[u32], link: u32) -> io::Result<()> {
     if get(draft, table::LINKS_AT) <= link {
-        print_name(fd, b"", b"link ", link);
-        return;
+        return print_name(out, b"", b"link ", link);
     }
     let at = link_at(link);
-    print_node(fd, text, draft, get(draft, at));
-    io::write_all(fd, b" -> ");
-    print_node(fd, text, draft, get(draft, at + 1));
+    print_node(out, text, draft, get(draft, at))?;
+    out.write_all(b" -> ")?;
+    print_node(out, text, draft, get(draft, at + 1))
 }
 
 fn first_named_stream(draft: &[u32]) -> u32 {
@@ -146,7 +146,7 @@ pub fn path_of(plan: &[u8], out: &mut [u8]) -> usize
 
 // Internal: puts a table into a draft, with the names that stand beside its plan file. Where there are none, or of another plan, it has none.
 pub fn beside(path: &[u8], t: &[u32], text: &mut [u8], draft: &mut [u32]) {
-    let mut name = io::buffer();
+    let mut name = [0u8; 4096];
     let n = path_of(path, &mut name);
     if are_read(&name[..n], t, text, draft) {
         assembling::draft_of(t, draft);

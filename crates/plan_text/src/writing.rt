@@ -1,6 +1,8 @@
 // A draft written as a text, into lent bytes. Each function answers where it ends; what has no room is left out, and whoever reads the text again sees that.
 use crate::routes::Found;
 use crate::{NAMED_AT, get, leg_at, link_at, names, node_at, nodes, records, routes, stream_at};
+use std::io;
+use std::io::Write;
 use units::Unit;
 
 // Internal: puts bytes at a position, if there is room, and answers the position after them.
@@ -11,13 +13,16 @@ pub fn put(out: &mut [u8], at: usize, text: &[u8]) -> usize {
     if out.len() - at < text.len() {
         return at;
     }
-    bytes::copy(text, &mut out[at..]);
-    at + text.len()
+    let end = at + text.len();
+    out[at..end].copy_from_slice(text);
+    end
 }
 
 fn put_number(out: &mut [u8], at: usize, n: u32) -> usize {
     let mut digits = [0u8; 20];
-    let k = io::decimal(n as u64, &mut digits);
+    let mut rest: &mut [u8] = &mut digits;
+    let _ = write!(rest, "{n}");
+    let k = 20usize.saturating_sub(rest.len());
     put(out, at, &digits[..k])
 }
 
@@ -42,12 +47,13 @@ fn put_time(out: &mut [u8], at: usize, ns: u32) -> usize {
 }
 
 // Internal: prints a time in the largest unit in which it is whole.
-pub fn print_time(fd: i32, ns: u32) {
+pub fn print_time<O: Write>(out: &mut O, ns: u32) -> io::Result<()> {
     let mut text = [0u8; 32];
     let n = put_time(&mut text, 0, ns);
     if n <= text.len() {
-        io::write_all(fd, &text[0..n]);
+        out.write_all(&text[0..n])?;
     }
+    Ok(())
 }
 
 fn put_rate(out: &mut [u8], at: usize, rate: u32) -> usize {

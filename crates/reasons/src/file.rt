@@ -1,4 +1,5 @@
 // Why the bytes of a plan file are refused: 12, 13, 2 and 14.
+use std::io::Write;
 use crate::{begin, line, names, say, small, text};
 use numbers::Number;
 use table::{CURRENT, Edition, FIRST_LAYOUT, Limits};
@@ -52,10 +53,10 @@ fn number_of(bytes: &[u8], k: usize) -> u32 {
 }
 
 // Says the name of the number after these bytes of a file.
-fn name_after(e: Edition, bytes: &[u8], before: &[u8]) {
+fn name_after<E: Write>(err: &mut E, e: Edition, bytes: &[u8], before: &[u8]) {
     let links = number_of(bytes, table::LINKS_AT);
     let streams = number_of(bytes, table::STREAMS_AT);
-    names::name(e, numbers_in(before), links, streams);
+    names::name(err, e, numbers_in(before), links, streams);
 }
 
 // Whether a file that ends with a number has as many of them as a plan of the first layout. A layout is named by whoever reads: nothing is decided by this.
@@ -74,66 +75,66 @@ fn ends_in_first(bytes: &[u8]) -> bool {
     }
 }
 
-fn cut_short(e: Edition, bytes: &[u8], at: usize) {
+fn cut_short<E: Write>(err: &mut E, e: Edition, bytes: &[u8], at: usize) {
     if bytes.len() == 0 {
-        line(
+        line(err, 
             b"the file is empty, but a plan begins with five numbers",
             &[],
         );
         return;
     }
-    begin();
+    begin(err);
     if at < bytes.len() {
-        text(b"the file ends too early, inside ");
-        name_after(e, bytes, &bytes[0..at]);
-        say(b", which begins at byte #\n", &[small(at)]);
+        text(err, b"the file ends too early, inside ");
+        name_after(err, e, bytes, &bytes[0..at]);
+        say(err, b", which begins at byte #\n", &[small(at)]);
         return;
     }
-    text(b"the file ends too early: ");
-    name_after(e, bytes, bytes);
-    say(b" is due at byte #", &[small(at)]);
+    text(err, b"the file ends too early: ");
+    name_after(err, e, bytes, bytes);
+    say(err, b" is due at byte #", &[small(at)]);
     if ends_in_first(bytes) {
-        text(b", but not in the first layout: see 'conepalhui help convert'");
+        text(err, b", but not in the first layout: see 'conepalhui help convert'");
     }
-    text(b"\n");
+    text(err, b"\n");
 }
 
 // What is wrong with the number that these bytes begin with: a last byte 0, a fifth byte that goes on, or one above the largest.
-pub(crate) fn form(bytes: &[u8]) {
+pub(crate) fn form<E: Write>(err: &mut E, bytes: &[u8]) {
     let needless = b", is written in more bytes than it needs\n";
     if bytes.len() < 5 {
-        text(needless);
+        text(err, needless);
         return;
     }
     if 0 < numbers_in(&bytes[0..4]) {
-        text(needless);
+        text(err, needless);
         return;
     }
     if bytes[4] == 0 {
-        text(needless);
+        text(err, needless);
         return;
     }
     if ending(bytes[4]) == 0 {
-        text(b", takes more than five bytes\n");
+        text(err, b", takes more than five bytes\n");
         return;
     }
-    text(b", is above 4294967295\n");
+    text(err, b", is above 4294967295\n");
 }
 
-fn unfit(e: Edition, bytes: &[u8], at: usize) {
+fn unfit<E: Write>(err: &mut E, e: Edition, bytes: &[u8], at: usize) {
     if bytes.len() < at {
         return;
     }
-    begin();
-    name_after(e, bytes, &bytes[0..at]);
-    say(b", at byte #", &[small(at)]);
-    form(&bytes[at..]);
+    begin(err);
+    name_after(err, e, bytes, &bytes[0..at]);
+    say(err, b", at byte #", &[small(at)]);
+    form(err, &bytes[at..]);
 }
 
-fn above_limits(bytes: &[u8]) {
+fn above_limits<E: Write>(err: &mut E, bytes: &[u8]) {
     let links = number_of(bytes, table::LINKS_AT);
     if table::MAX_LINKS < table::wide(links) {
-        line(
+        line(err, 
             b"the number of links is #, but a plan has at most #",
             &[links, table::MAX_LINKS as u32],
         );
@@ -141,7 +142,7 @@ fn above_limits(bytes: &[u8]) {
     }
     let streams = number_of(bytes, table::STREAMS_AT);
     if table::MAX_STREAMS < table::wide(streams) {
-        line(
+        line(err, 
             b"the number of streams is #, but a plan has at most #",
             &[streams, table::MAX_STREAMS as u32],
         );
@@ -149,13 +150,13 @@ fn above_limits(bytes: &[u8]) {
     }
     let legs = number_of(bytes, table::LEGS_AT);
     if table::MAX_LEGS < table::wide(legs) {
-        line(
+        line(err, 
             b"the number of legs is #, but a plan has at most #",
             &[legs, table::MAX_LEGS as u32],
         );
         return;
     }
-    line(
+    line(err, 
         b"the clock precision is # ns, but at most # ns are allowed",
         &[
             number_of(bytes, table::PRECISION_AT),
@@ -165,26 +166,26 @@ fn above_limits(bytes: &[u8]) {
 }
 
 // Why bytes are refused in a layout. The sentence of bytes left over is given.
-fn why_in(e: Edition, left_over: &[u8], bytes: &[u8], number: u32, at: usize) {
+fn why_in<E: Write>(err: &mut E, e: Edition, left_over: &[u8], bytes: &[u8], number: u32, at: usize) {
     match number {
         numbers::BYTES_END => {
-            cut_short(e, bytes, at);
+            cut_short(err, e, bytes, at);
         }
         numbers::UNFIT_NUMBER => {
-            unfit(e, bytes, at);
+            unfit(err, e, bytes, at);
         }
         table::ABOVE_LIMIT => {
-            above_limits(bytes);
+            above_limits(err, bytes);
         }
         _ => {
-            line(left_over, &[small(at)]);
+            line(err, left_over, &[small(at)]);
         }
     }
 }
 
 // Internal: why bytes are refused with a number at a position.
-pub fn why(bytes: &[u8], number: u32, at: usize) {
-    why_in(
+pub fn why<E: Write>(err: &mut E, bytes: &[u8], number: u32, at: usize) {
+    why_in(err, 
         CURRENT,
         b"by its header the plan has # bytes, but the file has more",
         bytes,
@@ -194,8 +195,8 @@ pub fn why(bytes: &[u8], number: u32, at: usize) {
 }
 
 // Internal: the same by the reader of the first layout.
-pub fn why_first(bytes: &[u8], number: u32, at: usize) {
-    why_in(
+pub fn why_first<E: Write>(err: &mut E, bytes: &[u8], number: u32, at: usize) {
+    why_in(err, 
         FIRST_LAYOUT,
         b"by its header the plan has # bytes in the first layout, but the file has more",
         bytes,

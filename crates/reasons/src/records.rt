@@ -1,4 +1,5 @@
 // Why a table is refused: 4 to 7. All records before the one that a refusal names are right.
+use std::io::Write;
 use crate::{line, small};
 use basics::Holds;
 use shape::links::{MAX_NODE, MAX_PROPAGATION};
@@ -67,35 +68,35 @@ pub fn leg_at(t: &[u32], a: u32) -> Leg {
     }
 }
 
-fn bad_link(i: u32, l: Link) {
+fn bad_link<E: Write>(err: &mut E, i: u32, l: Link) {
     if MAX_NODE < l.from {
-        line(
+        line(err, 
             b"link # is from node #, but nodes are 0 to #",
             &[i, l.from, MAX_NODE],
         );
         return;
     }
     if MAX_NODE < l.to {
-        line(
+        line(err, 
             b"link # is to node #, but nodes are 0 to #",
             &[i, l.to, MAX_NODE],
         );
         return;
     }
     if l.from == l.to {
-        line(b"link # is from node # to itself", &[i, l.from]);
+        line(err, b"link # is from node # to itself", &[i, l.from]);
         return;
     }
     let told = shape::links::rate_told(l.rate);
     match told {
         Holds::No => {
-            line(
+            line(err, 
                 b"link # takes # ns per octet, but a link takes 8, 80 or 800",
                 &[i, l.rate],
             );
         }
         Holds::Yes => {
-            line(
+            line(err, 
                 b"link # has a propagation of # ns, but at most # ns are allowed",
                 &[i, l.propagation, MAX_PROPAGATION],
             );
@@ -122,8 +123,8 @@ fn same_ends(t: &[u32], l: Link, i: u32) -> u32 {
     i
 }
 
-fn double_link(t: &[u32], i: u32, l: Link) {
-    line(
+fn double_link<E: Write>(err: &mut E, t: &[u32], i: u32, l: Link) {
+    line(err, 
         b"link # is from node # to node #, and so is link #",
         &[i, l.from, l.to, same_ends(t, l, i)],
     );
@@ -150,40 +151,40 @@ fn legs_before(t: &[u32], i: u32) -> u32 {
 }
 
 // Numbers of legs that pass the last one of the table.
-fn past_the_last(t: &[u32], i: u32, s: Stream) {
+fn past_the_last<E: Write>(err: &mut E, t: &[u32], i: u32, s: Stream) {
     let last = std::num::wrapping_sub_u32(stream_end(s), 1);
     let legs = header_word(t, table::LEGS_AT);
     if legs == 0 {
-        line(
+        line(err, 
             b"stream # has the legs # to #, but the plan has no legs",
             &[i, s.first, last],
         );
         return;
     }
-    line(
+    line(err, 
         b"stream # has the legs # to #, but legs are 0 to #",
         &[i, s.first, last, legs - 1],
     );
 }
 
 // What is left of a stream whose times and frame are right: where its legs begin, how many they are, or where they end.
-fn bad_legs(t: &[u32], i: u32, s: Stream) {
+fn bad_legs<E: Write>(err: &mut E, t: &[u32], i: u32, s: Stream) {
     let next = legs_before(t, i);
     if s.first != next {
-        line(
+        line(err, 
             b"stream # begins at leg #, but the leg counts before it add up to #",
             &[i, s.first, next],
         );
         return;
     }
     if !is_between(s.count, 1, MAX_ROUTE) {
-        line(
+        line(err, 
             b"stream # has a leg count of #, but leg counts are 1 to #",
             &[i, s.count, MAX_ROUTE],
         );
         return;
     }
-    past_the_last(t, i, s);
+    past_the_last(err, t, i, s);
 }
 
 // Internal: the latest deadline that a period allows, as far as a word holds it.
@@ -195,9 +196,9 @@ pub fn latest_deadline(period: u32) -> u32 {
     4294967295
 }
 
-fn bad_stream(t: &[u32], i: u32, s: Stream) {
+fn bad_stream<E: Write>(err: &mut E, t: &[u32], i: u32, s: Stream) {
     if !is_between(s.period, 1, MAX_PERIOD) {
-        line(
+        line(err, 
             b"stream # has a period of # ns, but periods are 1 to # ns",
             &[i, s.period, MAX_PERIOD],
         );
@@ -205,28 +206,28 @@ fn bad_stream(t: &[u32], i: u32, s: Stream) {
     }
     let latest = latest_deadline(s.period);
     if !is_between(s.deadline, 1, latest) {
-        line(
+        line(err, 
             b"stream # has a deadline of # ns, but its period allows 1 to # ns",
             &[i, s.deadline, latest],
         );
         return;
     }
     if !is_between(s.octets, MIN_OCTETS, MAX_OCTETS) {
-        line(
+        line(err, 
             b"stream # has frames of # octets, but frames have # to #",
             &[i, s.octets, MIN_OCTETS, MAX_OCTETS],
         );
         return;
     }
-    bad_legs(t, i, s);
+    bad_legs(err, t, i, s);
 }
 
-fn bad_streams(t: &[u32], i: u32) {
+fn bad_streams<E: Write>(err: &mut E, t: &[u32], i: u32) {
     if i < header_word(t, table::STREAMS_AT) {
-        bad_stream(t, i, stream_at(t, i));
+        bad_stream(err, t, i, stream_at(t, i));
         return;
     }
-    line(
+    line(err, 
         b"the leg counts add up to #, but the number of legs is #",
         &[legs_before(t, i), header_word(t, table::LEGS_AT)],
     );
@@ -253,46 +254,46 @@ fn node_before(t: &[u32], a: u32) -> u32 {
 }
 
 // A route that does not go on from the leg before leg a, or comes back to a node.
-fn bad_route(t: &[u32], a: u32, leg: Leg) {
+fn bad_route<E: Write>(err: &mut E, t: &[u32], a: u32, leg: Leg) {
     let l = link_at(t, leg.link);
     let at = node_before(t, a);
     if l.from != at {
-        line(
+        line(err, 
             b"leg # takes link # from node #, but its route has reached node #",
             &[a, leg.link, l.from, at],
         );
         return;
     }
-    line(
+    line(err, 
         b"leg # takes link # to node #, where its route was before",
         &[a, leg.link, l.to],
     );
 }
 
 // Internal: why a move is refused for its period word.
-pub fn late_move(periods: u32) {
-    line(
+pub fn late_move<E: Write>(err: &mut E, periods: u32) {
+    line(err, 
         b"the period word is #, but period words are 0 to #",
         &[periods, MAX_PERIODS],
     );
 }
 
 // What is left of a leg that names its stream and a link: its period word, or its route.
-fn bad_lateness(t: &[u32], a: u32, leg: Leg) {
+fn bad_lateness<E: Write>(err: &mut E, t: &[u32], a: u32, leg: Leg) {
     if MAX_PERIODS < leg.periods {
-        line(
+        line(err, 
             b"leg # has the period word #, but period words are 0 to #",
             &[a, leg.periods, MAX_PERIODS],
         );
         return;
     }
-    bad_route(t, a, leg);
+    bad_route(err, t, a, leg);
 }
 
-fn bad_leg(t: &[u32], a: u32, leg: Leg) {
+fn bad_leg<E: Write>(err: &mut E, t: &[u32], a: u32, leg: Leg) {
     let own = own_stream(t, a);
     if leg.stream != own {
-        line(
+        line(err, 
             b"leg # names stream #, but by the leg counts it is a leg of stream #",
             &[a, leg.stream, own],
         );
@@ -300,37 +301,37 @@ fn bad_leg(t: &[u32], a: u32, leg: Leg) {
     }
     let links = header_word(t, table::LINKS_AT);
     if leg.link < links {
-        bad_lateness(t, a, leg);
+        bad_lateness(err, t, a, leg);
         return;
     }
     if links == 0 {
-        line(
+        line(err, 
             b"leg # names link #, but the plan has no links",
             &[a, leg.link],
         );
         return;
     }
-    line(
+    line(err, 
         b"leg # names link #, but links are 0 to #",
         &[a, leg.link, links - 1],
     );
 }
 
 // Internal: why a table is refused with a number at a position.
-pub fn why(t: &[u32], number: u32, at: usize) {
+pub fn why<E: Write>(err: &mut E, t: &[u32], number: u32, at: usize) {
     let i = small(at);
     match number {
         shape::BAD_LINK => {
-            bad_link(i, link_at(t, i));
+            bad_link(err, i, link_at(t, i));
         }
         shape::DOUBLE_LINK => {
-            double_link(t, i, link_at(t, i));
+            double_link(err, t, i, link_at(t, i));
         }
         shape::BAD_STREAM => {
-            bad_streams(t, i);
+            bad_streams(err, t, i);
         }
         _ => {
-            bad_leg(t, i, leg_at(t, i));
+            bad_leg(err, t, i, leg_at(t, i));
         }
     }
 }

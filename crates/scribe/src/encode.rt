@@ -1,5 +1,4 @@
 // A text written as a plan file, and its names beside it. Nothing is written where a line is wrong.
-use libc::STDIN_FILENO;
 use numbers::Written;
 use plan_text::{assembling, names, reading};
 use reasons::records;
@@ -25,7 +24,7 @@ fn without_names(path: &[u8], replacing: bool) -> bool {
 
 // Puts the names in their place, where there are some: the text itself, which the same reader reads.
 fn names_put(path: &[u8], text: &[u8], draft: &[u32], replacing: bool) -> bool {
-    let mut name = io::buffer();
+    let mut name = [0u8; 4096];
     let n = names::path_of(path, &mut name);
     if names::are_some(draft) {
         return put(&name[..n], text, replacing);
@@ -52,9 +51,9 @@ fn names_dropped(path: &[u8], replacing: bool) {
     if replacing {
         return;
     }
-    let mut name = io::buffer();
+    let mut name = [0u8; 4096];
     let n = names::path_of(path, &mut name);
-    os::unlink(&name[..n]);
+    durable::dropped(&name[..n]);
 }
 
 fn on_file(path: &[u8], text: &[u8], draft: &[u32], t: &[u32], file: &[u8], replacing: bool) {
@@ -106,10 +105,10 @@ fn on_text(path: &[u8], text: &[u8], replacing: bool) {
 // The text on standard input, to a plan file of this name.
 pub(crate) fn to(path: &[u8], replacing: bool) {
     let mut text = [0u8; plan_text::TEXT_ROOM];
-    let n = io::read_full(STDIN_FILENO, &mut text);
-    if !input::is_whole(STDIN_FILENO, n, plan_text::TEXT_ROOM) {
+    let read = input::standard(&mut text);
+    let Ok(n) = read else {
         return;
-    }
+    };
     if n == plan_text::TEXT_ROOM {
         reasons::line(
             b"the text has more than # bytes, and there is no room for it",

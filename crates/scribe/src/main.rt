@@ -15,8 +15,8 @@ const PATH_AT: usize = 2;
 const OPTION_AT: usize = 3;
 
 fn is_replacing() -> bool {
-    let mut option = io::buffer();
-    let n = os::arg(OPTION_AT, &mut option);
+    let mut option = [0u8; 4096];
+    let n = input::argument_or_nothing(OPTION_AT, &mut option);
     are_same(&option[..n], b"--replace")
 }
 
@@ -33,9 +33,9 @@ fn on_path(verb: &[u8], path: &[u8]) {
 }
 
 fn main() {
-    let mut verb = io::buffer();
-    let n = os::arg(VERB_AT, &mut verb);
-    let mut path = io::buffer();
-    let m = os::arg(PATH_AT, &mut path);
+    let mut verb = [0u8; 4096];
+    let n = input::argument_or_nothing(VERB_AT, &mut verb);
+    let mut path = [0u8; 4096];
+    let m = input::argument_or_nothing(PATH_AT, &mut path);
     on_path(&verb[..n], &path[..m]);
 }

@@ -5,7 +5,6 @@
 
 use durable::FileRead;
 use files::PlanRead;
-use libc::STDIN_FILENO;
 use show::answers;
 
 mod judge;
@@ -62,7 +61,7 @@ fn on_paths(text: &[u8], plan_path: &[u8], new_path: &[u8]) {
             on_bytes(text, new_path, &bytes, n);
         }
         FileRead::Missing => {
-            os::fail(plan_path);
+            durable::missing(plan_path);
         }
         FileRead::Failed => {}
     }
@@ -72,34 +71,39 @@ fn on_text(text: &[u8]) {
     if !lines::all_right(text) {
         return;
     }
-    let mut plan = io::buffer();
-    let n = os::arg(PLAN_AT, &mut plan);
-    if os::errno() != 0 {
-        os::fail(b"the path of the plan");
+    let mut plan = [0u8; 4096];
+    let first = input::argument(PLAN_AT, &mut plan, b"the path of the plan");
+    let Some(n) = first else {
         return;
-    }
-    let mut new = io::buffer();
-    let m = os::arg(NEW_AT, &mut new);
-    if os::errno() != 0 {
-        os::fail(b"the path of the new file");
+    };
+    let mut new = [0u8; 4096];
+    let second = input::argument(NEW_AT, &mut new, b"the path of the new file");
+    let Some(m) = second else {
         return;
-    }
+    };
     on_paths(text, &plan[..n], &new[..m]);
 }
 
-fn main() {
-    let mut text = [0u8; TEXT_ROOM];
-    let n = io::read_full(STDIN_FILENO, &mut text);
-    if !input::is_whole(STDIN_FILENO, n, TEXT_ROOM) {
-        os::fail(b"what is wanted");
-        return;
-    }
-    if n == TEXT_ROOM {
+fn on_whole_text(text: &[u8]) {
+    if text.len() == TEXT_ROOM {
         reasons::line(
             b"what is wanted has more than # bytes",
             &[lines::MAX_BYTES as u32],
         );
         return;
     }
-    on_text(&text[..n]);
+    on_text(text);
+}
+
+fn main() {
+    let mut text = [0u8; TEXT_ROOM];
+    let read = input::standard(&mut text);
+    match read {
+        Ok(n) => {
+            on_whole_text(&text[..n]);
+        }
+        Err(e) => {
+            reasons::fail(b"what is wanted", &e);
+        }
+    }
 }

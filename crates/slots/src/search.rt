@@ -30,8 +30,7 @@ pub(crate) struct Found {
 
 // The time in whole seconds.
 pub(crate) fn now() -> i64 {
-    let mut t: i64 = 0;
-    libc::time(&mut t)
+    input::seconds()
 }
 
 // Whether it is time to say something again, also where the clock was set back.

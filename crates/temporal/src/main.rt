@@ -4,7 +4,6 @@
 #![tactic(auto)]
 
 use durable::FileRead;
-use libc::STDIN_FILENO;
 use wishes::reading::Counts;
 use wishes::{bounds, reading};
 
@@ -90,7 +89,7 @@ fn on_claim(network: &[u8], path: &[u8]) {
             with_claim(network, &claim, n);
         }
         FileRead::Missing => {
-            os::fail(path);
+            durable::missing(path);
         }
         FileRead::Failed => {}
     }
@@ -108,25 +107,23 @@ fn with_claim(network: &[u8], claim: &[u8], n: usize) {
 }
 
 fn on_network(network: &[u8]) {
-    let mut path = io::buffer();
-    let n = os::arg(CLAIM_AT, &mut path);
-    if os::errno() == libc::EINVAL {
+    if !input::has_argument(CLAIM_AT) {
         on_texts(network, &[], false);
         return;
     }
-    if os::errno() != 0 {
-        os::fail(b"the path of the claim");
-        return;
+    let mut path = [0u8; 4096];
+    let given = input::argument(CLAIM_AT, &mut path, b"the path of the claim");
+    if let Some(n) = given {
+        on_claim(network, &path[..n]);
     }
-    on_claim(network, &path[..n]);
 }
 
 fn main() {
     let mut network = [0u8; ROOM];
-    let n = io::read_full(STDIN_FILENO, &mut network);
-    if !input::is_whole(STDIN_FILENO, n, ROOM) {
+    let read = input::standard(&mut network);
+    let Ok(n) = read else {
         return;
-    }
+    };
     if n == ROOM {
         sentences::too_long(b"the network");
         return;

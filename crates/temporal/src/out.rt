@@ -1,14 +1,15 @@
 // What the answers are made of, on standard output.
-use libc::STDOUT_FILENO;
+use std::io;
+use std::io::Write;
 use wishes::sums::Sum;
 use wishes::{bounds, names, number};
 
-pub(crate) fn text(bytes: &[u8]) {
-    io::write_all(STDOUT_FILENO, bytes);
+pub(crate) fn text<O: Write>(out: &mut O, bytes: &[u8]) -> io::Result<()> {
+    out.write_all(bytes)
 }
 
-pub(crate) fn number(n: u64) {
-    io::print_decimal(STDOUT_FILENO, n);
+pub(crate) fn number<O: Write>(out: &mut O, n: u64) -> io::Result<()> {
+    write!(out, "{n}")
 }
 
 pub(crate) fn sum(s: Sum) {

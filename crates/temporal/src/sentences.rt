@@ -1,9 +1,9 @@
 // Why a network is refused, on standard error.
 use crate::out;
-use libc::STDERR_FILENO;
 use lines::shown::shown;
 use lines::words;
 use reasons::{begin, line, say, small, text};
+use std::io::Write;
 use wishes::forms::Wish;
 use wishes::reading::Counts;
 use wishes::sums::Sum;
@@ -12,11 +12,11 @@ use wishes::{bounds, forms, names};
 // The refusal of too many events or constraints. The other one is of a constraint out of range.
 const TOO_MANY: u32 = 27;
 
-pub(crate) fn sum(s: Sum) {
+pub(crate) fn sum<E: Write>(err: &mut E, s: Sum) {
     if s.below {
-        text(b"-");
+        text(err, b"-");
     }
-    io::print_decimal(STDERR_FILENO, s.size);
+    let _ = write!(err, "{}", s.size);
 }
 
 // Says that a line has none of the forms that it may have.
