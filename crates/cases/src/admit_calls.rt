@@ -4,6 +4,8 @@ use crate::files_calls::WORD_MARK;
 use crate::text;
 use admission::Admission;
 use enlarge::Wanted;
+use std::io;
+use std::io::Write;
 
 const COLON: u8 = 58;
 
@@ -12,34 +14,42 @@ const MAX_LENT: usize = 96;
 
 const MAX_LINKS: usize = 16;
 
-fn lent(words: &[u32], n: usize) {
-    show::text(b"rest: ");
-    show::rest_words(words, n);
+fn lent<O: Write>(out: &mut O, words: &[u32], n: usize) -> io::Result<()> {
+    show::text(out, b"rest: ")?;
+    show::rest_words(out, words, n)
 }
 
-fn told(answer: Admission, words: &[u32]) {
+fn told<O: Write>(out: &mut O, answer: Admission, words: &[u32]) -> io::Result<()> {
     match answer {
         Admission::Admitted(offset, n) => {
-            show::text(b"admitted ");
-            show::number(offset as u64);
-            show::text(b" words ");
-            show::number(n as u64);
-            show::text(b":\n");
-            show::first_words(words, n);
-            lent(words, n);
+            show::text(out, b"admitted ")?;
+            show::number(out, offset as u64)?;
+            show::text(out, b" words ")?;
+            show::number(out, n as u64)?;
+            show::text(out, b":\n")?;
+            show::first_words(out, words, n)?;
+            lent(out, words, n)?;
         }
         Admission::NoneYet => {
-            show::text(b"none yet\n");
-            lent(words, 0);
+            show::text(out, b"none yet\n")?;
+            lent(out, words, 0)?;
         }
         Admission::Refused(number, position) => {
-            show::refused(number, position);
-            lent(words, 0);
+            show::refused(out, number, position)?;
+            lent(out, words, 0)?;
         }
     }
+    Ok(())
 }
 
-fn admit(verb: &[u8], numbers: [u32; 6], route: &[u32], t: &[u32], words: &mut [u32]) -> bool {
+fn admit<O: Write>(
+    out: &mut O,
+    verb: &[u8],
+    numbers: [u32; 6],
+    route: &[u32],
+    t: &[u32],
+    words: &mut [u32],
+) -> io::Result<bool> {
     let w = Wanted {
         period: numbers[0],
         deadline: numbers[1],
@@ -47,21 +57,26 @@ fn admit(verb: &[u8], numbers: [u32; 6], route: &[u32], t: &[u32], words: &mut [
     };
     if text::is(verb, b"admit") {
         let answer = admission::admit(t, w, route, words);
-        told(answer, words);
-        return true;
+        told(out, answer, words)?;
+        return Ok(true);
     }
     if text::is(verb, b"admit-between") {
         let answer = admission::admit_between(t, w, route, numbers[4], numbers[5], words);
-        told(answer, words);
-        return true;
+        told(out, answer, words)?;
+        return Ok(true);
     }
-    false
+    Ok(false)
 }
 
-pub(crate) fn asked(verb: &[u8], rest: &[u8], t: &[u32]) -> bool {
+pub(crate) fn asked<O: Write>(
+    out: &mut O,
+    verb: &[u8],
+    rest: &[u8],
+    t: &[u32],
+) -> io::Result<bool> {
     let end = text::until(rest, 0, COLON);
     if rest.len() <= end {
-        return false;
+        return Ok(false);
     }
     let mut numbers = [0u32; 6];
     text::words(&rest[0..end], &mut numbers);
@@ -70,10 +85,10 @@ pub(crate) fn asked(verb: &[u8], rest: &[u8], t: &[u32]) -> bool {
     let mut words = [WORD_MARK; MAX_LENT];
     let room = table::wide(numbers[3]);
     if MAX_LINKS < links {
-        return false;
+        return Ok(false);
     }
     if MAX_LENT < room {
-        return false;
+        return Ok(false);
     }
-    admit(verb, numbers, &route[0..links], t, &mut words[0..room])
+    admit(out, verb, numbers, &route[0..links], t, &mut words[0..room])
 }

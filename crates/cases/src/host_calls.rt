@@ -2,59 +2,101 @@
 use crate::files_calls::{MARK, MAX_ROOM};
 use crate::text;
 use host::Answer;
+use std::io;
+use std::io::Write;
 use table::Move;
 
-fn told(answer: Answer) {
-    show::text(b" ");
-    show::number(answer.result as u64);
-    show::text(b" ");
-    show::number(answer.beside as u64);
-    show::end_line();
+fn told<O: Write>(out: &mut O, answer: Answer) -> io::Result<()> {
+    show::text(out, b" ")?;
+    show::number(out, answer.result as u64)?;
+    show::text(out, b" ")?;
+    show::number(out, answer.beside as u64)?;
+    show::end_line(out)
 }
 
-fn start(plan: &[u8], out: &mut [u8]) {
-    show::text(b"start");
-    told(host::conepalhui_start_3(plan, out));
-    show::bytes(out);
+fn start<O: Write>(out: &mut O, plan: &[u8], lent: &mut [u8]) -> io::Result<()> {
+    show::text(out, b"start")?;
+    told(out, host::conepalhui_start_3(plan, lent))?;
+    show::bytes(out, lent)
 }
 
-fn start_into(plan: &[u8], room: usize) {
-    let mut out = [MARK; MAX_ROOM];
+fn start_into<O: Write>(out: &mut O, plan: &[u8], room: usize) -> io::Result<()> {
+    let mut lent = [MARK; MAX_ROOM];
     if room <= MAX_ROOM {
-        start(plan, &mut out[0..room]);
+        start(out, plan, &mut lent[0..room])?;
     }
+    Ok(())
 }
 
 // The slice in full, and its result alone.
-fn slice(plan: &[u8], cursor: &[u8], budget: u32, out: &mut [u8], again: &mut [u8]) {
-    show::text(b"slice");
-    told(host::conepalhui_slice_full(plan, cursor, budget, out));
-    show::bytes(out);
-    show::text(b"alone ");
-    show::number(host::conepalhui_slice(plan, cursor, budget, again) as u64);
-    show::end_line();
-    show::bytes(again);
+fn slice<O: Write>(
+    out: &mut O,
+    plan: &[u8],
+    cursor: &[u8],
+    budget: u32,
+    lent: &mut [u8],
+    again: &mut [u8],
+) -> io::Result<()> {
+    show::text(out, b"slice")?;
+    told(out, host::conepalhui_slice_full(plan, cursor, budget, lent))?;
+    show::bytes(out, lent)?;
+    show::text(out, b"alone ")?;
+    show::number(
+        out,
+        host::conepalhui_slice(plan, cursor, budget, again) as u64,
+    )?;
+    show::end_line(out)?;
+    show::bytes(out, again)
 }
 
-fn slice_into(plan: &[u8], cursor: &[u8], budget: u32, room: usize) {
-    let mut out = [MARK; MAX_ROOM];
+fn slice_into<O: Write>(
+    out: &mut O,
+    plan: &[u8],
+    cursor: &[u8],
+    budget: u32,
+    room: usize,
+) -> io::Result<()> {
+    let mut lent = [MARK; MAX_ROOM];
     let mut again = [MARK; MAX_ROOM];
     if room <= MAX_ROOM {
-        slice(plan, cursor, budget, &mut out[0..room], &mut again[0..room]);
+        slice(
+            out,
+            plan,
+            cursor,
+            budget,
+            &mut lent[0..room],
+            &mut again[0..room],
+        )?;
     }
+    Ok(())
 }
 
-fn move_leg(plan: &[u8], cursor: &[u8], mv: Move, file: &mut [u8], out: &mut [u8]) {
-    show::text(b"move");
-    told(host::conepalhui_move_3(plan, cursor, mv.leg, mv.offset, mv.periods, file, out));
-    show::bytes(file);
-    show::bytes(out);
+fn move_leg<O: Write>(
+    out: &mut O,
+    plan: &[u8],
+    cursor: &[u8],
+    mv: Move,
+    file: &mut [u8],
+    lent: &mut [u8],
+) -> io::Result<()> {
+    show::text(out, b"move")?;
+    told(
+        out,
+        host::conepalhui_move_3(plan, cursor, mv.leg, mv.offset, mv.periods, file, lent),
+    )?;
+    show::bytes(out, file)?;
+    show::bytes(out, lent)
 }
 
 // A move: the leg, the offset, the period word, and the room for the new file and for the cursor.
-fn move_into(plan: &[u8], cursor: &[u8], numbers: [u32; 5]) {
+fn move_into<O: Write>(
+    out: &mut O,
+    plan: &[u8],
+    cursor: &[u8],
+    numbers: [u32; 5],
+) -> io::Result<()> {
     let mut file = [MARK; MAX_ROOM];
-    let mut out = [MARK; MAX_ROOM];
+    let mut lent = [MARK; MAX_ROOM];
     let mv = Move {
         leg: numbers[0],
         offset: numbers[1],
@@ -64,40 +106,55 @@ fn move_into(plan: &[u8], cursor: &[u8], numbers: [u32; 5]) {
     let room = numbers[4] as usize;
     if file_room <= MAX_ROOM {
         if room <= MAX_ROOM {
-            move_leg(plan, cursor, mv, &mut file[0..file_room], &mut out[0..room]);
+            move_leg(
+                out,
+                plan,
+                cursor,
+                mv,
+                &mut file[0..file_room],
+                &mut lent[0..room],
+            )?;
         }
     }
+    Ok(())
 }
 
-fn convert(old: &[u8], file: &mut [u8]) {
-    show::text(b"convert");
-    told(host::conepalhui_convert_first(old, file));
-    show::bytes(file);
+fn convert<O: Write>(out: &mut O, old: &[u8], file: &mut [u8]) -> io::Result<()> {
+    show::text(out, b"convert")?;
+    told(out, host::conepalhui_convert_first(old, file))?;
+    show::bytes(out, file)
 }
 
-fn convert_into(old: &[u8], room: usize) {
+fn convert_into<O: Write>(out: &mut O, old: &[u8], room: usize) -> io::Result<()> {
     let mut file = [MARK; MAX_ROOM];
     if room <= MAX_ROOM {
-        convert(old, &mut file[0..room]);
+        convert(out, old, &mut file[0..room])?;
     }
+    Ok(())
 }
 
-pub(crate) fn asked(verb: &[u8], numbers: [u32; 5], plan: &[u8], saved: &[u8]) -> bool {
+pub(crate) fn asked<O: Write>(
+    out: &mut O,
+    verb: &[u8],
+    numbers: [u32; 5],
+    plan: &[u8],
+    saved: &[u8],
+) -> io::Result<bool> {
     if text::is(verb, b"host-start") {
-        start_into(plan, numbers[0] as usize);
-        return true;
+        start_into(out, plan, numbers[0] as usize)?;
+        return Ok(true);
     }
     if text::is(verb, b"host-slice") {
-        slice_into(plan, saved, numbers[0], numbers[1] as usize);
-        return true;
+        slice_into(out, plan, saved, numbers[0], numbers[1] as usize)?;
+        return Ok(true);
     }
     if text::is(verb, b"host-move") {
-        move_into(plan, saved, numbers);
-        return true;
+        move_into(out, plan, saved, numbers)?;
+        return Ok(true);
     }
     if text::is(verb, b"host-convert") {
-        convert_into(plan, numbers[0] as usize);
-        return true;
+        convert_into(out, plan, numbers[0] as usize)?;
+        return Ok(true);
     }
-    false
+    Ok(false)
 }

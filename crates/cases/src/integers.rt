@@ -2,6 +2,8 @@
 ghost use Rattle.std.specs.Prelude.{◌≤◌, length};
 
 use crate::text;
+use std::io;
+use std::io::Write;
 
 const MINUS: u8 = 45;
 
@@ -27,27 +29,28 @@ pub(crate) fn below(z: i64) -> u64 {
 }
 
 // Prints the difference of two numbers.
-pub(crate) fn show_difference(up: u64, down: u64) {
+pub(crate) fn show_difference<O: Write>(out: &mut O, up: u64, down: u64) -> io::Result<()> {
     if down <= up {
-        show::number(up - down);
-        return;
+        show::number(out, up - down)?;
+        return Ok(());
     }
-    show::text(b"-");
-    show::number(down - up);
+    show::text(out, b"-")?;
+    show::number(out, down - up)
 }
 
-fn show_after_space(z: i64) {
-    show::text(b" ");
-    show_difference(above(z), below(z));
+fn show_after_space<O: Write>(out: &mut O, z: i64) -> io::Result<()> {
+    show::text(out, b" ")?;
+    show_difference(out, above(z), below(z))
 }
 
 // Prints numbers, each after a space.
-fn show_row(numbers: &[i64]) {
+fn show_row<O: Write>(out: &mut O, numbers: &[i64]) -> io::Result<()> {
     let mut i: usize = 0;
     while i < numbers.len() {
-        show_after_space(numbers[i]);
+        show_after_space(out, numbers[i])?;
         i = i + 1;
     }
+    Ok(())
 }
 
 fn is_zero(z: i64) -> bool {
@@ -70,17 +73,17 @@ fn used(numbers: &[i64]) -> usize
 }
 
 // Prints numbers up to the last that is not 0, and ends the line.
-pub(crate) fn show_used(numbers: &[i64]) {
+pub(crate) fn show_used<O: Write>(out: &mut O, numbers: &[i64]) -> io::Result<()> {
     let n = used(numbers);
     if n == 0 {
-        show::text(b" all 0\n");
-        return;
+        show::text(out, b" all 0\n")?;
+        return Ok(());
     }
-    show_row(&numbers[0..n]);
+    show_row(out, &numbers[0..n])?;
     if n < numbers.len() {
-        show::text(b", then 0");
+        show::text(out, b", then 0")?;
     }
-    show::end_line();
+    show::end_line(out)
 }
 
 // One digit more. What has too many is cut.

@@ -3,6 +3,8 @@
 #![tactic(auto)]
 
 use files::Cursor;
+use std::io;
+use std::io::Write;
 use table::Move;
 
 mod admit_calls;
@@ -74,55 +76,64 @@ fn with_cursor(set: Set, cursor: Cursor) -> Set {
 }
 
 // A call that changes neither table nor cursor.
-fn asked(verb: &[u8], rest: &[u8], table: &[u32], plan: &[u8], saved: &[u8], cursor: Cursor) {
+fn asked<O: Write>(
+    out: &mut O,
+    verb: &[u8],
+    rest: &[u8],
+    table: &[u32],
+    plan: &[u8],
+    saved: &[u8],
+    cursor: Cursor,
+) -> io::Result<()> {
     let numbers = text::five(rest);
-    if table_calls::asked(verb, numbers, table) {
-        return;
+    if table_calls::asked(out, verb, numbers, table)? {
+        return Ok(());
     }
-    if files_calls::asked(verb, rest, numbers, table, plan, saved, cursor) {
-        return;
+    if files_calls::asked(out, verb, rest, numbers, table, plan, saved, cursor)? {
+        return Ok(());
     }
-    if host_calls::asked(verb, numbers, plan, saved) {
-        return;
+    if host_calls::asked(out, verb, numbers, plan, saved)? {
+        return Ok(());
     }
-    if tool_calls::asked(verb, numbers, plan, saved) {
-        return;
+    if tool_calls::asked(out, verb, numbers, plan, saved)? {
+        return Ok(());
     }
-    if admit_calls::asked(verb, rest, table) {
-        return;
+    if admit_calls::asked(out, verb, rest, table)? {
+        return Ok(());
     }
-    if recheck_calls::asked(verb, rest, table) {
-        return;
+    if recheck_calls::asked(out, verb, rest, table)? {
+        return Ok(());
     }
-    if explain_calls::asked(verb, numbers, table) {
-        return;
+    if explain_calls::asked(out, verb, numbers, table)? {
+        return Ok(());
     }
-    if gates_calls::asked(verb, numbers, table, plan) {
-        return;
+    if gates_calls::asked(out, verb, numbers, table, plan)? {
+        return Ok(());
     }
-    if network_calls::asked(verb, rest) {
-        return;
+    if network_calls::asked(out, verb, rest)? {
+        return Ok(());
     }
-    show::text(b"bad line: ");
-    show::text(verb);
-    show::end_line();
+    show::text(out, b"bad line: ")?;
+    show::text(out, verb)?;
+    show::end_line(out)
 }
 
 // A call on what the lines so far have set, and the cursor after it.
-fn called(
+fn called<O: Write>(
+    out: &mut O,
     verb: &[u8],
     rest: &[u8],
     table: &mut [u32],
     plan: &[u8],
     saved: &[u8],
     cursor: Cursor,
-) -> Cursor {
+) -> io::Result<Cursor> {
     let numbers = text::five(rest);
     if text::is(verb, b"start") {
-        return table_calls::start(table);
+        return table_calls::start(out, table);
     }
     if text::is(verb, b"slice") {
-        return table_calls::slice(table, cursor, numbers[0]);
+        return table_calls::slice(out, table, cursor, numbers[0]);
     }
     if text::is(verb, b"move") {
         let mv = Move {
@@ -130,34 +141,36 @@ fn called(
             offset: numbers[1],
             periods: numbers[2],
         };
-        return table_calls::move_leg(table, cursor, mv);
+        return table_calls::move_leg(out, table, cursor, mv);
     }
-    asked(verb, rest, table, plan, saved, cursor);
-    cursor
+    asked(out, verb, rest, table, plan, saved, cursor)?;
+    Ok(cursor)
 }
 
-fn called_on(
+fn called_on<O: Write>(
+    out: &mut O,
     verb: &[u8],
     rest: &[u8],
     table: &mut [u32],
     plan: &[u8],
     saved: &[u8],
     set: Set,
-) -> Cursor {
+) -> io::Result<Cursor> {
     let cursor = set.cursor;
     let words = set.words;
     let bytes = set.plan;
     let kept = set.saved;
     if table.len() < words {
-        return cursor;
+        return Ok(cursor);
     }
     if plan.len() < bytes {
-        return cursor;
+        return Ok(cursor);
     }
     if saved.len() < kept {
-        return cursor;
+        return Ok(cursor);
     }
     called(
+        out,
         verb,
         rest,
         &mut table[0..words],
@@ -168,40 +181,54 @@ fn called_on(
 }
 
 // A line: its verb, and what stands after it.
-fn said(
+fn said<O: Write>(
+    out: &mut O,
     verb: &[u8],
     rest: &[u8],
     table: &mut [u32],
     plan: &mut [u8],
     saved: &mut [u8],
     set: Set,
-) -> Set {
+) -> io::Result<Set> {
     if text::is(verb, b"table") {
-        return with_words(set, text::words(rest, table));
+        return Ok(with_words(set, text::words(rest, table)));
     }
     if text::is(verb, b"plan") {
-        return with_plan(set, text::bytes(rest, plan));
+        return Ok(with_plan(set, text::bytes(rest, plan)));
     }
     if text::is(verb, b"saved") {
-        return with_saved(set, text::bytes(rest, saved));
+        return Ok(with_saved(set, text::bytes(rest, saved)));
     }
     if text::is(verb, b"cursor") {
-        return with_cursor(set, text::cursor(rest));
+        return Ok(with_cursor(set, text::cursor(rest)));
     }
-    with_cursor(set, called_on(verb, rest, table, plan, saved, set))
+    Ok(with_cursor(set, called_on(out, verb, rest, table, plan, saved, set)?))
 }
 
-fn line(text: &[u8], table: &mut [u32], plan: &mut [u8], saved: &mut [u8], set: Set) -> Set {
+fn line<O: Write>(
+    out: &mut O,
+    text: &[u8],
+    table: &mut [u32],
+    plan: &mut [u8],
+    saved: &mut [u8],
+    set: Set,
+) -> io::Result<Set> {
     let end = text::until(text, 0, text::SPACE);
     if text::is(&text[0..end], b"#") {
-        show::text(text);
-        show::end_line();
-        return set;
+        show::text(out, text)?;
+        show::end_line(out)?;
+        return Ok(set);
     }
-    said(&text[0..end], &text[end..], table, plan, saved, set)
+    said(out, &text[0..end], &text[end..], table, plan, saved, set)
 }
 
-fn lines(list: &[u8], table: &mut [u32], plan: &mut [u8], saved: &mut [u8]) {
+fn lines<O: Write>(
+    out: &mut O,
+    list: &[u8],
+    table: &mut [u32],
+    plan: &mut [u8],
+    saved: &mut [u8],
+) -> io::Result<()> {
     let mut set = Set {
         words: 0,
         plan: 0,
@@ -215,16 +242,21 @@ fn lines(list: &[u8], table: &mut [u32], plan: &mut [u8], saved: &mut [u8]) {
     let mut at: usize = 0;
     while at < list.len() {
         let end = text::until(list, at, text::NEW_LINE);
-        set = line(&list[at..end], table, plan, saved, set);
+        set = line(out, &list[at..end], table, plan, saved, set)?;
         at = end + 1;
     }
+    Ok(())
 }
 
-fn main() {
+fn run<R: Input, O: Write>(rt: &R, out: &mut O) -> io::Result<()> {
     let mut list = [0u8; MAX_LIST];
     let mut table = [0u32; table::MAX_TABLE_WORDS];
     let mut plan = [0u8; MAX_PLAN];
     let mut saved = [0u8; MAX_SAVED];
-    let n = input::standard_part(&mut list);
-    lines(&list[..n], &mut table, &mut plan, &mut saved);
+    let n = input::standard_part(rt, &mut list);
+    lines(out, &list[..n], &mut table, &mut plan, &mut saved)
+}
+
+fn main(rt: HostRuntime) {
+    let _ = run(&rt, &mut rt.stdout());
 }

@@ -4,131 +4,150 @@ use basics::Checked;
 use checker::{Grant, SliceAnswer};
 use files::Cursor;
 use rules::Rule;
+use std::io;
+use std::io::Write;
 use table::Move;
 
-fn number(n: u32) {
-    show::text(b" ");
-    show::number(n as u64);
+fn number<O: Write>(out: &mut O, n: u32) -> io::Result<()> {
+    show::text(out, b" ")?;
+    show::number(out, n as u64)
 }
 
 // Prints a cursor, and ends no line.
-pub(crate) fn cursor(c: Cursor) {
-    show::text(b"cursor");
-    number(c.revision);
-    number(c.leg);
-    number(c.place);
+pub(crate) fn cursor<O: Write>(out: &mut O, c: Cursor) -> io::Result<()> {
+    show::text(out, b"cursor")?;
+    number(out, c.revision)?;
+    number(out, c.leg)?;
+    number(out, c.place)
 }
 
-fn steps(n: u32) {
-    show::text(b" steps");
-    number(n);
+fn steps<O: Write>(out: &mut O, n: u32) -> io::Result<()> {
+    show::text(out, b" steps")?;
+    number(out, n)
 }
 
-fn refused(number: u32, position: usize, back: Cursor) {
-    show::refused(number, position);
-    show::text(b"given back: ");
-    cursor(back);
-    show::end_line();
+fn refused<O: Write>(out: &mut O, number: u32, position: usize, back: Cursor) -> io::Result<()> {
+    show::refused(out, number, position)?;
+    show::text(out, b"given back: ")?;
+    cursor(out, back)?;
+    show::end_line(out)
 }
 
-fn violated(c: Cursor, n: u32, r: Rule) {
-    show::text(b"violated: ");
-    cursor(c);
-    steps(n);
-    show::text(b" rule ");
-    show::told::rule(r);
-    show::end_line();
+fn violated<O: Write>(out: &mut O, c: Cursor, n: u32, r: Rule) -> io::Result<()> {
+    show::text(out, b"violated: ")?;
+    cursor(out, c)?;
+    steps(out, n)?;
+    show::text(out, b" rule ")?;
+    show::told::rule(out, r)?;
+    show::end_line(out)
 }
 
-fn went(kind: &[u8], c: Cursor, n: u32) {
-    show::text(kind);
-    cursor(c);
-    steps(n);
-    show::end_line();
+fn went<O: Write>(out: &mut O, kind: &[u8], c: Cursor, n: u32) -> io::Result<()> {
+    show::text(out, kind)?;
+    cursor(out, c)?;
+    steps(out, n)?;
+    show::end_line(out)
 }
 
 // Prints what a start or a move gave.
-fn granted(answer: Grant) -> Cursor {
+fn granted<O: Write>(out: &mut O, answer: Grant) -> io::Result<Cursor> {
     match answer {
         Grant::Granted(c) => {
-            show::text(b"granted: ");
-            cursor(c);
-            show::end_line();
-            c
+            show::text(out, b"granted: ")?;
+            cursor(out, c)?;
+            show::end_line(out)?;
+            Ok(c)
         }
         Grant::Refused(number, position, c) => {
-            refused(number, position, c);
-            c
+            refused(out, number, position, c)?;
+            Ok(c)
         }
     }
 }
 
 // Prints what a slice gave.
-fn sliced(answer: SliceAnswer) -> Cursor {
+fn sliced<O: Write>(out: &mut O, answer: SliceAnswer) -> io::Result<Cursor> {
     match answer {
         SliceAnswer::Violated(c, n, r) => {
-            violated(c, n, r);
-            c
+            violated(out, c, n, r)?;
+            Ok(c)
         }
         SliceAnswer::NothingViolated(c, n) => {
-            went(b"nothing violated: ", c, n);
-            c
+            went(out, b"nothing violated: ", c, n)?;
+            Ok(c)
         }
         SliceAnswer::Paused(c, n) => {
-            went(b"paused: ", c, n);
-            c
+            went(out, b"paused: ", c, n)?;
+            Ok(c)
         }
         SliceAnswer::Refused(number, position, c) => {
-            refused(number, position, c);
-            c
+            refused(out, number, position, c)?;
+            Ok(c)
         }
     }
 }
 
-pub(crate) fn start(t: &[u32]) -> Cursor {
-    granted(checker::start(t))
+pub(crate) fn start<O: Write>(out: &mut O, t: &[u32]) -> io::Result<Cursor> {
+    granted(out, checker::start(t))
 }
 
-pub(crate) fn slice(t: &[u32], c: Cursor, budget: u32) -> Cursor {
-    sliced(checker::slice(t, c, budget))
+pub(crate) fn slice<O: Write>(
+    out: &mut O,
+    t: &[u32],
+    c: Cursor,
+    budget: u32,
+) -> io::Result<Cursor> {
+    sliced(out, checker::slice(t, c, budget))
 }
 
-pub(crate) fn move_leg(t: &mut [u32], c: Cursor, mv: Move) -> Cursor {
-    let d = granted(checker::move_leg(t, c, mv));
-    show::text(b"table: ");
-    show::rest_words(t, 0);
-    d
+pub(crate) fn move_leg<O: Write>(
+    out: &mut O,
+    t: &mut [u32],
+    c: Cursor,
+    mv: Move,
+) -> io::Result<Cursor> {
+    let d = granted(out, checker::move_leg(t, c, mv))?;
+    show::text(out, b"table: ")?;
+    show::rest_words(out, t, 0)?;
+    Ok(d)
 }
 
-fn shape_line(t: &[u32]) {
+fn shape_line<O: Write>(out: &mut O, t: &[u32]) -> io::Result<()> {
     let shape = shape::judged_shape(t);
     match shape {
         Checked::Clear => {
-            show::text(b"well-formed\n");
+            show::text(out, b"well-formed\n")?;
         }
         Checked::Refused(number, at) => {
-            show::refused(number, at);
+            show::refused(out, number, at)?;
         }
     }
+    Ok(())
 }
 
 // How many places so many legs have.
-fn places_line(legs: usize) {
+fn places_line<O: Write>(out: &mut O, legs: usize) -> io::Result<()> {
     if legs <= table::MAX_LEGS {
-        show::text(b"places ");
-        show::number(places::place_count(legs) as u64);
-        show::end_line();
+        show::text(out, b"places ")?;
+        show::number(out, places::place_count(legs) as u64)?;
+        show::end_line(out)?;
     }
+    Ok(())
 }
 
-pub(crate) fn asked(verb: &[u8], numbers: [u32; 5], t: &[u32]) -> bool {
+pub(crate) fn asked<O: Write>(
+    out: &mut O,
+    verb: &[u8],
+    numbers: [u32; 5],
+    t: &[u32],
+) -> io::Result<bool> {
     if text::is(verb, b"shape") {
-        shape_line(t);
-        return true;
+        shape_line(out, t)?;
+        return Ok(true);
     }
     if text::is(verb, b"places") {
-        places_line(numbers[0] as usize);
-        return true;
+        places_line(out, numbers[0] as usize)?;
+        return Ok(true);
     }
-    false
+    Ok(false)
 }

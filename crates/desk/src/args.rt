@@ -1,5 +1,7 @@
 // The arguments: the verb, and then numbers.
 use decimal::Decimal;
+use std::env::Env;
+use std::io::Write;
 
 pub(crate) const VERB_AT: usize = 1;
 
@@ -25,21 +27,21 @@ pub(crate) enum Word {
     Wrong,
 }
 
-fn no_number(what: &[u8]) -> Word {
-    reasons::begin();
-    reasons::text(what);
-    reasons::text(b" is not a number from 0 to 4294967295\n");
+fn no_number<E: Write>(err: &mut E, what: &[u8]) -> Word {
+    reasons::begin(err);
+    reasons::text(err, what);
+    reasons::text(err, b" is not a number from 0 to 4294967295\n");
     Word::Wrong
 }
 
-pub(crate) fn number_at(i: usize, what: &[u8]) -> Word {
+pub(crate) fn number_at<R: Env, E: Write>(rt: &R, err: &mut E, i: usize, what: &[u8]) -> Word {
     let mut digits = [0u8; 4096];
-    let n = input::argument_or_nothing(i, &mut digits);
+    let n = input::argument_or_nothing(rt, i, &mut digits);
     let read = decimal::read_decimal(&digits[..n]);
     match read {
         Decimal::Value(value) => Word::Given(value),
-        Decimal::Empty => no_number(what),
-        Decimal::NoDigit(_) => no_number(what),
-        Decimal::TooLarge => no_number(what),
+        Decimal::Empty => no_number(err, what),
+        Decimal::NoDigit(_) => no_number(err, what),
+        Decimal::TooLarge => no_number(err, what),
     }
 }

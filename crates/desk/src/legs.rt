@@ -6,6 +6,8 @@ use plan_text::names;
 use reasons::records;
 use rules::Frame;
 use show::{number, text};
+use std::io;
+use std::io::Write;
 
 // A leg with what its stream and its link say of it, or that there is none.
 #[derive(Clone, Copy)]
@@ -40,73 +42,92 @@ pub(crate) fn first_of(t: &[u32], a: u32) -> u32 {
 }
 
 // Prints a label and a number.
-pub(crate) fn numbered(label: &[u8], n: u64) {
-    text(label);
-    number(n);
+pub(crate) fn numbered<O: Write>(out: &mut O, label: &[u8], n: u64) -> io::Result<()> {
+    text(out, label)?;
+    number(out, n)
 }
 
 // A name in brackets, if there is one.
-fn in_brackets(name: &[u8]) {
+fn in_brackets<O: Write>(out: &mut O, name: &[u8]) -> io::Result<()> {
     if 0 < name.len() {
-        text(b" (");
-        text(name);
-        text(b")");
+        text(out, b" (")?;
+        text(out, name)?;
+        text(out, b")")?;
     }
+    Ok(())
 }
 
-fn node(names_text: &[u8], draft: &[u32], n: u32) {
-    numbered(b"node ", n as u64);
-    in_brackets(names::node(names_text, draft, n));
+fn node<O: Write>(out: &mut O, names_text: &[u8], draft: &[u32], n: u32) -> io::Result<()> {
+    numbered(out, b"node ", n as u64)?;
+    in_brackets(out, names::node(names_text, draft, n))
 }
 
 // Where a leg belongs: its stream, and its link with the nodes at its ends.
-pub(crate) fn belongs(t: &[u32], names_text: &[u8], draft: &[u32], a: u32) {
+pub(crate) fn belongs<O: Write>(
+    out: &mut O,
+    t: &[u32],
+    names_text: &[u8],
+    draft: &[u32],
+    a: u32,
+) -> io::Result<()> {
     let leg = records::leg_at(t, a);
     let link = records::link_at(t, leg.link);
-    numbered(b"stream ", leg.stream as u64);
-    in_brackets(names::stream(names_text, draft, leg.stream));
-    numbered(b", link ", leg.link as u64);
-    text(b" from ");
-    node(names_text, draft, link.from);
-    text(b" to ");
-    node(names_text, draft, link.to);
+    numbered(out, b"stream ", leg.stream as u64)?;
+    in_brackets(out, names::stream(names_text, draft, leg.stream))?;
+    numbered(out, b", link ", leg.link as u64)?;
+    text(out, b" from ")?;
+    node(out, names_text, draft, link.from)?;
+    text(out, b" to ")?;
+    node(out, names_text, draft, link.to)
 }
 
 // A leg's line: where it belongs, and the numbers that all rules use.
-pub(crate) fn line(t: &[u32], names_text: &[u8], draft: &[u32], a: u32, f: Frame) {
+pub(crate) fn line<O: Write>(
+    out: &mut O,
+    t: &[u32],
+    names_text: &[u8],
+    draft: &[u32],
+    a: u32,
+    f: Frame,
+) -> io::Result<()> {
     let leg = records::leg_at(t, a);
     let stream = records::stream_at(t, leg.stream);
     let link = records::link_at(t, leg.link);
-    numbered(b"leg ", a as u64);
-    text(b": ");
-    belongs(t, names_text, draft, a);
-    numbered(b"; offset ", f.offset);
-    numbered(b" ns, period word ", leg.periods as u64);
-    numbered(b", period ", f.period);
-    numbered(b" ns; ", stream.octets as u64);
-    numbered(b" octets at ", link.rate as u64);
-    numbered(b" ns: on the wire for ", f.wire);
-    numbered(b" ns, holds the link for ", f.hold);
-    text(b" ns\n");
+    numbered(out, b"leg ", a as u64)?;
+    text(out, b": ")?;
+    belongs(out, t, names_text, draft, a)?;
+    numbered(out, b"; offset ", f.offset)?;
+    numbered(out, b" ns, period word ", leg.periods as u64)?;
+    numbered(out, b", period ", f.period)?;
+    numbered(out, b" ns; ", stream.octets as u64)?;
+    numbered(out, b" octets at ", link.rate as u64)?;
+    numbered(out, b" ns: on the wire for ", f.wire)?;
+    numbered(out, b" ns, holds the link for ", f.hold)?;
+    text(out, b" ns\n")
 }
 
 // When a leg starts: offset + period word x period = start.
-pub(crate) fn start(t: &[u32], a: u32, f: Frame) {
+pub(crate) fn start<O: Write>(out: &mut O, t: &[u32], a: u32, f: Frame) -> io::Result<()> {
     let leg = records::leg_at(t, a);
-    number(f.offset);
+    number(out, f.offset)?;
     if 0 < leg.periods {
-        numbered(b" + ", leg.periods as u64);
-        numbered(b" x ", f.period);
-        numbered(b" = ", f.start);
+        numbered(out, b" + ", leg.periods as u64)?;
+        numbered(out, b" x ", f.period)?;
+        numbered(out, b" = ", f.start)?;
     }
+    Ok(())
 }
 
 // When a leg's frame is at the next node: start + wire + propagation + precision = ready.
-pub(crate) fn ready(t: &[u32], f: Frame, at: u64) {
-    number(f.start);
-    numbered(b" + ", f.wire);
-    numbered(b" + ", f.propagation);
-    numbered(b" + ", records::header_word(t, table::PRECISION_AT) as u64);
-    numbered(b" = ", at);
-    text(b" ns (start, on the wire, propagation, precision)");
+pub(crate) fn ready<O: Write>(out: &mut O, t: &[u32], f: Frame, at: u64) -> io::Result<()> {
+    number(out, f.start)?;
+    numbered(out, b" + ", f.wire)?;
+    numbered(out, b" + ", f.propagation)?;
+    numbered(
+        out,
+        b" + ",
+        records::header_word(t, table::PRECISION_AT) as u64,
+    )?;
+    numbered(out, b" = ", at)?;
+    text(out, b" ns (start, on the wire, propagation, precision)")
 }

@@ -6,6 +6,10 @@
 use args::Word;
 use input::Given;
 use show::answers;
+use std::env::Env;
+use std::io;
+use std::io::Write;
+use std::rt::Files;
 
 mod args;
 mod explain;
@@ -26,15 +30,18 @@ enum Order {
     Wrong,
 }
 
-fn no_verb() -> Order {
-    reasons::text(b"the first argument is all, part, first, given, cursor or slack\n");
+fn no_verb<E: Write>(err: &mut E) -> Order {
+    reasons::text(
+        err,
+        b"the first argument is all, part, first, given, cursor or slack\n",
+    );
     Order::Wrong
 }
 
 // Its first letter tells a verb.
-fn order_of(verb: &[u8]) -> Order {
+fn order_of<E: Write>(err: &mut E, verb: &[u8]) -> Order {
     if verb.len() == 0 {
-        return no_verb();
+        return no_verb(err);
     }
     match verb[0] {
         b'a' => Order::All,
@@ -43,113 +50,178 @@ fn order_of(verb: &[u8]) -> Order {
         b'g' => Order::Given,
         b'c' => Order::Cursor,
         b's' => Order::Slack,
-        _ => no_verb(),
+        _ => no_verb(err),
     }
 }
 
-fn order_given() -> Order {
+fn order_given<R: Env, E: Write>(rt: &R, err: &mut E) -> Order {
     let mut verb = [0u8; 4096];
-    let n = input::argument_or_nothing(args::VERB_AT, &mut verb);
-    order_of(&verb[..n])
+    let n = input::argument_or_nothing(rt, args::VERB_AT, &mut verb);
+    order_of(err, &verb[..n])
 }
 
-fn given_place(t: &[u32], names_text: &[u8], draft: &[u32]) {
-    let first = args::number_at(args::GIVEN_LEG_AT, b"the leg");
+fn given_place<R: Env, O: Write, E: Write>(
+    rt: &R,
+    out: &mut O,
+    err: &mut E,
+    t: &[u32],
+    names_text: &[u8],
+    draft: &[u32],
+) -> io::Result<()> {
+    let first = args::number_at(rt, err, args::GIVEN_LEG_AT, b"the leg");
     let Word::Given(leg) = first else {
-        return;
+        return Ok(());
     };
-    let second = args::number_at(args::GIVEN_PLACE_AT, b"the place");
+    let second = args::number_at(rt, err, args::GIVEN_PLACE_AT, b"the place");
     let Word::Given(place) = second else {
-        return;
+        return Ok(());
     };
-    explain::place(t, names_text, draft, leg, place);
+    explain::place(out, err, t, names_text, draft, leg, place)
 }
 
-fn cursor_place(t: &[u32], names_text: &[u8], draft: &[u32]) {
+fn cursor_place<R: Env + Files, O: Write, E: Write>(
+    rt: &R,
+    out: &mut O,
+    err: &mut E,
+    t: &[u32],
+    names_text: &[u8],
+    draft: &[u32],
+) -> io::Result<()> {
     let mut path = [0u8; 4096];
-    let given = input::argument(args::CURSOR_AT, &mut path, b"the path of the cursor");
+    let given = input::argument(
+        rt,
+        err,
+        args::CURSOR_AT,
+        &mut path,
+        b"the path of the cursor",
+    );
     if let Some(n) = given {
-        saved::place(t, names_text, draft, &path[..n]);
+        saved::place(rt, out, err, t, names_text, draft, &path[..n])?;
     }
+    Ok(())
 }
 
 // What is answered with the names of nodes and streams.
-fn named(t: &[u32], names_text: &[u8], draft: &[u32], order: Order) {
+fn named<R: Env + Files, O: Write, E: Write>(
+    rt: &R,
+    out: &mut O,
+    err: &mut E,
+    t: &[u32],
+    names_text: &[u8],
+    draft: &[u32],
+    order: Order,
+) -> io::Result<()> {
     match order {
         Order::First => {
-            explain::first(t, names_text, draft);
+            explain::first(out, err, t, names_text, draft)?;
         }
         Order::Given => {
-            given_place(t, names_text, draft);
+            given_place(rt, out, err, t, names_text, draft)?;
         }
         Order::Cursor => {
-            cursor_place(t, names_text, draft);
+            cursor_place(rt, out, err, t, names_text, draft)?;
         }
         Order::Slack => {
-            slack::of(t, names_text, draft);
+            slack::of(out, err, t, names_text, draft)?;
         }
         Order::All => {}
         Order::Part => {}
         Order::Wrong => {}
     }
+    Ok(())
 }
 
 // The names beside the plan are read first.
-fn named_in(t: &[u32], order: Order, names_text: &mut [u8], draft: &mut [u32]) {
+fn named_in<R: Env + Files, O: Write, E: Write>(
+    rt: &R,
+    out: &mut O,
+    err: &mut E,
+    t: &[u32],
+    order: Order,
+    names_text: &mut [u8],
+    draft: &mut [u32],
+) -> io::Result<()> {
     let mut path = [0u8; 4096];
-    let n = input::argument_or_nothing(args::PLAN_AT, &mut path);
-    plan_text::names::beside(&path[..n], t, names_text, draft);
-    named(t, names_text, draft, order);
+    let n = input::argument_or_nothing(rt, args::PLAN_AT, &mut path);
+    plan_text::names::beside(rt, err, &path[..n], t, names_text, draft);
+    named(rt, out, err, t, names_text, draft, order)
 }
 
-fn with_names(t: &[u32], order: Order) {
+fn with_names<R: Env + Files, O: Write, E: Write>(
+    rt: &R,
+    out: &mut O,
+    err: &mut E,
+    t: &[u32],
+    order: Order,
+) -> io::Result<()> {
     let mut names_text = [0u8; plan_text::TEXT_ROOM];
     let mut draft = [0u32; plan_text::DRAFT_WORDS];
-    named_in(t, order, &mut names_text, &mut draft);
+    named_in(rt, out, err, t, order, &mut names_text, &mut draft)
 }
 
-fn answered(t: &[u32]) {
-    let order = order_given();
+fn answered<R: Env + Files, O: Write, E: Write>(
+    rt: &R,
+    out: &mut O,
+    err: &mut E,
+    t: &[u32],
+) -> io::Result<()> {
+    let order = order_given(rt, err);
     match order {
         Order::All => {
-            tour::all(t);
+            tour::all(out, err, t)?;
         }
         Order::Part => {
-            tour::part(t);
+            tour::part(rt, out, err, t)?;
         }
         Order::First => {
-            with_names(t, order);
+            with_names(rt, out, err, t, order)?;
         }
         Order::Given => {
-            with_names(t, order);
+            with_names(rt, out, err, t, order)?;
         }
         Order::Cursor => {
-            with_names(t, order);
+            with_names(rt, out, err, t, order)?;
         }
         Order::Slack => {
-            with_names(t, order);
+            with_names(rt, out, err, t, order)?;
         }
         Order::Wrong => {}
     }
+    Ok(())
 }
 
-fn words_answered(words: &[u32], n: usize) {
+fn words_answered<R: Env + Files, O: Write, E: Write>(
+    rt: &R,
+    out: &mut O,
+    err: &mut E,
+    words: &[u32],
+    n: usize,
+) -> io::Result<()> {
     if words.len() < n {
-        return;
+        return Ok(());
     }
-    answered(&words[0..n]);
+    answered(rt, out, err, &words[0..n])
 }
 
-fn main() {
+fn run<R: Env + Files + Input, O: Write, E: Write>(
+    rt: &R,
+    out: &mut O,
+    err: &mut E,
+) -> io::Result<()> {
     let mut words = [0u32; table::MAX_TABLE_WORDS];
-    let given = input::given_plan(&mut words);
+    let given = input::given_plan(rt, err, &mut words);
     match given {
         Given::Words(n) => {
-            words_answered(&words, n);
+            words_answered(rt, out, err, &words, n)?;
         }
         Given::Refused(number, at) => {
-            answers::plan_refused(number, at);
+            answers::plan_refused(out, number, at)?;
         }
         Given::Unread => {}
     }
+    Ok(())
+}
+
+fn main(rt: HostRuntime) {
+    let _ = run(&rt, &mut rt.stdout(), &mut rt.stderr());
 }

@@ -6,6 +6,8 @@ use checker::{Grant, SliceAnswer};
 use margins::{MarginAnswer, Spare};
 use reasons::records;
 use show::{answers, text};
+use std::io;
+use std::io::Write;
 
 // More than any table has places.
 const ENOUGH: u32 = 4294967295;
@@ -103,68 +105,103 @@ fn gather(t: &[u32], place: u32, left: &mut [u64], legs: &mut [u32]) -> u32 {
     asked
 }
 
-fn print_row(t: &[u32], names_text: &[u8], draft: &[u32], row: Row) {
+fn print_row<O: Write>(
+    out: &mut O,
+    t: &[u32],
+    names_text: &[u8],
+    draft: &[u32],
+    row: Row,
+) -> io::Result<()> {
     if row.left == NONE {
-        return;
+        return Ok(());
     }
-    numbered(b"leg ", row.leg as u64);
-    numbered(b" ", row.left);
-    text(b" ns left: ");
-    legs::belongs(t, names_text, draft, row.leg);
-    text(b"\n");
+    numbered(out, b"leg ", row.leg as u64)?;
+    numbered(out, b" ", row.left)?;
+    text(out, b" ns left: ")?;
+    legs::belongs(out, t, names_text, draft, row.leg)?;
+    text(out, b"\n")
 }
 
-fn print_rows(t: &[u32], names_text: &[u8], draft: &[u32], left: &[u64], legs: &[u32]) {
+fn print_rows<O: Write>(
+    out: &mut O,
+    t: &[u32],
+    names_text: &[u8],
+    draft: &[u32],
+    left: &[u64],
+    legs: &[u32],
+) -> io::Result<()> {
     let mut i: usize = 0;
     while i < TOLD {
-        print_row(t, names_text, draft, row_at(left, legs, i));
+        print_row(out, t, names_text, draft, row_at(left, legs, i))?;
         i = i + 1;
     }
+    Ok(())
 }
 
 // The legs with the least left by one rule, and how many it asks something of.
-fn by_rule(t: &[u32], names_text: &[u8], draft: &[u32], word: &[u8], place: u32) {
+fn by_rule<O: Write>(
+    out: &mut O,
+    t: &[u32],
+    names_text: &[u8],
+    draft: &[u32],
+    word: &[u8],
+    place: u32,
+) -> io::Result<()> {
     let mut left = [NONE; TOLD];
     let mut legs = [0u32; TOLD];
     let asked = gather(t, place, &mut left, &mut legs);
-    text(b"least by ");
-    text(word);
-    numbered(b", of ", asked as u64);
-    text(b"\n");
-    print_rows(t, names_text, draft, &left, &legs);
+    text(out, b"least by ")?;
+    text(out, word)?;
+    numbered(out, b", of ", asked as u64)?;
+    text(out, b"\n")?;
+    print_rows(out, t, names_text, draft, &left, &legs)
 }
 
-fn thin(t: &[u32], names_text: &[u8], draft: &[u32]) {
-    text(b"accepted\n");
-    by_rule(t, names_text, draft, b"window", 0);
-    by_rule(t, names_text, draft, b"hop", 1);
-    by_rule(t, names_text, draft, b"deadline", 2);
-    text(b"status 0\n");
+fn thin<O: Write>(out: &mut O, t: &[u32], names_text: &[u8], draft: &[u32]) -> io::Result<()> {
+    text(out, b"accepted\n")?;
+    by_rule(out, t, names_text, draft, b"window", 0)?;
+    by_rule(out, t, names_text, draft, b"hop", 1)?;
+    by_rule(out, t, names_text, draft, b"deadline", 2)?;
+    text(out, b"status 0\n")
 }
 
-fn judged(t: &[u32], names_text: &[u8], draft: &[u32], answer: SliceAnswer) {
+fn judged<O: Write>(
+    out: &mut O,
+    t: &[u32],
+    names_text: &[u8],
+    draft: &[u32],
+    answer: SliceAnswer,
+) -> io::Result<()> {
     match answer {
         SliceAnswer::Violated(at, steps, rule) => {
-            answers::first_violated(at, rule);
+            answers::first_violated(out, at, rule)?;
         }
         SliceAnswer::NothingViolated(end, steps) => {
-            thin(t, names_text, draft);
+            thin(out, t, names_text, draft)?;
         }
         SliceAnswer::Paused(at, steps) => {}
         SliceAnswer::Refused(number, at, given) => {}
     }
+    Ok(())
 }
 
 // Where a plan is thin, if it is accepted.
-pub(crate) fn of(t: &[u32], names_text: &[u8], draft: &[u32]) {
+pub(crate) fn of<O: Write, E: Write>(
+    out: &mut O,
+    err: &mut E,
+    t: &[u32],
+    names_text: &[u8],
+    draft: &[u32],
+) -> io::Result<()> {
     let started = checker::start(t);
     match started {
         Grant::Refused(number, at, given) => {
-            records::why(t, number, at);
-            answers::plan_refused(number, at);
+            records::why(err, t, number, at);
+            answers::plan_refused(out, number, at)?;
         }
         Grant::Granted(cursor) => {
-            judged(t, names_text, draft, checker::slice(t, cursor, ENOUGH));
+            judged(out, t, names_text, draft, checker::slice(t, cursor, ENOUGH))?;
         }
     }
+    Ok(())
 }

@@ -9,6 +9,9 @@ use files::Cursor;
 use reasons::records;
 use rules::Rule;
 use show::{answers, told};
+use std::env::Env;
+use std::io;
+use std::io::Write;
 use survey::Found;
 
 // More than any table has places.
@@ -21,13 +24,13 @@ enum Ended {
     Stands(u32, Cursor),
 }
 
-fn noted(at: Cursor, rule: Rule) {
-    told::violated(at, rule);
-    show::end_line();
+fn noted<O: Write>(out: &mut O, at: Cursor, rule: Rule) -> io::Result<()> {
+    told::violated(out, at, rule)?;
+    show::end_line(out)
 }
 
 // Looks at the next places, as many as the budget says, and notes each violated one.
-fn surveyed(t: &[u32], from: Cursor, budget: u32) -> Ended
+fn surveyed<O: Write>(out: &mut O, t: &[u32], from: Cursor, budget: u32) -> io::Result<Ended>
     requires { CursorRight t.now from }
 {
     let mut c = from;
@@ -37,88 +40,107 @@ fn surveyed(t: &[u32], from: Cursor, budget: u32) -> Ended
         let found = survey::step(t, c, left);
         match found {
             Found::Over(end) => {
-                return Ended::Over(count, end);
+                return Ok(Ended::Over(count, end));
             }
             Found::Paused(at) => {
-                return Ended::Stands(count, at);
+                return Ok(Ended::Stands(count, at));
             }
             Found::Violated(at, steps, rule, next) => {
-                noted(at, rule);
+                noted(out, at, rule)?;
                 c = next;
                 left = left - steps;
                 count = std::num::wrapping_add_u32(count, 1);
             }
         }
     }
-    Ended::Stands(count, c)
+    Ok(Ended::Stands(count, c))
 }
 
 // The last line of a whole survey. It cannot pause: the budget is more than the places.
-fn summed_up(ended: Ended, legs: usize) {
+fn summed_up<O: Write>(out: &mut O, ended: Ended, legs: usize) -> io::Result<()> {
     match ended {
         Ended::Over(count, end) => {
-            answers::survey_told(count, legs);
+            answers::survey_told(out, count, legs)?;
         }
         Ended::Stands(count, at) => {}
     }
+    Ok(())
 }
 
 // Every violated place of a plan.
-pub(crate) fn all(t: &[u32]) {
+pub(crate) fn all<O: Write, E: Write>(out: &mut O, err: &mut E, t: &[u32]) -> io::Result<()> {
     let started = checker::start(t);
     match started {
         Grant::Refused(number, at, given) => {
-            records::why(t, number, at);
-            answers::plan_refused(number, at);
+            records::why(err, t, number, at);
+            answers::plan_refused(out, number, at)?;
         }
         Grant::Granted(cursor) => {
-            answers::counts(records::leg_count(t));
-            summed_up(surveyed(t, cursor, ENOUGH), records::leg_count(t));
+            answers::counts(out, records::leg_count(t))?;
+            let ended = surveyed(out, t, cursor, ENOUGH)?;
+            summed_up(out, ended, records::leg_count(t))?;
         }
     }
+    Ok(())
 }
 
 // The last line of a part: where the survey stands, or that it is over.
-fn part_ended(ended: Ended, legs: usize) {
+fn part_ended<O: Write>(out: &mut O, ended: Ended, legs: usize) -> io::Result<()> {
     match ended {
         Ended::Over(count, at) => {
-            answers::survey_part(b"status 0 over", count, at, legs);
+            answers::survey_part(out, b"status 0 over", count, at, legs)?;
         }
         Ended::Stands(count, at) => {
-            answers::survey_part(b"status 3 stands", count, at, legs);
+            answers::survey_part(out, b"status 3 stands", count, at, legs)?;
         }
     }
+    Ok(())
 }
 
 // A part of a survey, from where it stands on.
-fn part_from(t: &[u32], from: Cursor, budget: u32) {
+fn part_from<O: Write, E: Write>(
+    out: &mut O,
+    err: &mut E,
+    t: &[u32],
+    from: Cursor,
+    budget: u32,
+) -> io::Result<()> {
     let told = checker::cursors::judged_cursor(t, from);
     match told {
         Checked::Refused(number, at) => {
-            records::why(t, number, at);
-            answers::plan_refused(number, at);
+            records::why(err, t, number, at);
+            answers::plan_refused(out, number, at)?;
         }
         Checked::Clear => {
-            part_ended(surveyed(t, from, budget), records::leg_count(t));
+            let ended = surveyed(out, t, from, budget)?;
+            part_ended(out, ended, records::leg_count(t))?;
         }
     }
+    Ok(())
 }
 
-pub(crate) fn part(t: &[u32]) {
-    let first = args::number_at(args::LEG_AT, b"the leg");
+pub(crate) fn part<R: Env, O: Write, E: Write>(
+    rt: &R,
+    out: &mut O,
+    err: &mut E,
+    t: &[u32],
+) -> io::Result<()> {
+    let first = args::number_at(rt, err, args::LEG_AT, b"the leg");
     let Word::Given(leg) = first else {
-        return;
+        return Ok(());
     };
-    let second = args::number_at(args::PLACE_AT, b"the place");
+    let second = args::number_at(rt, err, args::PLACE_AT, b"the place");
     let Word::Given(place) = second else {
-        return;
+        return Ok(());
     };
-    let third = args::number_at(args::BUDGET_AT, b"the budget");
+    let third = args::number_at(rt, err, args::BUDGET_AT, b"the budget");
     let Word::Given(budget) = third else {
-        return;
+        return Ok(());
     };
     let revision = records::header_word(t, table::REVISION_AT);
     part_from(
+        out,
+        err,
         t,
         Cursor {
             revision,
@@ -126,5 +148,5 @@ pub(crate) fn part(t: &[u32]) {
             place,
         },
         budget,
-    );
+    )
 }

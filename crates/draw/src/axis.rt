@@ -2,6 +2,8 @@
 use crate::svg;
 use crate::svg::{larger, lesser, minus, plus};
 use show::{number, text};
+use std::io;
+use std::io::Write;
 
 // Internal: where the plot begins, and how wide it is.
 pub(crate) const LEFT: u64 = 25000;
@@ -115,107 +117,123 @@ fn first_from(instant: u64, step: u64) -> u64 {
     plus(minus(instant, over), step)
 }
 
-fn label(axis: Axis, at: u64, unit: u64, y: u64) {
+fn label<O: Write>(out: &mut O, axis: Axis, at: u64, unit: u64, y: u64) -> io::Result<()> {
     if unit == 0 {
-        return;
+        return Ok(());
     }
-    svg::begin_text(b"mid small tick", place(axis, at), y);
-    number(at / unit);
-    svg::end_text();
+    svg::begin_text(out, b"mid small tick", place(axis, at), y)?;
+    number(out, at / unit)?;
+    svg::end_text(out)
 }
 
 // Internal: the lines of the steps from a height to another.
-pub(crate) fn grid(axis: Axis, top: u64, bottom: u64) {
+pub(crate) fn grid<O: Write>(out: &mut O, axis: Axis, top: u64, bottom: u64) -> io::Result<()> {
     let by = step(axis);
     let mut at = first_from(axis.from, by);
     let mut left = MOST_LINES;
     while 0 < left {
         if axis.to < at {
-            return;
+            return Ok(());
         }
-        svg::line(b"grid", place(axis, at), top, place(axis, at), bottom);
+        svg::line(out, b"grid", place(axis, at), top, place(axis, at), bottom)?;
         at = plus(at, by);
         left = left - 1;
     }
+    Ok(())
 }
 
 // Internal: the numbers of the steps, on one line of text.
-pub(crate) fn labels(axis: Axis, y: u64) {
+pub(crate) fn labels<O: Write>(out: &mut O, axis: Axis, y: u64) -> io::Result<()> {
     let by = step(axis);
     let mut at = first_from(axis.from, by);
     let mut left = MOST_LINES;
     while 0 < left {
         if axis.to < at {
-            return;
+            return Ok(());
         }
-        label(axis, at, unit(by), y);
+        label(out, axis, at, unit(by), y)?;
         at = plus(at, by);
         left = left - 1;
     }
+    Ok(())
 }
 
 // Internal: the line of the axis itself.
-pub(crate) fn base(y: u64) {
-    svg::line(b"axis", LEFT, y, LEFT + WIDTH, y);
+pub(crate) fn base<O: Write>(out: &mut O, y: u64) -> io::Result<()> {
+    svg::line(out, b"axis", LEFT, y, LEFT + WIDTH, y)
 }
 
-fn unit_name(unit: u64) {
+fn unit_name<O: Write>(out: &mut O, unit: u64) -> io::Result<()> {
     if unit == 1000000000 {
-        text(b"s");
-        return;
+        text(out, b"s")?;
+        return Ok(());
     }
     if unit == 1000000 {
-        text(b"ms");
-        return;
+        text(out, b"ms")?;
+        return Ok(());
     }
     if unit == 1000 {
-        text(b"\xC2\xB5s");
-        return;
+        text(out, b"\xC2\xB5s")?;
+        return Ok(());
     }
-    text(b"ns");
+    text(out, b"ns")
 }
 
 // Internal: what the numbers are.
-pub(crate) fn caption(axis: Axis, y: u64, after: &[u8]) {
-    svg::begin_text(b"mid small quiet", LEFT + WIDTH / 2, y);
-    text(b"time in ");
-    unit_name(unit(step(axis)));
-    text(after);
-    svg::end_text();
+pub(crate) fn caption<O: Write>(out: &mut O, axis: Axis, y: u64, after: &[u8]) -> io::Result<()> {
+    svg::begin_text(out, b"mid small quiet", LEFT + WIDTH / 2, y)?;
+    text(out, b"time in ")?;
+    unit_name(out, unit(step(axis)))?;
+    text(out, after)?;
+    svg::end_text(out)
 }
 
 // ---- The periods of a stream
 
 const MOST_PERIODS: u64 = 10;
 
-fn period_line(axis: Axis, at: u64, period: u64, top: u64, bottom: u64) {
+fn period_line<O: Write>(
+    out: &mut O,
+    axis: Axis,
+    at: u64,
+    period: u64,
+    top: u64,
+    bottom: u64,
+) -> io::Result<()> {
     if period == 0 {
-        return;
+        return Ok(());
     }
     let x = place(axis, at);
-    svg::line(b"period", x, top, x, bottom);
-    svg::begin_text(b"mid small quiet", x, minus(top, 2400));
-    svg::labelled(b"", at / period);
-    text(b" T");
-    svg::end_text();
+    svg::line(out, b"period", x, top, x, bottom)?;
+    svg::begin_text(out, b"mid small quiet", x, minus(top, 2400))?;
+    svg::labelled(out, b"", at / period)?;
+    text(out, b" T")?;
+    svg::end_text(out)
 }
 
 // Internal: where periods begin, if those are few. Their names stand so far above that the deadline's has room below them.
-pub(crate) fn periods(axis: Axis, period: u64, top: u64, bottom: u64) {
+pub(crate) fn periods<O: Write>(
+    out: &mut O,
+    axis: Axis,
+    period: u64,
+    top: u64,
+    bottom: u64,
+) -> io::Result<()> {
     if period == 0 {
-        return;
+        return Ok(());
     }
     if MOST_PERIODS < span(axis) / period {
-        return;
+        return Ok(());
     }
     let mut at = first_from(axis.from, period);
     let mut left = MOST_LINES;
     while 0 < left {
         if axis.to < at {
-            return;
+            return Ok(());
         }
-        period_line(axis, at, period, top, bottom);
+        period_line(out, axis, at, period, top, bottom)?;
         at = plus(at, period);
         left = left - 1;
     }
+    Ok(())
 }

@@ -3,6 +3,8 @@ ghost use Rattle.std.specs.Prelude.{◌<◌, ◌≤◌, length};
 
 use crate::svg::plus;
 use show::text;
+use std::io;
+use std::io::Write;
 
 // The byte at i, and 0 where there is none.
 fn byte(name: &[u8], i: usize) -> u64 {
@@ -156,71 +158,75 @@ fn columns(name: &[u8]) -> u64 {
     n
 }
 
-fn put(name: &[u8], i: usize) {
+fn put<O: Write>(out: &mut O, name: &[u8], i: usize) -> io::Result<()> {
     if i < name.len() {
         let one = [name[i]];
-        text(&one);
+        text(out, &one)?;
     }
+    Ok(())
 }
 
-fn put_plain(name: &[u8], i: usize) {
+fn put_plain<O: Write>(out: &mut O, name: &[u8], i: usize) -> io::Result<()> {
     match byte(name, i) {
         0x26 => {
-            text(b"&amp;");
+            text(out, b"&amp;")?;
         }
         0x3C => {
-            text(b"&lt;");
+            text(out, b"&lt;")?;
         }
         0x3E => {
-            text(b"&gt;");
+            text(out, b"&gt;")?;
         }
         0x22 => {
-            text(b"&quot;");
+            text(out, b"&quot;")?;
         }
         _ => {
-            put(name, i);
+            put(out, name, i)?;
         }
     }
+    Ok(())
 }
 
-fn put_letter(name: &[u8], i: usize) {
+fn put_letter<O: Write>(out: &mut O, name: &[u8], i: usize) -> io::Result<()> {
     let count = letter(name, i);
     if count == 0 {
-        text(b"?");
-        return;
+        text(out, b"?")?;
+        return Ok(());
     }
-    put_plain(name, i);
+    put_plain(out, name, i)?;
     if 1 < count {
-        put(name, std::num::wrapping_add_usize(i, 1));
+        put(out, name, std::num::wrapping_add_usize(i, 1))?;
     }
     if 2 < count {
-        put(name, std::num::wrapping_add_usize(i, 2));
+        put(out, name, std::num::wrapping_add_usize(i, 2))?;
     }
     if 3 < count {
-        put(name, std::num::wrapping_add_usize(i, 3));
+        put(out, name, std::num::wrapping_add_usize(i, 3))?;
     }
+    Ok(())
 }
 
 // Prints the letters that have room in so many columns.
-fn put_first(name: &[u8], room: u64) {
+fn put_first<O: Write>(out: &mut O, name: &[u8], room: u64) -> io::Result<()> {
     let mut used: u64 = 0;
     let mut i: usize = 0;
     while i < name.len() {
         used = plus(used, columns_at(name, i));
         if room < used {
-            return;
+            return Ok(());
         }
-        put_letter(name, i);
+        put_letter(out, name, i)?;
         i = after(name, i);
     }
+    Ok(())
 }
 
 // Internal: prints a name in so many columns.
-pub(crate) fn within(name: &[u8], room: u64) {
+pub(crate) fn within<O: Write>(out: &mut O, name: &[u8], room: u64) -> io::Result<()> {
     if columns(name) <= room {
-        put_first(name, room);
-        return;
+        put_first(out, name, room)?;
+        return Ok(());
     }
-    put_first(name, crate::svg::minus(room, 1));
-    text(b"\xE2\x80\xA6");
+    put_first(out, name, crate::svg::minus(room, 1))?;
+    text(out, b"\xE2\x80\xA6")
 }

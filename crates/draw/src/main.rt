@@ -11,6 +11,10 @@ use input::Given;
 use reasons::records;
 use reasons::records::header_word;
 use show::answers;
+use std::env::Env;
+use std::io;
+use std::io::Write;
+use std::rt::Files;
 
 mod axis;
 mod letters;
@@ -48,195 +52,282 @@ enum Word {
     Wrong,
 }
 
-fn no_number() -> Word {
-    reasons::line(b"an argument is not a number from 0 to #", &[4294967295]);
+fn no_number<E: Write>(err: &mut E) -> Word {
+    reasons::line(
+        err,
+        b"an argument is not a number from 0 to #",
+        &[4294967295],
+    );
     Word::Wrong
 }
 
-fn word_of(digits: &[u8]) -> Word {
+fn word_of<E: Write>(err: &mut E, digits: &[u8]) -> Word {
     let read = decimal::read_decimal(digits);
     match read {
         Decimal::Value(value) => Word::Given(value),
         Decimal::Empty => Word::Given(0),
-        Decimal::NoDigit(_) => no_number(),
-        Decimal::TooLarge => no_number(),
+        Decimal::NoDigit(_) => no_number(err),
+        Decimal::TooLarge => no_number(err),
     }
 }
 
-fn word_at(i: usize) -> Word {
+fn word_at<R: Env, E: Write>(rt: &R, err: &mut E, i: usize) -> Word {
     let mut digits = [0u8; 4096];
-    let n = input::argument_or_nothing(i, &mut digits);
-    word_of(&digits[..n])
+    let n = input::argument_or_nothing(rt, i, &mut digits);
+    word_of(err, &digits[..n])
 }
 
-fn link_order() -> Order {
-    let first = word_at(NUMBER_AT);
+fn link_order<R: Env, E: Write>(rt: &R, err: &mut E) -> Order {
+    let first = word_at(rt, err, NUMBER_AT);
     let Word::Given(link) = first else {
         return Order::Wrong;
     };
-    let second = word_at(FROM_AT);
+    let second = word_at(rt, err, FROM_AT);
     let Word::Given(from) = second else {
         return Order::Wrong;
     };
-    let third = word_at(TO_AT);
+    let third = word_at(rt, err, TO_AT);
     match third {
         Word::Given(to) => Order::Link(link, from, to),
         Word::Wrong => Order::Wrong,
     }
 }
 
-fn stream_order() -> Order {
-    let first = word_at(NUMBER_AT);
+fn stream_order<R: Env, E: Write>(rt: &R, err: &mut E) -> Order {
+    let first = word_at(rt, err, NUMBER_AT);
     match first {
         Word::Given(stream) => Order::Stream(stream),
         Word::Wrong => Order::Wrong,
     }
 }
 
-fn no_kind() -> Order {
-    reasons::text(b"the first argument is link or stream\n");
+fn no_kind<E: Write>(err: &mut E) -> Order {
+    reasons::text(err, b"the first argument is link or stream\n");
     Order::Wrong
 }
 
 // Its first letter tells a kind.
-fn order_of(kind: &[u8]) -> Order {
+fn order_of<R: Env, E: Write>(rt: &R, err: &mut E, kind: &[u8]) -> Order {
     if kind.len() == 0 {
-        return no_kind();
+        return no_kind(err);
     }
     match kind[0] {
-        b'l' => link_order(),
-        b's' => stream_order(),
-        _ => no_kind(),
+        b'l' => link_order(rt, err),
+        b's' => stream_order(rt, err),
+        _ => no_kind(err),
     }
 }
 
-fn order_given() -> Order {
+fn order_given<R: Env, E: Write>(rt: &R, err: &mut E) -> Order {
     let mut kind = [0u8; 4096];
-    let n = input::argument_or_nothing(KIND_AT, &mut kind);
-    order_of(&kind[..n])
+    let n = input::argument_or_nothing(rt, KIND_AT, &mut kind);
+    order_of(rt, err, &kind[..n])
 }
 
 // A link that the plan does not have.
-fn no_link(t: &[u32], link: u32) {
+fn no_link<O: Write, E: Write>(out: &mut O, err: &mut E, t: &[u32], link: u32) -> io::Result<()> {
     let links = header_word(t, table::LINKS_AT);
     if links == 0 {
-        reasons::line(b"there is no link #: the plan has no links", &[link]);
-    } else {
-        reasons::line(b"there is no link #: links are 0 to #", &[link, links - 1]);
-    }
-    answers::plan_refused(NO_LINK, 0);
-}
-
-fn no_stream(t: &[u32], stream: u32) {
-    let streams = header_word(t, table::STREAMS_AT);
-    if streams == 0 {
-        reasons::line(b"there is no stream #: the plan has no streams", &[stream]);
+        reasons::line(err, b"there is no link #: the plan has no links", &[link]);
     } else {
         reasons::line(
+            err,
+            b"there is no link #: links are 0 to #",
+            &[link, links - 1],
+        );
+    }
+    answers::plan_refused(out, NO_LINK, 0)
+}
+
+fn no_stream<O: Write, E: Write>(
+    out: &mut O,
+    err: &mut E,
+    t: &[u32],
+    stream: u32,
+) -> io::Result<()> {
+    let streams = header_word(t, table::STREAMS_AT);
+    if streams == 0 {
+        reasons::line(
+            err,
+            b"there is no stream #: the plan has no streams",
+            &[stream],
+        );
+    } else {
+        reasons::line(
+            err,
             b"there is no stream #: streams are 0 to #",
             &[stream, streams - 1],
         );
     }
-    show::text(b"refused stream\nstatus 2\n");
+    show::text(out, b"refused stream\nstatus 2\n")
 }
 
-fn draw_link(t: &[u32], names: &[u8], draft: &[u32], link: u32, from: u32, to: u32)
+fn draw_link<O: Write, E: Write>(
+    out: &mut O,
+    err: &mut E,
+    t: &[u32],
+    names: &[u8],
+    draft: &[u32],
+    link: u32,
+    from: u32,
+    to: u32,
+) -> io::Result<()>
     requires { Guarantees t.now }
 {
     if header_word(t, table::LINKS_AT) <= link {
-        no_link(t, link);
-        return;
+        no_link(out, err, t, link)?;
+        return Ok(());
     }
-    link::draw(t, names, draft, link, from as u64, to as u64);
+    link::draw(out, err, t, names, draft, link, from as u64, to as u64)
 }
 
-fn draw_stream(t: &[u32], names: &[u8], draft: &[u32], stream: u32)
+fn draw_stream<O: Write, E: Write>(
+    out: &mut O,
+    err: &mut E,
+    t: &[u32],
+    names: &[u8],
+    draft: &[u32],
+    stream: u32,
+) -> io::Result<()>
     requires { Guarantees t.now }
 {
     if header_word(t, table::STREAMS_AT) <= stream {
-        no_stream(t, stream);
-        return;
+        no_stream(out, err, t, stream)?;
+        return Ok(());
     }
-    stream::draw(t, names, draft, stream);
+    stream::draw(out, t, names, draft, stream)
 }
 
-fn draw(order: Order, t: &[u32], names: &[u8], draft: &[u32])
+fn draw<O: Write, E: Write>(
+    out: &mut O,
+    err: &mut E,
+    order: Order,
+    t: &[u32],
+    names: &[u8],
+    draft: &[u32],
+) -> io::Result<()>
     requires { Guarantees t.now }
 {
     match order {
         Order::Link(link, from, to) => {
-            draw_link(t, names, draft, link, from, to);
+            draw_link(out, err, t, names, draft, link, from, to)?;
         }
         Order::Stream(stream) => {
-            draw_stream(t, names, draft, stream);
+            draw_stream(out, err, t, names, draft, stream)?;
         }
         Order::Wrong => {}
     }
+    Ok(())
 }
 
 // Reads the names beside the plan whose path is given, if there are some.
-fn read_names(t: &[u32], text: &mut [u8], draft: &mut [u32]) {
+fn read_names<R: Env + Files, E: Write>(
+    rt: &R,
+    err: &mut E,
+    t: &[u32],
+    text: &mut [u8],
+    draft: &mut [u32],
+) {
     let mut path = [0u8; 4096];
-    let n = input::argument_or_nothing(PATH_AT, &mut path);
+    let n = input::argument_or_nothing(rt, PATH_AT, &mut path);
     if n == 0 {
-        plan_text::names::nameless(t, draft);
+        plan_text::names::nameless(err, t, draft);
         return;
     }
-    plan_text::names::beside(&path[..n], t, text, draft);
+    plan_text::names::beside(rt, err, &path[..n], t, text, draft);
 }
 
-fn draw_named(order: Order, t: &[u32], text: &mut [u8], draft: &mut [u32])
+fn draw_named<R: Env + Files, O: Write, E: Write>(
+    rt: &R,
+    out: &mut O,
+    err: &mut E,
+    order: Order,
+    t: &[u32],
+    text: &mut [u8],
+    draft: &mut [u32],
+) -> io::Result<()>
     requires { Guarantees t.now }
 {
-    read_names(t, text, draft);
-    draw(order, t, text, draft);
+    read_names(rt, err, t, text, draft);
+    draw(out, err, order, t, text, draft)
 }
 
-fn on_table(order: Order, t: &[u32], text: &mut [u8], draft: &mut [u32]) {
+fn on_table<R: Env + Files, O: Write, E: Write>(
+    rt: &R,
+    out: &mut O,
+    err: &mut E,
+    order: Order,
+    t: &[u32],
+    text: &mut [u8],
+    draft: &mut [u32],
+) -> io::Result<()> {
     let told = shape::judged_shape(t);
     match told {
         Checked::Refused(number, at) => {
-            records::why(t, number, at);
-            answers::plan_refused(number, at);
+            records::why(err, t, number, at);
+            answers::plan_refused(out, number, at)?;
         }
         Checked::Clear => {
-            draw_named(order, t, text, draft);
+            draw_named(rt, out, err, order, t, text, draft)?;
         }
     }
+    Ok(())
 }
 
-fn on_words(order: Order, words: &[u32], n: usize) {
+fn on_words<R: Env + Files, O: Write, E: Write>(
+    rt: &R,
+    out: &mut O,
+    err: &mut E,
+    order: Order,
+    words: &[u32],
+    n: usize,
+) -> io::Result<()> {
     if words.len() < n {
-        return;
+        return Ok(());
     }
     let mut text = [0u8; plan_text::TEXT_ROOM];
     let mut draft = [0u32; plan_text::DRAFT_WORDS];
-    on_table(order, &words[0..n], &mut text, &mut draft);
+    on_table(rt, out, err, order, &words[0..n], &mut text, &mut draft)
 }
 
-fn on_plan(order: Order) {
+fn on_plan<R: Env + Files + Input, O: Write, E: Write>(
+    rt: &R,
+    out: &mut O,
+    err: &mut E,
+    order: Order,
+) -> io::Result<()> {
     let mut words = [0u32; table::MAX_TABLE_WORDS];
-    let given = input::given_plan(&mut words);
+    let given = input::given_plan(rt, err, &mut words);
     match given {
         Given::Words(n) => {
-            on_words(order, &words, n);
+            on_words(rt, out, err, order, &words, n)?;
         }
         Given::Refused(number, at) => {
-            answers::plan_refused(number, at);
+            answers::plan_refused(out, number, at)?;
         }
         Given::Unread => {}
     }
+    Ok(())
 }
 
-fn main() {
-    let order = order_given();
+fn run<R: Env + Files + Input, O: Write, E: Write>(
+    rt: &R,
+    out: &mut O,
+    err: &mut E,
+) -> io::Result<()> {
+    let order = order_given(rt, err);
     match order {
         Order::Link(link, from, to) => {
-            on_plan(order);
+            on_plan(rt, out, err, order)?;
         }
         Order::Stream(stream) => {
-            on_plan(order);
+            on_plan(rt, out, err, order)?;
         }
         Order::Wrong => {}
     }
+    Ok(())
+}
+
+fn main(rt: HostRuntime) {
+    let _ = run(&rt, &mut rt.stdout(), &mut rt.stderr());
 }

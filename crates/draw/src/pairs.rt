@@ -12,6 +12,8 @@ use meeting::MeetingAnswer;
 use reasons::small;
 use rules::Frame;
 use show::text;
+use std::io;
+use std::io::Write;
 
 // Internal: so many violated places are listed.
 pub(crate) const MOST_LISTED: u64 = 20;
@@ -114,21 +116,22 @@ pub(crate) fn judge(t: &[u32], link: u32, bad: &mut [u64]) -> u64
 
 // ---- The list of them
 
-fn begin_line(a: usize, y: u64) {
-    svg::begin_text(b"fault", LEFT, y);
-    labelled(b"leg ", a as u64);
+fn begin_line<O: Write>(out: &mut O, a: usize, y: u64) -> io::Result<()> {
+    svg::begin_text(out, b"fault", LEFT, y)?;
+    labelled(out, b"leg ", a as u64)
 }
 
 // The next line after one that was printed at y.
-fn window_line(a: usize, f: Frame, y: u64) -> u64 {
-    begin_line(a, y);
+fn window_line<O: Write>(out: &mut O, a: usize, f: Frame, y: u64) -> io::Result<u64> {
+    begin_line(out, a, y)?;
     labelled(
+        out,
         b" is not over before its period ends: it lacks ",
         minus(plus(f.offset, f.hold), f.period),
-    );
-    text(b" ns");
-    svg::end_text();
-    plus(y, LINE)
+    )?;
+    text(out, b" ns")?;
+    svg::end_text(out)?;
+    Ok(plus(y, LINE))
 }
 
 // Whether an instant lies in the stretch that is drawn.
@@ -140,111 +143,185 @@ fn is_drawn(p: Page, instant: u64) -> bool {
 }
 
 // Marks an instant in the rows of two legs.
-fn mark(p: Page, ys: &[u64], a: usize, b: usize, instant: u64) {
+fn mark<O: Write>(
+    out: &mut O,
+    p: Page,
+    ys: &[u64],
+    a: usize,
+    b: usize,
+    instant: u64,
+) -> io::Result<()> {
     let x = place(p.axis, instant);
     let upper = plus(get(ys, b), p.tall / 2);
     let lower = plus(get(ys, a), p.tall / 2);
-    svg::line(b"meet", x, upper, x, lower);
-    svg::ring(b"meets", x, upper, RING);
-    svg::ring(b"meets", x, lower, RING);
+    svg::line(out, b"meet", x, upper, x, lower)?;
+    svg::ring(out, b"meets", x, upper, RING)?;
+    svg::ring(out, b"meets", x, lower, RING)
 }
 
-fn met(p: Page, ys: &[u64], a: usize, b: usize, instant: u64) {
-    labelled(b" first at ", instant);
-    text(b" ns");
+fn met<O: Write>(
+    out: &mut O,
+    p: Page,
+    ys: &[u64],
+    a: usize,
+    b: usize,
+    instant: u64,
+) -> io::Result<()> {
+    labelled(out, b" first at ", instant)?;
+    text(out, b" ns")?;
     if is_drawn(p, instant) {
-        svg::end_text();
-        mark(p, ys, a, b, instant);
-        return;
+        svg::end_text(out)?;
+        mark(out, p, ys, a, b, instant)?;
+        return Ok(());
     }
-    text(b", which is not drawn here");
-    svg::end_text();
+    text(out, b", which is not drawn here")?;
+    svg::end_text(out)
 }
 
 // The line of a pair that meets, and where it first does.
-fn pair_line(t: &[u32], p: Page, ys: &[u64], a: usize, b: usize, y: u64) -> u64 {
-    begin_line(a, y);
-    labelled(b" meets leg ", b as u64);
+fn pair_line<O: Write>(
+    out: &mut O,
+    t: &[u32],
+    p: Page,
+    ys: &[u64],
+    a: usize,
+    b: usize,
+    y: u64,
+) -> io::Result<u64> {
+    begin_line(out, a, y)?;
+    labelled(out, b" meets leg ", b as u64)?;
     let told = meeting::meeting(t, small(a), small(b));
     match told {
         MeetingAnswer::Met(m) => {
-            met(p, ys, a, b, m.instant);
+            met(out, p, ys, a, b, m.instant)?;
         }
         MeetingAnswer::Never => {
-            svg::end_text();
+            svg::end_text(out)?;
         }
         MeetingAnswer::Refused(number, at) => {
-            svg::end_text();
+            svg::end_text(out)?;
         }
     }
-    plus(y, LINE)
+    Ok(plus(y, LINE))
 }
 
-fn list_window(t: &[u32], a: usize, f: Frame, y: u64, end: u64) -> u64
+fn list_window<O: Write>(
+    out: &mut O,
+    t: &[u32],
+    a: usize,
+    f: Frame,
+    y: u64,
+    end: u64,
+) -> io::Result<u64>
     requires { FrameOf t.now a f }
 {
     if end <= y {
-        return y;
+        return Ok(y);
     }
     if window_broken(t, a, f) {
-        return window_line(a, f, y);
+        return window_line(out, a, f, y);
     }
-    y
+    Ok(y)
 }
 
-fn list_pair(t: &[u32], p: Page, ys: &[u64], a: usize, f: Frame, b: usize, y: u64, end: u64) -> u64
+fn list_pair<O: Write>(
+    out: &mut O,
+    t: &[u32],
+    p: Page,
+    ys: &[u64],
+    a: usize,
+    f: Frame,
+    b: usize,
+    y: u64,
+    end: u64,
+) -> io::Result<u64>
     requires { LegIn t.now a × FrameOf t.now a f × (b < a) }
 {
     if end <= y {
-        return y;
+        return Ok(y);
     }
     if meets(t, a, f, b) {
-        return pair_line(t, p, ys, a, b, y);
+        return pair_line(out, t, p, ys, a, b, y);
     }
-    y
+    Ok(y)
 }
 
-fn list_pairs(t: &[u32], p: Page, ys: &[u64], a: usize, f: Frame, from: u64, end: u64) -> u64
+fn list_pairs<O: Write>(
+    out: &mut O,
+    t: &[u32],
+    p: Page,
+    ys: &[u64],
+    a: usize,
+    f: Frame,
+    from: u64,
+    end: u64,
+) -> io::Result<u64>
     requires { LegIn t.now a × FrameOf t.now a f }
 {
     let mut y = from;
     let mut b: usize = 0;
     while b < a {
-        y = list_pair(t, p, ys, a, f, b, y, end);
+        y = list_pair(out, t, p, ys, a, f, b, y, end)?;
         b = b + 1;
     }
-    y
+    Ok(y)
 }
 
-fn list_places(t: &[u32], p: Page, ys: &[u64], a: usize, y: u64, end: u64) -> u64
+fn list_places<O: Write>(
+    out: &mut O,
+    t: &[u32],
+    p: Page,
+    ys: &[u64],
+    a: usize,
+    y: u64,
+    end: u64,
+) -> io::Result<u64>
     requires { LegIn t.now a }
 {
     let f = rules::times::frame(t, a);
-    let after = list_window(t, a, f, y, end);
-    list_pairs(t, p, ys, a, f, after, end)
+    let after = list_window(out, t, a, f, y, end)?;
+    list_pairs(out, t, p, ys, a, f, after, end)
 }
 
-fn list_leg(t: &[u32], p: Page, ys: &[u64], a: usize, y: u64, end: u64, bad: &[u64]) -> u64
+fn list_leg<O: Write>(
+    out: &mut O,
+    t: &[u32],
+    p: Page,
+    ys: &[u64],
+    a: usize,
+    y: u64,
+    end: u64,
+    bad: &[u64],
+) -> io::Result<u64>
     requires { Guarantees t.now }
 {
     if get(bad, a) == 0 {
-        return y;
+        return Ok(y);
     }
     if table::wide(t[table::LEGS_AT]) <= a {
-        return y;
+        return Ok(y);
     }
-    list_places(t, p, ys, a, y, end)
+    list_places(out, t, p, ys, a, y, end)
 }
 
 // Internal: lists the violated places of a link in the order of a check, from a height on and up to another.
-pub(crate) fn list(t: &[u32], p: Page, from: u64, end: u64, ys: &[u64], bad: &[u64])
+pub(crate) fn list<O: Write>(
+    out: &mut O,
+    t: &[u32],
+    p: Page,
+    from: u64,
+    end: u64,
+    ys: &[u64],
+    bad: &[u64],
+) -> io::Result<()>
     requires { Guarantees t.now }
 {
     let legs = table::wide(t[table::LEGS_AT]);
     let mut y = from;
     let mut a: usize = 0;
     while a < legs {
-        y = list_leg(t, p, ys, a, y, end, bad);
+        y = list_leg(out, t, p, ys, a, y, end, bad)?;
         a = a + 1;
     }
+    Ok(())
 }

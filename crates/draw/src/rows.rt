@@ -8,6 +8,8 @@ use crate::{names, svg};
 use reasons::{records, small};
 use rules::Frame;
 use show::text;
+use std::io;
+use std::io::Write;
 
 // The columns that the name of a stream has.
 const STREAM_ROOM: u64 = 20;
@@ -34,20 +36,28 @@ fn first_start(f: Frame, instant: u64) -> u64 {
 }
 
 // Where a stretch of time is drawn: from one end to the other, and at least as wide as a hold has to be.
-fn bar(p: Page, name: &[u8], y: u64, height: u64, from: u64, to: u64) {
+fn bar<O: Write>(
+    out: &mut O,
+    p: Page,
+    name: &[u8],
+    y: u64,
+    height: u64,
+    from: u64,
+    to: u64,
+) -> io::Result<()> {
     let x = place(p.axis, larger(from, p.axis.from));
     let end = place(p.axis, lesser(to, p.axis.to));
-    svg::rect(name, x, y, larger(minus(end, x), THINNEST), height);
+    svg::rect(out, name, x, y, larger(minus(end, x), THINNEST), height)
 }
 
-fn gap(p: Page, y: u64, height: u64, from: u64, to: u64) {
+fn gap<O: Write>(out: &mut O, p: Page, y: u64, height: u64, from: u64, to: u64) -> io::Result<()> {
     if p.axis.to <= from {
-        return;
+        return Ok(());
     }
     if to <= p.axis.from {
-        return;
+        return Ok(());
     }
-    bar(p, b"gap", y, height, from, to);
+    bar(out, p, b"gap", y, height, from, to)
 }
 
 // Whether the gap after a frame is wide enough to be seen.
@@ -59,72 +69,108 @@ fn gap_seen(p: Page, f: Frame) -> bool {
     SEEN <= wide
 }
 
-fn hold(p: Page, f: Frame, start: u64, y: u64, height: u64) {
-    bar(p, b"wire", y, height, start, plus(start, f.hold));
+fn hold<O: Write>(
+    out: &mut O,
+    p: Page,
+    f: Frame,
+    start: u64,
+    y: u64,
+    height: u64,
+) -> io::Result<()> {
+    bar(out, p, b"wire", y, height, start, plus(start, f.hold))?;
     if gap_seen(p, f) {
-        gap(p, y, height, plus(start, f.wire), plus(start, f.hold));
+        gap(out, p, y, height, plus(start, f.wire), plus(start, f.hold))?;
     }
+    Ok(())
 }
 
 // The holds of a leg within the stretch.
-fn holds(p: Page, f: Frame, y: u64, height: u64) {
+fn holds<O: Write>(out: &mut O, p: Page, f: Frame, y: u64, height: u64) -> io::Result<()> {
     let mut start = first_start(f, p.axis.from);
     let mut left = MOST_REPEATS;
     while 0 < left {
         if p.axis.to <= start {
-            return;
+            return Ok(());
         }
-        hold(p, f, start, y, height);
+        hold(out, p, f, start, y, height)?;
         start = plus(start, f.period);
         left = left - 1;
     }
+    Ok(())
 }
 
 // What is shown where the pointer rests on a row.
-fn told(f: Frame, a: u32) {
-    labelled(b"<title>leg ", a as u64);
-    labelled(b": from ", f.offset);
-    labelled(b" to ", plus(f.offset, f.hold));
-    labelled(b" ns of each period of ", f.period);
-    text(b" ns</title>\n");
+fn told<O: Write>(out: &mut O, f: Frame, a: u32) -> io::Result<()> {
+    labelled(out, b"<title>leg ", a as u64)?;
+    labelled(out, b": from ", f.offset)?;
+    labelled(out, b" to ", plus(f.offset, f.hold))?;
+    labelled(out, b" ns of each period of ", f.period)?;
+    text(out, b" ns</title>\n")
 }
 
-fn label(t: &[u32], names: &[u8], draft: &[u32], a: u32, y: u64) {
-    svg::begin_text(b"leg-name", 2000, y);
-    labelled(b"leg ", a as u64);
-    svg::end_text();
-    svg::begin_text(b"stream-name", 9200, y);
-    names::stream(names, draft, records::leg_at(t, a).stream, STREAM_ROOM);
-    svg::end_text();
+fn label<O: Write>(
+    out: &mut O,
+    t: &[u32],
+    names: &[u8],
+    draft: &[u32],
+    a: u32,
+    y: u64,
+) -> io::Result<()> {
+    svg::begin_text(out, b"leg-name", 2000, y)?;
+    labelled(out, b"leg ", a as u64)?;
+    svg::end_text(out)?;
+    svg::begin_text(out, b"stream-name", 9200, y)?;
+    names::stream(out, names, draft, records::leg_at(t, a).stream, STREAM_ROOM)?;
+    svg::end_text(out)
 }
 
-fn begin_row(bad: bool) {
+fn begin_row<O: Write>(out: &mut O, bad: bool) -> io::Result<()> {
     if bad {
-        text(b"<g class=\"leg bad\">\n");
-        return;
+        text(out, b"<g class=\"leg bad\">\n")?;
+        return Ok(());
     }
-    text(b"<g class=\"leg\">\n");
+    text(out, b"<g class=\"leg\">\n")
 }
 
-fn row(t: &[u32], names: &[u8], draft: &[u32], p: Page, a: u32, f: Frame, y: u64, bad: bool) {
+fn row<O: Write>(
+    out: &mut O,
+    t: &[u32],
+    names: &[u8],
+    draft: &[u32],
+    p: Page,
+    a: u32,
+    f: Frame,
+    y: u64,
+    bad: bool,
+) -> io::Result<()> {
     let inset = p.tall / 7;
-    label(t, names, draft, a, plus(plus(y, p.tall / 2), 430));
-    begin_row(bad);
-    told(f, a);
-    holds(p, f, plus(y, inset), minus(p.tall, plus(inset, inset)));
-    text(b"</g>\n");
+    label(out, t, names, draft, a, plus(plus(y, p.tall / 2), 430))?;
+    begin_row(out, bad)?;
+    told(out, f, a)?;
+    holds(out, p, f, plus(y, inset), minus(p.tall, plus(inset, inset)))?;
+    text(out, b"</g>\n")
 }
 
-fn row_of(t: &[u32], names: &[u8], draft: &[u32], p: Page, a: usize, ys: &[u64], bad: &[u64])
+fn row_of<O: Write>(
+    out: &mut O,
+    t: &[u32],
+    names: &[u8],
+    draft: &[u32],
+    p: Page,
+    a: usize,
+    ys: &[u64],
+    bad: &[u64],
+) -> io::Result<()>
     requires { Guarantees t.now }
 {
     if table::wide(t[table::LEGS_AT]) <= a {
-        return;
+        return Ok(());
     }
     if rules::judge::link(t, a) != p.link {
-        return;
+        return Ok(());
     }
     row(
+        out,
         t,
         names,
         draft,
@@ -133,33 +179,43 @@ fn row_of(t: &[u32], names: &[u8], draft: &[u32], p: Page, a: usize, ys: &[u64],
         rules::times::frame(t, a),
         get(ys, a),
         0 < get(bad, a),
-    );
+    )
 }
 
 // Internal: the rows of all legs on the link.
-pub(crate) fn all(t: &[u32], names: &[u8], draft: &[u32], p: Page, ys: &[u64], bad: &[u64])
+pub(crate) fn all<O: Write>(
+    out: &mut O,
+    t: &[u32],
+    names: &[u8],
+    draft: &[u32],
+    p: Page,
+    ys: &[u64],
+    bad: &[u64],
+) -> io::Result<()>
     requires { Guarantees t.now }
 {
     let legs = table::wide(t[table::LEGS_AT]);
     let mut a: usize = 0;
     while a < legs {
-        row_of(t, names, draft, p, a, ys, bad);
+        row_of(out, t, names, draft, p, a, ys, bad)?;
         a = a + 1;
     }
+    Ok(())
 }
 
 const MOST_STRIPES: u64 = 1024;
 
 // Internal: every other row has a ground of its own, so that it can be followed.
-pub(crate) fn stripes(p: Page, bottom: u64) {
+pub(crate) fn stripes<O: Write>(out: &mut O, p: Page, bottom: u64) -> io::Result<()> {
     let mut y = p.top;
     let mut left = MOST_STRIPES;
     while 0 < left {
         if bottom <= y {
-            return;
+            return Ok(());
         }
-        svg::rect(b"stripe", 1200, y, LEFT + WIDTH - 1200, p.tall);
+        svg::rect(out, b"stripe", 1200, y, LEFT + WIDTH - 1200, p.tall)?;
         y = plus(y, plus(p.tall, p.tall));
         left = left - 1;
     }
+    Ok(())
 }

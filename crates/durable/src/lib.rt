@@ -53,12 +53,7 @@ fn renamed<R: Files>(rt: &R, from: &[u8], to: &[u8]) -> io::Result<()> {
 }
 
 // Internal: reads a file, as much of it as there is room for. That a file is missing is left to the caller to say.
-pub fn file<R: Files, E: Write>(
-    rt: &R,
-    err: &mut E,
-    path: &[u8],
-    buffer: &mut [u8],
-) -> FileRead {
+pub fn file<R: Files, E: Write>(rt: &R, err: &mut E, path: &[u8], buffer: &mut [u8]) -> FileRead {
     let mut file = match opened(rt, path) {
         Ok(file) => file,
         Err(e) => return unopened(err, path, &e),

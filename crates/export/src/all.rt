@@ -7,6 +7,8 @@ use crate::{judge, one, out, taprio, why};
 use basics::Checked;
 use gate_lists::Listed;
 use std::io;
+use std::io::Write;
+use std::rt::{Clock, Files};
 
 // So many seconds after it said something it says again how far it is.
 const QUIET: i64 = 2;
@@ -23,8 +25,8 @@ pub(crate) struct Tally {
 }
 
 // The time in whole seconds.
-fn now() -> i64 {
-    input::seconds()
+fn now<R: Clock>(rt: &R) -> i64 {
+    input::seconds(rt)
 }
 
 fn plus_one(n: u32) -> u32 {
@@ -39,14 +41,14 @@ fn plus_if(n: u32, so: bool) -> u32 {
 }
 
 // Says how many links are done, where that is due, also where the clock was set back.
-fn said(tally: Tally, link: u32, links: u32) -> Tally {
-    let time = now();
+fn said<R: Clock, E: Write>(rt: &R, err: &mut E, tally: Tally, link: u32, links: u32) -> Tally {
+    let time = now(rt);
     if tally.said <= time {
         if signed::within(tally.said, time, QUIET - 1) {
             return tally;
         }
     }
-    why::so_far(link, links);
+    why::so_far(err, link, links);
     Tally {
         lists: tally.lists,
         empty: tally.empty,
@@ -125,30 +127,50 @@ fn path_of(folder: &[u8], link: u32, base: &[u8], name: &mut [u8]) -> usize {
     add(name, n, b".gates")
 }
 
-fn made_in(folder: &[u8], link: u32, base: &[u8], bytes: &[u8]) -> bool {
+fn made_in<R: Files, E: Write>(
+    rt: &R,
+    err: &mut E,
+    folder: &[u8],
+    link: u32,
+    base: &[u8],
+    bytes: &[u8],
+) -> bool {
     let mut name = [0u8; 4096];
     let n = path_of(folder, link, base, &mut name);
     if name.len() < n {
-        reasons::fail(folder, &io::Error::from_raw_os_error(0));
+        reasons::fail(err, folder, &io::Error::from_raw_os_error(0));
         return false;
     }
-    durable::made(&name[0..n], bytes)
+    durable::made(rt, err, &name[0..n], bytes)
 }
 
-fn put(t: &[u32], link: u32, folder: &[u8], words: &[u32], base: &[u8], tally: Tally) -> Tally {
+fn put<R: Files, O: Write, E: Write>(
+    rt: &R,
+    out: &mut O,
+    err: &mut E,
+    t: &[u32],
+    link: u32,
+    folder: &[u8],
+    words: &[u32],
+    base: &[u8],
+    tally: Tally,
+) -> io::Result<Tally> {
     let mut bytes = [0u8; one::ROOM];
     let n = one::file(words, base, b"", &mut bytes);
     if one::ROOM < n {
-        return unwritten(tally);
+        return Ok(unwritten(tally));
     }
-    if !made_in(folder, link, base, &bytes[0..n]) {
-        return unwritten(tally);
+    if !made_in(rt, err, folder, link, base, &bytes[0..n]) {
+        return Ok(unwritten(tally));
     }
-    out::line(t, link, words, n);
-    listed(tally, words, base)
+    out::line(out, t, link, words, n)?;
+    Ok(listed(tally, words, base))
 }
 
-fn put_first(
+fn put_first<R: Files, O: Write, E: Write>(
+    rt: &R,
+    out: &mut O,
+    err: &mut E,
     t: &[u32],
     link: u32,
     folder: &[u8],
@@ -156,30 +178,56 @@ fn put_first(
     pairs: usize,
     base: &[u8],
     tally: Tally,
-) -> Tally {
+) -> io::Result<Tally> {
     if words.len() / 2 < pairs {
-        return unwritten(tally);
+        return Ok(unwritten(tally));
     }
-    put(t, link, folder, &words[0..2 * pairs], base, tally)
+    put(
+        rt,
+        out,
+        err,
+        t,
+        link,
+        folder,
+        &words[0..2 * pairs],
+        base,
+        tally,
+    )
 }
 
-fn next(t: &[u32], link: u32, folder: &[u8], base: &[u8], tally: Tally) -> Tally
+fn next<R: Files, O: Write, E: Write>(
+    rt: &R,
+    out: &mut O,
+    err: &mut E,
+    t: &[u32],
+    link: u32,
+    folder: &[u8],
+    base: &[u8],
+    tally: Tally,
+) -> io::Result<Tally>
     requires { MayList t.now link }
 {
     let mut words = [0u32; gates::MAX_LIST_WORDS];
     let told = gate_lists::list_of(t, link, &mut words);
     match told {
-        Listed::Pairs(n) => put_first(t, link, folder, &words, n, base, tally),
+        Listed::Pairs(n) => put_first(rt, out, err, t, link, folder, &words, n, base, tally),
         Listed::Refused(number) => {
-            why::link_refused(t, link, number);
-            out::refused_line(t, link, number);
-            unlisted(tally)
+            why::link_refused(err, t, link, number);
+            out::refused_line(out, t, link, number)?;
+            Ok(unlisted(tally))
         }
     }
 }
 
 // The lists of all links, up to one that cannot be written.
-fn each(t: &[u32], folder: &[u8], base: &[u8]) -> Tally
+fn each<R: Clock + Files, O: Write, E: Write>(
+    rt: &R,
+    out: &mut O,
+    err: &mut E,
+    t: &[u32],
+    folder: &[u8],
+    base: &[u8],
+) -> io::Result<Tally>
     requires { MayList t.now 0 }
 {
     let mut tally = Tally {
@@ -187,43 +235,58 @@ fn each(t: &[u32], folder: &[u8], base: &[u8]) -> Tally
         empty: 0,
         cut: 0,
         refused: 0,
-        said: now(),
+        said: now(rt),
         failed: false,
     };
     let links = t[table::LINKS_AT];
     let mut link: u32 = 0;
     while link < links {
-        tally = next(t, link, folder, base, tally);
+        tally = next(rt, out, err, t, link, folder, base, tally)?;
         link = link + 1;
         if tally.failed {
-            return tally;
+            return Ok(tally);
         }
-        tally = said(tally, link, links);
+        tally = said(rt, err, tally, link, links);
     }
-    tally
+    Ok(tally)
 }
 
-fn write_accepted(t: &[u32], folder: &[u8], base: &[u8])
+fn write_accepted<R: Clock + Files, O: Write, E: Write>(
+    rt: &R,
+    out: &mut O,
+    err: &mut E,
+    t: &[u32],
+    folder: &[u8],
+    base: &[u8],
+) -> io::Result<()>
     requires { MayList t.now 0 }
 {
-    let tally = each(t, folder, base);
+    let tally = each(rt, out, err, t, folder, base)?;
     if tally.failed {
-        return;
+        return Ok(());
     }
-    why::some_empty(tally.empty);
-    why::some_cut(tally.cut);
-    out::all_written(t, tally.lists, tally.refused);
+    why::some_empty(err, tally.empty);
+    why::some_cut(err, tally.cut);
+    out::all_written(out, t, tally.lists, tally.refused)
 }
 
 // Internal: writes the lists of all links. A plan without links has none, and is refused as one that has not the first.
-pub(crate) fn written(t: &[u32], folder: &[u8], base: &[u8]) {
+pub(crate) fn written<R: Clock + Files, O: Write, E: Write>(
+    rt: &R,
+    out: &mut O,
+    err: &mut E,
+    t: &[u32],
+    folder: &[u8],
+    base: &[u8],
+) -> io::Result<()> {
     let told = gate_lists::may_list(t, 0);
     match told {
         Checked::Clear => {
-            write_accepted(t, folder, base);
+            write_accepted(rt, out, err, t, folder, base)?;
         }
         Checked::Refused(number, at) => {
-            judge::refused(t, 0, number, at);
+            judge::refused(out, err, t, 0, number, at)?;
         }
     }
+    Ok(())
 }

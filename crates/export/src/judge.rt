@@ -6,6 +6,8 @@ use files::Cursor;
 use gate_lists::NO_LINK;
 use reasons::records;
 use show::answers;
+use std::io;
+use std::io::Write;
 
 // More than any table has places.
 const ENOUGH: u32 = 4294967295;
@@ -21,24 +23,32 @@ fn checked(t: &[u32]) -> SliceAnswer {
 }
 
 // A plan that is not accepted: the answer has the first violated place too.
-fn not_accepted(t: &[u32]) {
+fn not_accepted<O: Write, E: Write>(out: &mut O, err: &mut E, t: &[u32]) -> io::Result<()> {
     let told = checked(t);
     if let SliceAnswer::Violated(at, steps, rule) = told {
-        why::not_accepted(at);
-        out::not_accepted(at, rule);
+        why::not_accepted(err, at);
+        out::not_accepted(out, at, rule)?;
     }
+    Ok(())
 }
 
 // Internal: why no list of a link may be asked for.
-pub(crate) fn refused(t: &[u32], link: u32, number: u32, at: usize) {
+pub(crate) fn refused<O: Write, E: Write>(
+    out: &mut O,
+    err: &mut E,
+    t: &[u32],
+    link: u32,
+    number: u32,
+    at: usize,
+) -> io::Result<()> {
     if number == NOT_ACCEPTED {
-        not_accepted(t);
-        return;
+        not_accepted(out, err, t)?;
+        return Ok(());
     }
     if number == NO_LINK {
-        why::no_link(t, link);
+        why::no_link(err, t, link);
     } else {
-        records::why(t, number, at);
+        records::why(err, t, number, at);
     }
-    answers::plan_refused(number, at);
+    answers::plan_refused(out, number, at)
 }

@@ -7,6 +7,10 @@
 use decimal::Decimal;
 use input::Given;
 use show::answers;
+use std::env::Env;
+use std::io;
+use std::io::Write;
+use std::rt::{Clock, Files};
 
 mod all;
 mod judge;
@@ -39,13 +43,13 @@ enum Order {
     Wrong,
 }
 
-fn no_link() -> Order {
-    reasons::text(b"the link is not a number from 0 to 4294967295\n");
+fn no_link<E: Write>(err: &mut E) -> Order {
+    reasons::text(err, b"the link is not a number from 0 to 4294967295\n");
     Order::Wrong
 }
 
 // What is asked of a link, or that there is no number of one.
-fn of_link(write: bool, digits: &[u8]) -> Order {
+fn of_link<E: Write>(err: &mut E, write: bool, digits: &[u8]) -> Order {
     let read = decimal::read_decimal(digits);
     match read {
         Decimal::Value(link) => {
@@ -54,117 +58,162 @@ fn of_link(write: bool, digits: &[u8]) -> Order {
             }
             Order::Print(link)
         }
-        Decimal::Empty => no_link(),
-        Decimal::NoDigit(_) => no_link(),
-        Decimal::TooLarge => no_link(),
+        Decimal::Empty => no_link(err),
+        Decimal::NoDigit(_) => no_link(err),
+        Decimal::TooLarge => no_link(err),
     }
 }
 
-fn link_order(write: bool) -> Order {
+fn link_order<R: Env, E: Write>(rt: &R, err: &mut E, write: bool) -> Order {
     let mut digits = [0u8; 4096];
-    let n = input::argument_or_nothing(LINK_AT, &mut digits);
-    of_link(write, &digits[..n])
+    let n = input::argument_or_nothing(rt, LINK_AT, &mut digits);
+    of_link(err, write, &digits[..n])
 }
 
-fn no_verb() -> Order {
-    reasons::text(b"the first argument is print, write, all or read\n");
+fn no_verb<E: Write>(err: &mut E) -> Order {
+    reasons::text(err, b"the first argument is print, write, all or read\n");
     Order::Wrong
 }
 
 // Its first letter tells a verb.
-fn order_of(verb: &[u8]) -> Order {
+fn order_of<R: Env, E: Write>(rt: &R, err: &mut E, verb: &[u8]) -> Order {
     if verb.len() == 0 {
-        return no_verb();
+        return no_verb(err);
     }
     match verb[0] {
-        b'p' => link_order(false),
-        b'w' => link_order(true),
+        b'p' => link_order(rt, err, false),
+        b'w' => link_order(rt, err, true),
         b'a' => Order::All,
         b'r' => Order::Read,
-        _ => no_verb(),
+        _ => no_verb(err),
     }
 }
 
-fn order_given() -> Order {
+fn order_given<R: Env, E: Write>(rt: &R, err: &mut E) -> Order {
     let mut verb = [0u8; 4096];
-    let n = input::argument_or_nothing(VERB_AT, &mut verb);
-    order_of(&verb[..n])
+    let n = input::argument_or_nothing(rt, VERB_AT, &mut verb);
+    order_of(rt, err, &verb[..n])
 }
 
-fn write_to_file(t: &[u32], link: u32, base: &[u8], device: &[u8]) {
+fn write_to_file<R: Env + Files, O: Write, E: Write>(
+    rt: &R,
+    out: &mut O,
+    err: &mut E,
+    t: &[u32],
+    link: u32,
+    base: &[u8],
+    device: &[u8],
+) -> io::Result<()> {
     let mut path = [0u8; 4096];
-    let given = input::argument(FILE_AT, &mut path, b"the path of the list");
+    let given = input::argument(rt, err, FILE_AT, &mut path, b"the path of the list");
     let Some(n) = given else {
-        return;
+        return Ok(());
     };
-    one::written(t, link, &path[..n], base, device);
+    one::written(rt, out, err, t, link, &path[..n], base, device)
 }
 
-fn write_to_folder(t: &[u32], base: &[u8]) {
+fn write_to_folder<R: Clock + Env + Files, O: Write, E: Write>(
+    rt: &R,
+    out: &mut O,
+    err: &mut E,
+    t: &[u32],
+    base: &[u8],
+) -> io::Result<()> {
     let mut path = [0u8; 4096];
-    let given = input::argument(FOLDER_AT, &mut path, b"the path of the folder");
+    let given = input::argument(rt, err, FOLDER_AT, &mut path, b"the path of the folder");
     let Some(n) = given else {
-        return;
+        return Ok(());
     };
-    all::written(t, &path[..n], base);
+    all::written(rt, out, err, t, &path[..n], base)
 }
 
-fn ordered(order: Order, t: &[u32], base: &[u8], device: &[u8]) {
+fn ordered<R: Clock + Env + Files, O: Write, E: Write>(
+    rt: &R,
+    out: &mut O,
+    err: &mut E,
+    order: Order,
+    t: &[u32],
+    base: &[u8],
+    device: &[u8],
+) -> io::Result<()> {
     match order {
         Order::Print(link) => {
-            one::printed(t, link, base, device);
+            one::printed(out, err, t, link, base, device)?;
         }
         Order::Write(link) => {
-            write_to_file(t, link, base, device);
+            write_to_file(rt, out, err, t, link, base, device)?;
         }
         Order::All => {
-            write_to_folder(t, base);
+            write_to_folder(rt, out, err, t, base)?;
         }
         Order::Read => {}
         Order::Wrong => {}
     }
+    Ok(())
 }
 
-fn on_table(order: Order, words: &[u32], n: usize) {
+fn on_table<R: Clock + Env + Files, O: Write, E: Write>(
+    rt: &R,
+    out: &mut O,
+    err: &mut E,
+    order: Order,
+    words: &[u32],
+    n: usize,
+) -> io::Result<()> {
     if words.len() < n {
-        return;
+        return Ok(());
     }
     let mut base = [0u8; 4096];
-    let i = input::argument_or_nothing(BASE_AT, &mut base);
+    let i = input::argument_or_nothing(rt, BASE_AT, &mut base);
     let mut device = [0u8; 4096];
-    let j = input::argument_or_nothing(DEVICE_AT, &mut device);
-    ordered(order, &words[0..n], &base[..i], &device[..j]);
+    let j = input::argument_or_nothing(rt, DEVICE_AT, &mut device);
+    ordered(rt, out, err, order, &words[0..n], &base[..i], &device[..j])
 }
 
-fn on_plan(order: Order) {
+fn on_plan<R: Clock + Env + Files + Input, O: Write, E: Write>(
+    rt: &R,
+    out: &mut O,
+    err: &mut E,
+    order: Order,
+) -> io::Result<()> {
     let mut words = [0u32; table::MAX_TABLE_WORDS];
-    let given = input::given_plan(&mut words);
+    let given = input::given_plan(rt, err, &mut words);
     match given {
         Given::Words(n) => {
-            on_table(order, &words, n);
+            on_table(rt, out, err, order, &words, n)?;
         }
         Given::Refused(number, at) => {
-            answers::plan_refused(number, at);
+            answers::plan_refused(out, number, at)?;
         }
         Given::Unread => {}
     }
+    Ok(())
 }
 
-fn main() {
-    let order = order_given();
+fn run<R: Clock + Env + Files + Input, O: Write, E: Write>(
+    rt: &R,
+    out: &mut O,
+    err: &mut E,
+) -> io::Result<()> {
+    let order = order_given(rt, err);
     match order {
         Order::Print(link) => {
-            on_plan(order);
+            on_plan(rt, out, err, order)?;
         }
         Order::Write(link) => {
-            on_plan(order);
+            on_plan(rt, out, err, order)?;
         }
         Order::All => {
-            on_plan(order);
+            on_plan(rt, out, err, order)?;
         }
         Order::Read => {
-            read::printed();
+            read::printed(rt, out, err)?;
         }
         Order::Wrong => {}
     }
+    Ok(())
+}
+
+fn main(rt: HostRuntime) {
+    let _ = run(&rt, &mut rt.stdout(), &mut rt.stderr());
 }

@@ -6,6 +6,9 @@ use basics::Checked;
 use gate_lists::Listed;
 use numbers::Written;
 use show::answers;
+use std::io;
+use std::io::Write;
+use std::rt::Files;
 
 // Internal: more bytes than a list has in either form.
 pub(crate) const ROOM: usize = 65536;
@@ -39,97 +42,164 @@ pub(crate) fn file(words: &[u32], base: &[u8], device: &[u8], bytes: &mut [u8]) 
 }
 
 // A link that has no list.
-fn refused(t: &[u32], link: u32, number: u32) {
-    why::link_refused(t, link, number);
-    answers::plan_refused(number, 0);
+fn refused<O: Write, E: Write>(
+    out: &mut O,
+    err: &mut E,
+    t: &[u32],
+    link: u32,
+    number: u32,
+) -> io::Result<()> {
+    why::link_refused(err, t, link, number);
+    answers::plan_refused(out, number, 0)
 }
 
 // ---- Printed
 
-fn print_for_tc(link: u32, words: &[u32], base: &[u8], device: &[u8]) {
+fn print_for_tc<O: Write, E: Write>(
+    out: &mut O,
+    err: &mut E,
+    link: u32,
+    words: &[u32],
+    base: &[u8],
+    device: &[u8],
+) -> io::Result<()> {
     let mut bytes = [0u8; ROOM];
     let n = taprio::list(words, base, device, &mut bytes);
     if ROOM < n {
-        return;
+        return Ok(());
     }
-    why::cut_by_tc(link, words);
+    why::cut_by_tc(err, link, words);
     if taprio::sets_a_part(words, device) {
-        out::no_command();
-        return;
+        out::no_command(out)?;
+        return Ok(());
     }
-    out::for_tc(&bytes[0..n]);
+    out::for_tc(out, &bytes[0..n])
 }
 
-fn print_list(link: u32, words: &[u32], base: &[u8], device: &[u8]) {
-    why::empty(link, words);
+fn print_list<O: Write, E: Write>(
+    out: &mut O,
+    err: &mut E,
+    link: u32,
+    words: &[u32],
+    base: &[u8],
+    device: &[u8],
+) -> io::Result<()> {
+    why::empty(err, link, words);
     if 0 < base.len() {
-        print_for_tc(link, words, base, device);
-        return;
+        print_for_tc(out, err, link, words, base, device)?;
+        return Ok(());
     }
-    out::pairs(words);
+    out::pairs(out, words)
 }
 
-fn print_first(link: u32, words: &[u32], pairs: usize, base: &[u8], device: &[u8]) {
+fn print_first<O: Write, E: Write>(
+    out: &mut O,
+    err: &mut E,
+    link: u32,
+    words: &[u32],
+    pairs: usize,
+    base: &[u8],
+    device: &[u8],
+) -> io::Result<()> {
     if words.len() / 2 < pairs {
-        return;
+        return Ok(());
     }
-    print_list(link, &words[0..2 * pairs], base, device);
+    print_list(out, err, link, &words[0..2 * pairs], base, device)
 }
 
-fn print_accepted(t: &[u32], link: u32, base: &[u8], device: &[u8])
+fn print_accepted<O: Write, E: Write>(
+    out: &mut O,
+    err: &mut E,
+    t: &[u32],
+    link: u32,
+    base: &[u8],
+    device: &[u8],
+) -> io::Result<()>
     requires { MayList t.now link }
 {
     let mut words = [0u32; gates::MAX_LIST_WORDS];
     let told = gate_lists::list_of(t, link, &mut words);
     match told {
         Listed::Pairs(n) => {
-            print_first(link, &words, n, base, device);
+            print_first(out, err, link, &words, n, base, device)?;
         }
         Listed::Refused(number) => {
-            refused(t, link, number);
+            refused(out, err, t, link, number)?;
         }
     }
+    Ok(())
 }
 
 // Internal: prints the list of a link.
-pub(crate) fn printed(t: &[u32], link: u32, base: &[u8], device: &[u8]) {
+pub(crate) fn printed<O: Write, E: Write>(
+    out: &mut O,
+    err: &mut E,
+    t: &[u32],
+    link: u32,
+    base: &[u8],
+    device: &[u8],
+) -> io::Result<()> {
     let told = gate_lists::may_list(t, link);
     match told {
         Checked::Clear => {
-            print_accepted(t, link, base, device);
+            print_accepted(out, err, t, link, base, device)?;
         }
         Checked::Refused(number, at) => {
-            judge::refused(t, link, number, at);
+            judge::refused(out, err, t, link, number, at)?;
         }
     }
+    Ok(())
 }
 
 // ---- Written
 
-fn write_bytes(t: &[u32], link: u32, path: &[u8], words: &[u32], bytes: &[u8]) {
-    if durable::write_beside(path, bytes, b"", b"") {
-        out::written(t, link, words, bytes.len());
+fn write_bytes<R: Files, O: Write, E: Write>(
+    rt: &R,
+    out: &mut O,
+    err: &mut E,
+    t: &[u32],
+    link: u32,
+    path: &[u8],
+    words: &[u32],
+    bytes: &[u8],
+) -> io::Result<()> {
+    if durable::write_beside(rt, err, path, bytes, b"", b"") {
+        out::written(out, t, link, words, bytes.len())?;
     }
+    Ok(())
 }
 
-fn write_list(t: &[u32], link: u32, path: &[u8], words: &[u32], base: &[u8], device: &[u8]) {
+fn write_list<R: Files, O: Write, E: Write>(
+    rt: &R,
+    out: &mut O,
+    err: &mut E,
+    t: &[u32],
+    link: u32,
+    path: &[u8],
+    words: &[u32],
+    base: &[u8],
+    device: &[u8],
+) -> io::Result<()> {
     let mut bytes = [0u8; ROOM];
     let n = file(words, base, device, &mut bytes);
     if ROOM < n {
-        return;
+        return Ok(());
     }
-    why::empty(link, words);
+    why::empty(err, link, words);
     if 0 < base.len() {
-        why::cut_by_tc(link, words);
+        why::cut_by_tc(err, link, words);
     }
     if taprio::sets_a_part(words, device) {
-        out::no_command();
-        return;
+        out::no_command(out)?;
+        return Ok(());
     }
-    write_bytes(t, link, path, words, &bytes[0..n]);
+    write_bytes(rt, out, err, t, link, path, words, &bytes[0..n])
 }
 
-fn write_first(
+fn write_first<R: Files, O: Write, E: Write>(
+    rt: &R,
+    out: &mut O,
+    err: &mut E,
     t: &[u32],
     link: u32,
     path: &[u8],
@@ -137,37 +207,67 @@ fn write_first(
     pairs: usize,
     base: &[u8],
     device: &[u8],
-) {
+) -> io::Result<()> {
     if words.len() / 2 < pairs {
-        return;
+        return Ok(());
     }
-    write_list(t, link, path, &words[0..2 * pairs], base, device);
+    write_list(
+        rt,
+        out,
+        err,
+        t,
+        link,
+        path,
+        &words[0..2 * pairs],
+        base,
+        device,
+    )
 }
 
-fn write_accepted(t: &[u32], link: u32, path: &[u8], base: &[u8], device: &[u8])
+fn write_accepted<R: Files, O: Write, E: Write>(
+    rt: &R,
+    out: &mut O,
+    err: &mut E,
+    t: &[u32],
+    link: u32,
+    path: &[u8],
+    base: &[u8],
+    device: &[u8],
+) -> io::Result<()>
     requires { MayList t.now link }
 {
     let mut words = [0u32; gates::MAX_LIST_WORDS];
     let told = gate_lists::list_of(t, link, &mut words);
     match told {
         Listed::Pairs(n) => {
-            write_first(t, link, path, &words, n, base, device);
+            write_first(rt, out, err, t, link, path, &words, n, base, device)?;
         }
         Listed::Refused(number) => {
-            refused(t, link, number);
+            refused(out, err, t, link, number)?;
         }
     }
+    Ok(())
 }
 
 // Internal: writes the list of a link beside the name of a new file.
-pub(crate) fn written(t: &[u32], link: u32, path: &[u8], base: &[u8], device: &[u8]) {
+pub(crate) fn written<R: Files, O: Write, E: Write>(
+    rt: &R,
+    out: &mut O,
+    err: &mut E,
+    t: &[u32],
+    link: u32,
+    path: &[u8],
+    base: &[u8],
+    device: &[u8],
+) -> io::Result<()> {
     let told = gate_lists::may_list(t, link);
     match told {
         Checked::Clear => {
-            write_accepted(t, link, path, base, device);
+            write_accepted(rt, out, err, t, link, path, base, device)?;
         }
         Checked::Refused(number, at) => {
-            judge::refused(t, link, number, at);
+            judge::refused(out, err, t, link, number, at)?;
         }
     }
+    Ok(())
 }

@@ -7,24 +7,30 @@ use files::Cursor;
 use gate_lists::LONG_CYCLE;
 use reasons::records::header_word;
 use reasons::{line, records, small};
+use std::io::Write;
 use table::Leg;
 
 // Internal: why a plan has no lists whose first violated place this is.
-pub(crate) fn not_accepted(at: Cursor) {
+pub(crate) fn not_accepted<E: Write>(err: &mut E, at: Cursor) {
     line(
+        err,
         b"place # of leg # is violated, and only an accepted plan has gate lists: move legs until 'check' accepts it",
         &[at.place, at.leg],
     );
 }
 
 // Internal: a link that the plan does not have.
-pub(crate) fn no_link(t: &[u32], link: u32) {
+pub(crate) fn no_link<E: Write>(err: &mut E, t: &[u32], link: u32) {
     let links = header_word(t, table::LINKS_AT);
     if links == 0 {
-        line(b"there is no link #: the plan has no links", &[link]);
+        line(err, b"there is no link #: the plan has no links", &[link]);
         return;
     }
-    line(b"there is no link #: links are 0 to #", &[link, links - 1]);
+    line(
+        err,
+        b"there is no link #: links are 0 to #",
+        &[link, links - 1],
+    );
 }
 
 // ---- 21: the cycle is too long
@@ -71,9 +77,10 @@ fn passing(t: &[u32], link: u32) -> u32 {
     a
 }
 
-fn long_cycle(t: &[u32], link: u32) {
+fn long_cycle<E: Write>(err: &mut E, t: &[u32], link: u32) {
     let a = passing(t, link);
     line(
+        err,
         b"the least common multiple of the periods on link # passes # ns with leg #, whose period is # ns: give its streams periods that go into one another",
         &[
             link,
@@ -85,12 +92,13 @@ fn long_cycle(t: &[u32], link: u32) {
 }
 
 // Internal: why a link of an accepted plan has no list.
-pub(crate) fn link_refused(t: &[u32], link: u32, number: u32) {
+pub(crate) fn link_refused<E: Write>(err: &mut E, t: &[u32], link: u32, number: u32) {
     if number == LONG_CYCLE {
-        long_cycle(t, link);
+        long_cycle(err, t, link);
         return;
     }
     line(
+        err,
         b"the list of link # would have more than # pairs: periods with a smaller least common multiple make it shorter, and frames that follow each other without a gap",
         &[link, gates::MAX_PAIRS as u32],
     );
@@ -99,17 +107,18 @@ pub(crate) fn link_refused(t: &[u32], link: u32, number: u32) {
 // ---- What is to be known of a list
 
 // Internal: that a link has no legs.
-pub(crate) fn empty(link: u32, words: &[u32]) {
+pub(crate) fn empty<E: Write>(err: &mut E, link: u32, words: &[u32]) {
     if words.len() == 0 {
-        line(b"link # has no legs: its list is empty", &[link]);
+        line(err, b"link # has no legs: its list is empty", &[link]);
     }
 }
 
 // Internal: that tc cuts a list off.
-pub(crate) fn cut_by_tc(link: u32, words: &[u32]) {
+pub(crate) fn cut_by_tc<E: Write>(err: &mut E, link: u32, words: &[u32]) {
     let pairs = words.len() / 2;
     if taprio::MOST_OF_TC < pairs {
         line(
+            err,
             b"the list of link # has # pairs, but the tc of iproute2 6.1.0 to 7.3.0 sends # at most, and says only 'message exceeded bound': set it by other means",
             &[link, small(pairs), taprio::MOST_OF_TC as u32],
         );
@@ -117,15 +126,20 @@ pub(crate) fn cut_by_tc(link: u32, words: &[u32]) {
 }
 
 // Internal: the same of several links.
-pub(crate) fn some_empty(count: u32) {
+pub(crate) fn some_empty<E: Write>(err: &mut E, count: u32) {
     if 0 < count {
-        line(b"links without legs, whose lists are empty: #", &[count]);
+        line(
+            err,
+            b"links without legs, whose lists are empty: #",
+            &[count],
+        );
     }
 }
 
-pub(crate) fn some_cut(count: u32) {
+pub(crate) fn some_cut<E: Write>(err: &mut E, count: u32) {
     if 0 < count {
         line(
+            err,
             b"lists of more than # pairs, which the tc of iproute2 6.1.0 to 7.3.0 sends in part, saying only 'message exceeded bound': #. Set them by other means",
             &[taprio::MOST_OF_TC as u32, count],
         );
@@ -133,6 +147,6 @@ pub(crate) fn some_cut(count: u32) {
 }
 
 // Internal: how many links are done.
-pub(crate) fn so_far(done: u32, links: u32) {
-    line(b"so far # of # links are done", &[done, links]);
+pub(crate) fn so_far<E: Write>(err: &mut E, done: u32, links: u32) {
+    line(err, b"so far # of # links are done", &[done, links]);
 }

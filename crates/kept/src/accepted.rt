@@ -7,6 +7,8 @@ use basics::{Checked, Holds};
 use durable::FileRead;
 use files::PlanRead;
 use seen::{Of, Rest};
+use std::io::Write;
+use std::rt::Files;
 
 // What stands in the place of the edition, where a plan was accepted: so much more than the edition. So a copy of a plan that was only seen is not taken for an accepted one, nor this
 // for such a copy.
@@ -22,10 +24,11 @@ pub enum Accepted {
     NotOurs,
 }
 
-fn not_ours(path: &[u8]) -> Accepted {
-    reasons::begin();
-    reasons::text(path);
+fn not_ours<E: Write>(err: &mut E, path: &[u8]) -> Accepted {
+    reasons::begin(err);
+    reasons::text(err, path);
     reasons::text(
+        err,
         b".accepted is not an accepted plan as a recheck keeps it. It was left as it is, and nothing is kept there: unless it is a file of your own, remove it\n",
     );
     Accepted::NotOurs
@@ -62,20 +65,20 @@ fn words_same(t: &[u32], words: &[u32], n: usize, leg: u32) -> Accepted {
     Accepted::Unknown
 }
 
-fn plan_same(path: &[u8], plan: &[u8], t: &[u32], leg: u32) -> Accepted {
+fn plan_same<E: Write>(err: &mut E, path: &[u8], plan: &[u8], t: &[u32], leg: u32) -> Accepted {
     let mut words = [0u32; table::MAX_TABLE_WORDS];
     let read = files::read_plan(plan, &mut words);
     match read {
-        PlanRead::Refused(_, _) => not_ours(path),
+        PlanRead::Refused(_, _) => not_ours(err, path),
         PlanRead::Words(n) => words_same(t, &words, n, leg),
     }
 }
 
-fn kept_same(path: &[u8], kept: &[u8], t: &[u32], leg: u32) -> Accepted {
+fn kept_same<E: Write>(err: &mut E, path: &[u8], kept: &[u8], t: &[u32], leg: u32) -> Accepted {
     let of = seen::edition_of(kept);
     if let Of::Edition(edition) = of {
         if edition < ACCEPTED {
-            return not_ours(path);
+            return not_ours(err, path);
         }
         if edition != ACCEPTED_HERE {
             return Accepted::Unknown;
@@ -83,41 +86,47 @@ fn kept_same(path: &[u8], kept: &[u8], t: &[u32], leg: u32) -> Accepted {
     }
     let only = seen::only_plan(kept, ACCEPTED_HERE);
     let Rest::At(next) = only else {
-        return not_ours(path);
+        return not_ours(err, path);
     };
     if kept.len() < next {
-        return not_ours(path);
+        return not_ours(err, path);
     }
-    plan_same(path, &kept[next..], t, leg)
+    plan_same(err, path, &kept[next..], t, leg)
 }
 
 // Internal: what is kept beside a cursor, for a table of which one leg was moved. Of a file that is not ours or cannot be read, that is said.
-pub fn judged(path: &[u8], t: &[u32], leg: u32) -> Accepted {
+pub fn judged<R: Files, E: Write>(
+    rt: &R,
+    err: &mut E,
+    path: &[u8],
+    t: &[u32],
+    leg: u32,
+) -> Accepted {
     let mut bytes = [0u8; saved::SEEN_ROOM];
-    let read = saved::file_beside(path, b".accepted", &mut bytes);
+    let read = saved::file_beside(rt, err, path, b".accepted", &mut bytes);
     match read {
         FileRead::Missing => Accepted::Unknown,
         FileRead::Failed => Accepted::NotOurs,
         FileRead::Bytes(n) => {
             if bytes.len() < n {
-                return not_ours(path);
+                return not_ours(err, path);
             }
-            kept_same(path, &bytes[0..n], t, leg)
+            kept_same(err, path, &bytes[0..n], t, leg)
         }
     }
 }
 
 // Internal: whether this very plan is kept there, under these rules.
-pub fn holds(path: &[u8], plan: &[u8]) -> bool {
-    saved::knows(path, b".accepted", ACCEPTED_HERE, plan)
+pub fn holds<R: Files, E: Write>(rt: &R, err: &mut E, path: &[u8], plan: &[u8]) -> bool {
+    saved::knows(rt, err, path, b".accepted", ACCEPTED_HERE, plan)
 }
 
 // Internal: writes an accepted plan beside its file.
-pub fn write_beside(path: &[u8], plan: &[u8]) -> bool {
-    saved::copy_beside(path, b".accepted", ACCEPTED_HERE, plan, b"")
+pub fn write_beside<R: Files, E: Write>(rt: &R, err: &mut E, path: &[u8], plan: &[u8]) -> bool {
+    saved::copy_beside(rt, err, path, b".accepted", ACCEPTED_HERE, plan, b"")
 }
 
 // Internal: gives what was written beside the file its name.
-pub fn put_in_place(path: &[u8]) -> bool {
-    saved::put_copy_in_place(path, b".accepted")
+pub fn put_in_place<R: Files, E: Write>(rt: &R, err: &mut E, path: &[u8]) -> bool {
+    saved::put_copy_in_place(rt, err, path, b".accepted")
 }

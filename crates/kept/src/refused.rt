@@ -2,6 +2,7 @@
 use files::Cursor;
 use reasons::records::header_word;
 use reasons::{line, small};
+use std::io::Write;
 use table::Move;
 
 // The last place of a leg. No leg is without one.
@@ -13,10 +14,11 @@ fn last_place(a: usize) -> u32 {
 }
 
 // Internal: why a cursor is refused.
-pub fn why(t: &[u32], c: Cursor) {
+pub fn why<E: Write>(err: &mut E, t: &[u32], c: Cursor) {
     let revision = header_word(t, table::REVISION_AT);
     if c.revision != revision {
         line(
+            err,
             b"the cursor belongs to revision #, but the plan has revision #",
             &[c.revision, revision],
         );
@@ -25,30 +27,37 @@ pub fn why(t: &[u32], c: Cursor) {
     let legs = header_word(t, table::LEGS_AT);
     if c.leg < legs {
         line(
+            err,
             b"the cursor is at leg #, place #, but leg # has the places 0 to #",
             &[c.leg, c.place, c.leg, last_place(table::wide(c.leg))],
         );
         return;
     }
     line(
+        err,
         b"the cursor is at leg #, place #, but the plan ends at leg #, place 0",
         &[c.leg, c.place, legs],
     );
 }
 
 // Internal: why a move is refused with 10 or 11.
-pub fn why_move(t: &[u32], mv: Move) {
+pub fn why_move<E: Write>(err: &mut E, t: &[u32], mv: Move) {
     let legs = header_word(t, table::LEGS_AT);
     if mv.leg < legs {
         line(
+            err,
             b"the plan has revision #, the last one: no move is possible",
             &[header_word(t, table::REVISION_AT)],
         );
         return;
     }
     if legs == 0 {
-        line(b"there is no leg #: the plan has no legs", &[mv.leg]);
+        line(err, b"there is no leg #: the plan has no legs", &[mv.leg]);
         return;
     }
-    line(b"there is no leg #: legs are 0 to #", &[mv.leg, legs - 1]);
+    line(
+        err,
+        b"there is no leg #: legs are 0 to #",
+        &[mv.leg, legs - 1],
+    );
 }

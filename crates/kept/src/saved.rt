@@ -7,6 +7,9 @@ use numbers::Written;
 use seen::Of;
 use show::answers;
 use show::answers::Part;
+use std::io;
+use std::io::Write;
+use std::rt::Files;
 
 // One byte more than the largest file, so that a byte left over is seen.
 const CURSOR_ROOM: usize = files::MAX_CURSOR_BYTES + 1;
@@ -33,9 +36,9 @@ fn read_in(bytes: &[u8], n: usize) -> Saved {
     }
 }
 
-pub(crate) fn found(path: &[u8]) -> Saved {
+pub(crate) fn found<R: Files, E: Write>(rt: &R, err: &mut E, path: &[u8]) -> Saved {
     let mut bytes = [0u8; CURSOR_ROOM];
-    let read = durable::file(path, &mut bytes);
+    let read = durable::file(rt, err, path, &mut bytes);
     match read {
         FileRead::Bytes(n) => read_in(&bytes, n),
         FileRead::Missing => Saved::Missing,
@@ -44,94 +47,131 @@ pub(crate) fn found(path: &[u8]) -> Saved {
 }
 
 // Internal: the cursor to go on with. Where it is missing or refused, that is said or is the answer, which is written.
-pub fn cursor(path: &[u8]) -> Saved {
-    let at = found(path);
+pub fn cursor<R: Files, O: Write, E: Write>(
+    rt: &R,
+    out: &mut O,
+    err: &mut E,
+    path: &[u8],
+) -> io::Result<Saved> {
+    let at = found(rt, err, path);
     match at {
-        Saved::At(c) => Saved::At(c),
+        Saved::At(c) => Ok(Saved::At(c)),
         Saved::Refused(number, position) => {
-            ours::no_cursor(path);
-            answers::unread(number, position, Part::Foreign);
-            Saved::Failed
+            ours::no_cursor(err, path);
+            answers::unread(out, number, position, Part::Foreign)?;
+            Ok(Saved::Failed)
         }
         Saved::Missing => {
-            ours::missing(path);
-            Saved::Failed
+            ours::missing(err, path);
+            Ok(Saved::Failed)
         }
-        Saved::Failed => Saved::Failed,
+        Saved::Failed => Ok(Saved::Failed),
     }
 }
 
 // Whether what was kept is of this edition of the rules, or is no copy at all. Where it is of another one, that is the answer, and it is written.
-fn present_in(kept: &[u8], revision: u32) -> bool {
+fn present_in<O: Write>(out: &mut O, kept: &[u8], revision: u32) -> io::Result<bool> {
     let of = seen::edition_of(kept);
     if let Of::Edition(edition) = of {
         if edition != rules::EDITION {
-            answers::other_edition(edition, revision);
-            return false;
+            answers::other_edition(out, edition, revision)?;
+            return Ok(false);
         }
     }
-    true
+    Ok(true)
 }
 
 // Internal: whether the cursor was not saved under another edition of the rules. Where it was, that is the answer, and it is written.
-pub fn is_present(path: &[u8], revision: u32) -> bool {
+pub fn is_present<R: Files, O: Write, E: Write>(
+    rt: &R,
+    out: &mut O,
+    err: &mut E,
+    path: &[u8],
+    revision: u32,
+) -> io::Result<bool> {
     let mut bytes = [0u8; SEEN_ROOM];
-    let read = seen_file(path, &mut bytes);
+    let read = seen_file(rt, err, path, &mut bytes);
     match read {
-        FileRead::Missing => true,
-        FileRead::Failed => false,
+        FileRead::Missing => Ok(true),
+        FileRead::Failed => Ok(false),
         FileRead::Bytes(n) => {
             if bytes.len() < n {
-                return false;
+                return Ok(false);
             }
-            present_in(&bytes[0..n], revision)
+            present_in(out, &bytes[0..n], revision)
         }
     }
 }
 
 // Whether the plan is one that was last seen, under this edition of the rules. Where it is not, that is the answer, and it is written; and it is said where the copy is
 // none.
-fn known_in(path: &[u8], bytes: &[u8], n: usize, plan: &[u8], revision: u32) -> bool {
+fn known_in<O: Write, E: Write>(
+    out: &mut O,
+    err: &mut E,
+    path: &[u8],
+    bytes: &[u8],
+    n: usize,
+    plan: &[u8],
+    revision: u32,
+) -> io::Result<bool> {
     if bytes.len() < n {
-        return false;
+        return Ok(false);
     }
     let told = seen::known(&bytes[0..n], rules::EDITION, plan);
     match told {
-        Holds::Yes => true,
+        Holds::Yes => Ok(true),
         Holds::No => {
-            if ours::is_copy(path, &bytes[0..n]) {
-                answers::unknown(b"changed", revision, b"changed");
+            if ours::is_copy(err, path, &bytes[0..n]) {
+                answers::unknown(out, b"changed", revision, b"changed")?;
             } else {
-                answers::unknown(b"changed", revision, b"damaged");
+                answers::unknown(out, b"changed", revision, b"damaged")?;
             }
-            false
+            Ok(false)
         }
     }
 }
 
 // Reads a file beside a cursor, by its ending.
-pub(crate) fn file_beside(path: &[u8], ending: &[u8], bytes: &mut [u8]) -> FileRead {
+pub(crate) fn file_beside<R: Files, E: Write>(
+    rt: &R,
+    err: &mut E,
+    path: &[u8],
+    ending: &[u8],
+    bytes: &mut [u8],
+) -> FileRead {
     let mut name = [0u8; 4096];
     let n = durable::ended(path, ending, &mut name);
-    durable::file(&name[..n], bytes)
+    durable::file(rt, err, &name[..n], bytes)
 }
 
 // Reads the copy beside a cursor.
-pub(crate) fn seen_file(path: &[u8], bytes: &mut [u8]) -> FileRead {
-    file_beside(path, b".seen", bytes)
+pub(crate) fn seen_file<R: Files, E: Write>(
+    rt: &R,
+    err: &mut E,
+    path: &[u8],
+    bytes: &mut [u8],
+) -> FileRead {
+    file_beside(rt, err, path, b".seen", bytes)
 }
 
 // Internal: whether the plan is one that was last seen with the cursor. Where it is not, that is the answer, and it is written.
-pub fn is_known(path: &[u8], plan: &[u8], revision: u32) -> bool {
+pub fn is_known<R: Files, O: Write, E: Write>(
+    rt: &R,
+    out: &mut O,
+    err: &mut E,
+    path: &[u8],
+    plan: &[u8],
+    revision: u32,
+) -> io::Result<bool> {
     let mut bytes = [0u8; SEEN_ROOM];
-    let read = seen_file(path, &mut bytes);
+    let read = seen_file(rt, err, path, &mut bytes);
     match read {
-        FileRead::Bytes(n) => known_in(path, &bytes, n, plan, revision),
+        FileRead::Bytes(n) => known_in(out, err, path, &bytes, n, plan, revision),
         FileRead::Missing => {
-            answers::unknown(b"unseen", revision, b"unseen");
-            false
+            answers::unknown(out, b"unseen", revision, b"unseen")?;
+            Ok(false)
         }
-        FileRead::Failed => false,
+        FileRead::Failed => Ok(false),
     }
 }
 
@@ -147,9 +187,16 @@ fn knows_in(bytes: &[u8], n: usize, edition: u32, plan: &[u8]) -> bool {
 }
 
 // Whether the plan is one of those in a file beside a cursor, by its ending, under this edition. Nothing is answered.
-pub(crate) fn knows(path: &[u8], ending: &[u8], edition: u32, plan: &[u8]) -> bool {
+pub(crate) fn knows<R: Files, E: Write>(
+    rt: &R,
+    err: &mut E,
+    path: &[u8],
+    ending: &[u8],
+    edition: u32,
+    plan: &[u8],
+) -> bool {
     let mut bytes = [0u8; SEEN_ROOM];
-    let read = file_beside(path, ending, &mut bytes);
+    let read = file_beside(rt, err, path, ending, &mut bytes);
     match read {
         FileRead::Bytes(n) => knows_in(&bytes, n, edition, plan),
         FileRead::Missing => false,
@@ -169,19 +216,26 @@ pub fn is_end(c: Cursor, revision: u32, legs: usize) -> bool {
 }
 
 // Internal: whether the saved cursor is at the end of this very plan, which was last seen with it. A cursor that is missing, refused or not of this plan is not.
-pub fn has_ended(path: &[u8], plan: &[u8], revision: u32, legs: usize) -> bool {
-    let at = found(path);
+pub fn has_ended<R: Files, E: Write>(
+    rt: &R,
+    err: &mut E,
+    path: &[u8],
+    plan: &[u8],
+    revision: u32,
+    legs: usize,
+) -> bool {
+    let at = found(rt, err, path);
     let Saved::At(c) = at else {
         return false;
     };
     if !is_end(c, revision, legs) {
         return false;
     }
-    knows(path, b".seen", rules::EDITION, plan)
+    knows(rt, err, path, b".seen", rules::EDITION, plan)
 }
 
 // Internal: writes the cursor beside its file.
-pub fn cursor_beside(path: &[u8], c: Cursor) -> bool {
+pub fn cursor_beside<R: Files, E: Write>(rt: &R, err: &mut E, path: &[u8], c: Cursor) -> bool {
     let mut bytes = [0u8; files::MAX_CURSOR_BYTES];
     let written = files::write_cursor(c, &mut bytes);
     match written {
@@ -189,21 +243,31 @@ pub fn cursor_beside(path: &[u8], c: Cursor) -> bool {
             if bytes.len() < n {
                 return false;
             }
-            durable::write_beside(path, &bytes[0..n], b"", b"")
+            durable::write_beside(rt, err, path, &bytes[0..n], b"", b"")
         }
         CursorWritten::Refused(_, _, _) => false,
     }
 }
 
-fn fronted_beside(name: &[u8], front: &[u8], n: usize, plan: &[u8], other: &[u8]) -> bool {
+fn fronted_beside<R: Files, E: Write>(
+    rt: &R,
+    err: &mut E,
+    name: &[u8],
+    front: &[u8],
+    n: usize,
+    plan: &[u8],
+    other: &[u8],
+) -> bool {
     if front.len() < n {
         return false;
     }
-    durable::write_beside(name, &front[0..n], plan, other)
+    durable::write_beside(rt, err, name, &front[0..n], plan, other)
 }
 
 // Writes a copy under this edition beside its file, which has this ending: a plan, and another one or nothing.
-pub(crate) fn copy_beside(
+pub(crate) fn copy_beside<R: Files, E: Write>(
+    rt: &R,
+    err: &mut E,
     path: &[u8],
     ending: &[u8],
     edition: u32,
@@ -218,24 +282,35 @@ pub(crate) fn copy_beside(
     }
     let written = seen::write_front(edition, plan.len() as u32, &mut front);
     match written {
-        Written::Bytes(m) => fronted_beside(&name[..n], &front, m, plan, other),
+        Written::Bytes(m) => fronted_beside(rt, err, &name[..n], &front, m, plan, other),
         Written::Refused(_, _) => false,
     }
 }
 
 // Gives what was written beside a copy its name.
-pub(crate) fn put_copy_in_place(path: &[u8], ending: &[u8]) -> bool {
+pub(crate) fn put_copy_in_place<R: Files, E: Write>(
+    rt: &R,
+    err: &mut E,
+    path: &[u8],
+    ending: &[u8],
+) -> bool {
     let mut name = [0u8; 4096];
     let n = durable::ended(path, ending, &mut name);
-    durable::put_in_place(&name[..n])
+    durable::put_in_place(rt, err, &name[..n])
 }
 
 // Internal: writes what is seen beside its file: a plan, and the other of a move or nothing.
-pub fn seen_beside(path: &[u8], plan: &[u8], other: &[u8]) -> bool {
-    copy_beside(path, b".seen", rules::EDITION, plan, other)
+pub fn seen_beside<R: Files, E: Write>(
+    rt: &R,
+    err: &mut E,
+    path: &[u8],
+    plan: &[u8],
+    other: &[u8],
+) -> bool {
+    copy_beside(rt, err, path, b".seen", rules::EDITION, plan, other)
 }
 
 // Internal: gives what was written beside the copy its name.
-pub fn put_seen_in_place(path: &[u8]) -> bool {
-    put_copy_in_place(path, b".seen")
+pub fn put_seen_in_place<R: Files, E: Write>(rt: &R, err: &mut E, path: &[u8]) -> bool {
+    put_copy_in_place(rt, err, path, b".seen")
 }

@@ -13,6 +13,9 @@ use numbers::Written;
 use reasons::records;
 use show::answers;
 use show::answers::Part;
+use std::io;
+use std::io::Write;
+use std::rt::Files;
 use table::{Leg, Move};
 
 // One byte more than the largest plan file, so that a byte left over is seen.
@@ -27,188 +30,299 @@ pub(crate) fn are_same(a: &[u8], b: &[u8]) -> bool {
 }
 
 // What is refused is said on standard error before the answer is written.
-pub(crate) fn judged(t: &[u32], number: u32, at: usize, part: Part) {
+pub(crate) fn judged<O: Write>(
+    out: &mut O,
+    t: &[u32],
+    number: u32,
+    at: usize,
+    part: Part,
+) -> io::Result<()> {
     answers::judged(
+        out,
         number,
         at,
         records::header_word(t, table::REVISION_AT),
         part,
-    );
+    )
 }
 
-pub(crate) fn plan_refused(t: &[u32], number: u32, at: usize) {
-    records::why(t, number, at);
-    judged(t, number, at, Part::Plan);
+pub(crate) fn plan_refused<O: Write, E: Write>(
+    out: &mut O,
+    err: &mut E,
+    t: &[u32],
+    number: u32,
+    at: usize,
+) -> io::Result<()> {
+    records::why(err, t, number, at);
+    judged(out, t, number, at, Part::Plan)
 }
 
 // A cursor that is refused is to be replaced by a start. Where it is none of ours, that is said and not why it is refused: a start will leave it as it is.
-fn cursor_refused(cursor_path: &[u8], t: &[u32], number: u32, at: usize, c: Cursor) {
-    let found = ours::judged(cursor_path);
+fn cursor_refused<R: Files, O: Write, E: Write>(
+    rt: &R,
+    out: &mut O,
+    err: &mut E,
+    cursor_path: &[u8],
+    t: &[u32],
+    number: u32,
+    at: usize,
+    c: Cursor,
+) -> io::Result<()> {
+    let found = ours::judged(rt, err, cursor_path);
     match found {
         Standing::NotOurs => {
-            judged(t, number, at, Part::Foreign);
+            judged(out, t, number, at, Part::Foreign)?;
         }
         Standing::Free => {
-            refused::why(t, c);
-            judged(t, number, at, Part::Cursor);
+            refused::why(err, t, c);
+            judged(out, t, number, at, Part::Cursor)?;
         }
         Standing::Begun(_) => {
-            refused::why(t, c);
-            judged(t, number, at, Part::Cursor);
+            refused::why(err, t, c);
+            judged(out, t, number, at, Part::Cursor)?;
         }
         Standing::OtherEdition(_) => {
-            refused::why(t, c);
-            judged(t, number, at, Part::Cursor);
+            refused::why(err, t, c);
+            judged(out, t, number, at, Part::Cursor)?;
         }
     }
+    Ok(())
 }
 
 // Whether the plan is well-formed. Where it is not, that is the answer, and it is written. What is refused after this does not lie in the plan.
-fn plan_stands(t: &[u32]) -> bool {
+fn plan_stands<O: Write, E: Write>(out: &mut O, err: &mut E, t: &[u32]) -> io::Result<bool> {
     let told = checker::start(t);
     match told {
-        Grant::Granted(_) => true,
+        Grant::Granted(_) => Ok(true),
         Grant::Refused(number, at, _) => {
-            plan_refused(t, number, at);
-            false
+            plan_refused(out, err, t, number, at)?;
+            Ok(false)
         }
     }
 }
 
 // Whether the plan is well-formed, and the cursor not of another edition of the rules, to which its places would mean something else.
-fn may_go_on(cursor_path: &[u8], t: &[u32]) -> bool {
-    if !plan_stands(t) {
-        return false;
+fn may_go_on<R: Files, O: Write, E: Write>(
+    rt: &R,
+    out: &mut O,
+    err: &mut E,
+    cursor_path: &[u8],
+    t: &[u32],
+) -> io::Result<bool> {
+    if !plan_stands(out, err, t)? {
+        return Ok(false);
     }
-    saved::is_present(cursor_path, records::header_word(t, table::REVISION_AT))
+    saved::is_present(
+        rt,
+        out,
+        err,
+        cursor_path,
+        records::header_word(t, table::REVISION_AT),
+    )
 }
 
 // Whether the cursor is one of the plan, which is well-formed. What is refused after this lies in the move.
-fn cursor_stands(cursor_path: &[u8], t: &[u32], c: Cursor) -> bool {
+fn cursor_stands<R: Files, O: Write, E: Write>(
+    rt: &R,
+    out: &mut O,
+    err: &mut E,
+    cursor_path: &[u8],
+    t: &[u32],
+    c: Cursor,
+) -> io::Result<bool> {
     let told = checker::slice(t, c, 0);
     if let SliceAnswer::Refused(number, at, given) = told {
-        cursor_refused(cursor_path, t, number, at, given);
-        return false;
+        cursor_refused(rt, out, err, cursor_path, t, number, at, given)?;
+        return Ok(false);
     }
-    true
+    Ok(true)
 }
 
 // Replaces cursor and copy. The old cursor goes first: it must never stand beside the copy of another plan.
-fn begun(cursor_path: &[u8], plan: &[u8], c: Cursor) -> bool {
-    if !saved::seen_beside(cursor_path, plan, b"") {
+fn begun<R: Files, E: Write>(
+    rt: &R,
+    err: &mut E,
+    cursor_path: &[u8],
+    plan: &[u8],
+    c: Cursor,
+) -> bool {
+    if !saved::seen_beside(rt, err, cursor_path, plan, b"") {
         return false;
     }
-    if !saved::cursor_beside(cursor_path, c) {
+    if !saved::cursor_beside(rt, err, cursor_path, c) {
         return false;
     }
-    if !durable::remove(cursor_path) {
+    if !durable::remove(rt, err, cursor_path) {
         return false;
     }
-    if !saved::put_seen_in_place(cursor_path) {
+    if !saved::put_seen_in_place(rt, err, cursor_path) {
         return false;
     }
-    durable::put_in_place(cursor_path)
+    durable::put_in_place(rt, err, cursor_path)
 }
 
 // Whether a start may replace what stands there. Where it may not, that is the answer, and it is written, or said of a file that is not ours.
-fn may_begin(cursor_path: &[u8], t: &[u32], anew: bool) -> bool {
-    let found = ours::judged(cursor_path);
+fn may_begin<R: Files, O: Write, E: Write>(
+    rt: &R,
+    out: &mut O,
+    err: &mut E,
+    cursor_path: &[u8],
+    t: &[u32],
+    anew: bool,
+) -> io::Result<bool> {
+    let found = ours::judged(rt, err, cursor_path);
     match found {
-        Standing::Free => true,
+        Standing::Free => Ok(true),
         Standing::Begun(c) => {
             if !anew {
-                answers::begun(c, records::leg_count(t));
+                answers::begun(out, c, records::leg_count(t))?;
             }
-            anew
+            Ok(anew)
         }
         Standing::OtherEdition(edition) => {
             if !anew {
-                answers::other_edition(edition, records::header_word(t, table::REVISION_AT));
+                answers::other_edition(out, edition, records::header_word(t, table::REVISION_AT))?;
             }
-            anew
+            Ok(anew)
         }
-        Standing::NotOurs => false,
+        Standing::NotOurs => Ok(false),
     }
 }
 
-fn start(cursor_path: &[u8], plan: &[u8], t: &[u32], anew: bool) {
+fn start<R: Files, O: Write, E: Write>(
+    rt: &R,
+    out: &mut O,
+    err: &mut E,
+    cursor_path: &[u8],
+    plan: &[u8],
+    t: &[u32],
+    anew: bool,
+) -> io::Result<()> {
     let told = checker::start(t);
     match told {
         Grant::Refused(number, at, _) => {
-            plan_refused(t, number, at);
+            plan_refused(out, err, t, number, at)?;
         }
         Grant::Granted(c) => {
-            if may_begin(cursor_path, t, anew) {
-                if begun(cursor_path, plan, c) {
-                    answers::granted(c, records::leg_count(t));
+            if may_begin(rt, out, err, cursor_path, t, anew)? {
+                if begun(rt, err, cursor_path, plan, c) {
+                    answers::granted(out, c, records::leg_count(t))?;
                 }
             }
         }
     }
+    Ok(())
 }
 
 // Replaces the cursor, where the plan is known.
-fn gone_on(cursor_path: &[u8], plan: &[u8], c: Cursor) -> bool {
-    if !saved::is_known(cursor_path, plan, c.revision) {
-        return false;
+fn gone_on<R: Files, O: Write, E: Write>(
+    rt: &R,
+    out: &mut O,
+    err: &mut E,
+    cursor_path: &[u8],
+    plan: &[u8],
+    c: Cursor,
+) -> io::Result<bool> {
+    if !saved::is_known(rt, out, err, cursor_path, plan, c.revision)? {
+        return Ok(false);
     }
-    if !saved::cursor_beside(cursor_path, c) {
-        return false;
+    if !saved::cursor_beside(rt, err, cursor_path, c) {
+        return Ok(false);
     }
-    durable::put_in_place(cursor_path)
+    Ok(durable::put_in_place(rt, err, cursor_path))
 }
 
-fn sliced(cursor_path: &[u8], plan: &[u8], t: &[u32], told: SliceAnswer) {
+fn sliced<R: Files, O: Write, E: Write>(
+    rt: &R,
+    out: &mut O,
+    err: &mut E,
+    cursor_path: &[u8],
+    plan: &[u8],
+    t: &[u32],
+    told: SliceAnswer,
+) -> io::Result<()> {
     match told {
         SliceAnswer::Refused(number, at, given) => {
-            cursor_refused(cursor_path, t, number, at, given);
+            cursor_refused(rt, out, err, cursor_path, t, number, at, given)?;
         }
         SliceAnswer::Violated(c, steps, rule) => {
-            if gone_on(cursor_path, plan, c) {
-                answers::violated(c, steps, rule, records::leg_count(t));
+            if gone_on(rt, out, err, cursor_path, plan, c)? {
+                answers::violated(out, c, steps, rule, records::leg_count(t))?;
             }
         }
         SliceAnswer::NothingViolated(c, steps) => {
-            if gone_on(cursor_path, plan, c) {
-                answers::nothing_violated(c, steps, records::leg_count(t));
+            if gone_on(rt, out, err, cursor_path, plan, c)? {
+                answers::nothing_violated(out, c, steps, records::leg_count(t))?;
             }
         }
         SliceAnswer::Paused(c, steps) => {
-            if gone_on(cursor_path, plan, c) {
-                answers::paused(c, steps, records::leg_count(t));
+            if gone_on(rt, out, err, cursor_path, plan, c)? {
+                answers::paused(out, c, steps, records::leg_count(t))?;
             }
         }
     }
+    Ok(())
 }
 
-fn slice(cursor_path: &[u8], plan: &[u8], t: &[u32], budget: u32) {
-    let at = saved::cursor(cursor_path);
+fn slice<R: Files, O: Write, E: Write>(
+    rt: &R,
+    out: &mut O,
+    err: &mut E,
+    cursor_path: &[u8],
+    plan: &[u8],
+    t: &[u32],
+    budget: u32,
+) -> io::Result<()> {
+    let at = saved::cursor(rt, out, err, cursor_path)?;
     if let Saved::At(c) = at {
-        if may_go_on(cursor_path, t) {
-            sliced(cursor_path, plan, t, checker::slice(t, c, budget));
+        if may_go_on(rt, out, err, cursor_path, t)? {
+            sliced(
+                rt,
+                out,
+                err,
+                cursor_path,
+                plan,
+                t,
+                checker::slice(t, c, budget),
+            )?;
         }
     }
+    Ok(())
 }
 
 // Writes the accepted plan that is to be kept beside its file.
-fn accepted_beside(cursor_path: &[u8], old: &[u8], new: &[u8], keep: Keep) -> bool {
+fn accepted_beside<R: Files, E: Write>(
+    rt: &R,
+    err: &mut E,
+    cursor_path: &[u8],
+    old: &[u8],
+    new: &[u8],
+    keep: Keep,
+) -> bool {
     match keep {
         Keep::Nothing => true,
-        Keep::Old => accepted::write_beside(cursor_path, old),
-        Keep::New => accepted::write_beside(cursor_path, new),
+        Keep::Old => accepted::write_beside(rt, err, cursor_path, old),
+        Keep::New => accepted::write_beside(rt, err, cursor_path, new),
     }
 }
 
-fn accepted_in_place(cursor_path: &[u8], keep: Keep) -> bool {
+fn accepted_in_place<R: Files, E: Write>(
+    rt: &R,
+    err: &mut E,
+    cursor_path: &[u8],
+    keep: Keep,
+) -> bool {
     if let Keep::Nothing = keep {
         return true;
     }
-    accepted::put_in_place(cursor_path)
+    accepted::put_in_place(rt, err, cursor_path)
 }
 
 // Replaces all three files, and before them the accepted plan, if one is to be kept: it is true by itself. The copy goes first and has both plans, so that whichever of the two is
 // found is known; then the plan, then the cursor.
-fn replaced(
+fn replaced<R: Files, E: Write>(
+    rt: &R,
+    err: &mut E,
     plan_path: &[u8],
     cursor_path: &[u8],
     old: &[u8],
@@ -216,31 +330,34 @@ fn replaced(
     c: Cursor,
     keep: Keep,
 ) -> bool {
-    if !saved::seen_beside(cursor_path, new, old) {
+    if !saved::seen_beside(rt, err, cursor_path, new, old) {
         return false;
     }
-    if !durable::write_beside(plan_path, new, b"", b"") {
+    if !durable::write_beside(rt, err, plan_path, new, b"", b"") {
         return false;
     }
-    if !saved::cursor_beside(cursor_path, c) {
+    if !saved::cursor_beside(rt, err, cursor_path, c) {
         return false;
     }
-    if !accepted_beside(cursor_path, old, new, keep) {
+    if !accepted_beside(rt, err, cursor_path, old, new, keep) {
         return false;
     }
-    if !accepted_in_place(cursor_path, keep) {
+    if !accepted_in_place(rt, err, cursor_path, keep) {
         return false;
     }
-    if !saved::put_seen_in_place(cursor_path) {
+    if !saved::put_seen_in_place(rt, err, cursor_path) {
         return false;
     }
-    if !durable::put_in_place(plan_path) {
+    if !durable::put_in_place(rt, err, plan_path) {
         return false;
     }
-    durable::put_in_place(cursor_path)
+    durable::put_in_place(rt, err, cursor_path)
 }
 
-fn written(
+fn written<R: Files, O: Write, E: Write>(
+    rt: &R,
+    out: &mut O,
+    err: &mut E,
     plan_path: &[u8],
     cursor_path: &[u8],
     old: &[u8],
@@ -249,16 +366,18 @@ fn written(
     mv: Move,
     before: Leg,
     after: After,
-) {
+) -> io::Result<()> {
     let mut new = [0u8; files::MAX_FILE_BYTES];
     let told = files::write_plan(t, &mut new);
     match told {
         Written::Refused(_, _) => {}
         Written::Bytes(n) => {
             if new.len() < n {
-                return;
+                return Ok(());
             }
             if replaced(
+                rt,
+                err,
                 plan_path,
                 cursor_path,
                 old,
@@ -266,31 +385,49 @@ fn written(
                 c,
                 late::kept_after(after),
             ) {
-                answers::move_lines(c, records::leg_count(t), mv, before);
-                late::told_after(t, mv.leg, after);
+                answers::move_lines(out, c, records::leg_count(t), mv, before)?;
+                late::told_after(out, err, t, mv.leg, after)?;
             }
         }
     }
+    Ok(())
 }
 
-fn may_move(cursor_path: &[u8], t: &[u32], c: Cursor) -> bool {
-    if !may_go_on(cursor_path, t) {
-        return false;
+fn may_move<R: Files, O: Write, E: Write>(
+    rt: &R,
+    out: &mut O,
+    err: &mut E,
+    cursor_path: &[u8],
+    t: &[u32],
+    c: Cursor,
+) -> io::Result<bool> {
+    if !may_go_on(rt, out, err, cursor_path, t)? {
+        return Ok(false);
     }
-    cursor_stands(cursor_path, t, c)
+    cursor_stands(rt, out, err, cursor_path, t, c)
 }
 
-fn move_refused(t: &[u32], number: u32, at: usize, mv: Move) {
+fn move_refused<O: Write, E: Write>(
+    out: &mut O,
+    err: &mut E,
+    t: &[u32],
+    number: u32,
+    at: usize,
+    mv: Move,
+) -> io::Result<()> {
     if number == TOO_LATE {
-        records::late_move(mv.periods);
+        records::late_move(err, mv.periods);
     } else {
-        refused::why_move(t, mv);
+        refused::why_move(err, t, mv);
     }
-    judged(t, number, at, Part::Move);
+    judged(out, t, number, at, Part::Move)
 }
 
 // Where the leg is to be rechecked, that is done before any file is replaced: the answer is one about the moved table, wherever that stands.
-fn moved(
+fn moved<R: Files, O: Write, E: Write>(
+    rt: &R,
+    out: &mut O,
+    err: &mut E,
     plan_path: &[u8],
     cursor_path: &[u8],
     old: &[u8],
@@ -298,105 +435,183 @@ fn moved(
     c: Cursor,
     mv: Move,
     rechecks: bool,
-) {
+) -> io::Result<()> {
     let before = records::leg_at(t, mv.leg);
     let ended = late::is_end(t, c);
     let told = checker::move_leg(t, c, mv);
     match told {
         Grant::Refused(number, at, _) => {
-            move_refused(t, number, at, mv);
+            move_refused(out, err, t, number, at, mv)?;
         }
         Grant::Granted(d) => {
-            if saved::is_known(cursor_path, old, c.revision) {
-                let after = late::after_move(cursor_path, t, mv.leg, ended, rechecks);
-                written(plan_path, cursor_path, old, t, d, mv, before, after);
+            if saved::is_known(rt, out, err, cursor_path, old, c.revision)? {
+                let after = late::after_move(rt, err, cursor_path, t, mv.leg, ended, rechecks);
+                written(
+                    rt,
+                    out,
+                    err,
+                    plan_path,
+                    cursor_path,
+                    old,
+                    t,
+                    d,
+                    mv,
+                    before,
+                    after,
+                )?;
             }
         }
     }
+    Ok(())
 }
 
-fn move_leg(
+fn move_leg<R: Files, O: Write, E: Write>(
+    rt: &R,
+    out: &mut O,
+    err: &mut E,
     plan_path: &[u8],
     cursor_path: &[u8],
     plan: &[u8],
     t: &mut [u32],
     mv: Move,
     rechecks: bool,
-) {
-    let at = saved::cursor(cursor_path);
+) -> io::Result<()> {
+    let at = saved::cursor(rt, out, err, cursor_path)?;
     if let Saved::At(c) = at {
-        if may_move(cursor_path, t, c) {
-            moved(plan_path, cursor_path, plan, t, c, mv, rechecks);
+        if may_move(rt, out, err, cursor_path, t, c)? {
+            moved(
+                rt,
+                out,
+                err,
+                plan_path,
+                cursor_path,
+                plan,
+                t,
+                c,
+                mv,
+                rechecks,
+            )?;
         }
     }
+    Ok(())
 }
 
-fn on_table(order: Order, plan_path: &[u8], cursor_path: &[u8], plan: &[u8], t: &mut [u32]) {
+fn on_table<R: Files, O: Write, E: Write>(
+    rt: &R,
+    out: &mut O,
+    err: &mut E,
+    order: Order,
+    plan_path: &[u8],
+    cursor_path: &[u8],
+    plan: &[u8],
+    t: &mut [u32],
+) -> io::Result<()> {
     match order {
         Order::Start(anew) => {
-            start(cursor_path, plan, t, anew);
+            start(rt, out, err, cursor_path, plan, t, anew)?;
         }
         Order::Slice(budget) => {
-            slice(cursor_path, plan, t, budget);
+            slice(rt, out, err, cursor_path, plan, t, budget)?;
         }
         Order::Move(mv) => {
-            move_leg(plan_path, cursor_path, plan, t, mv, false);
+            move_leg(rt, out, err, plan_path, cursor_path, plan, t, mv, false)?;
         }
         Order::MoveAndRecheck(mv) => {
-            move_leg(plan_path, cursor_path, plan, t, mv, true);
+            move_leg(rt, out, err, plan_path, cursor_path, plan, t, mv, true)?;
         }
         Order::Recheck(leg) => {
-            late::as_it_stands(cursor_path, plan, t, leg);
+            late::as_it_stands(rt, out, err, cursor_path, plan, t, leg)?;
         }
         Order::Words => {}
         Order::Shape => {}
         Order::Convert => {}
         Order::Wrong => {}
     }
+    Ok(())
 }
 
-fn on_words(
+fn on_words<R: Files, O: Write, E: Write>(
+    rt: &R,
+    out: &mut O,
+    err: &mut E,
     order: Order,
     plan_path: &[u8],
     cursor_path: &[u8],
     plan: &[u8],
     words: &mut [u32],
     n: usize,
-) {
+) -> io::Result<()> {
     if words.len() < n {
-        return;
+        return Ok(());
     }
-    on_table(order, plan_path, cursor_path, plan, &mut words[0..n]);
+    on_table(
+        rt,
+        out,
+        err,
+        order,
+        plan_path,
+        cursor_path,
+        plan,
+        &mut words[0..n],
+    )
 }
 
-fn on_bytes(order: Order, plan_path: &[u8], cursor_path: &[u8], bytes: &[u8], n: usize) {
+fn on_bytes<R: Files, O: Write, E: Write>(
+    rt: &R,
+    out: &mut O,
+    err: &mut E,
+    order: Order,
+    plan_path: &[u8],
+    cursor_path: &[u8],
+    bytes: &[u8],
+    n: usize,
+) -> io::Result<()> {
     if bytes.len() < n {
-        return;
+        return Ok(());
     }
     let plan = &bytes[0..n];
     let mut words = [0u32; table::MAX_TABLE_WORDS];
     let read = files::read_plan(plan, &mut words);
     match read {
         PlanRead::Refused(number, at) => {
-            reasons::file::why(plan, number, at);
-            answers::unread(number, at, Part::Plan);
+            reasons::file::why(err, plan, number, at);
+            answers::unread(out, number, at, Part::Plan)?;
         }
         PlanRead::Words(m) => {
-            on_words(order, plan_path, cursor_path, plan, &mut words, m);
+            on_words(
+                rt,
+                out,
+                err,
+                order,
+                plan_path,
+                cursor_path,
+                plan,
+                &mut words,
+                m,
+            )?;
         }
     }
+    Ok(())
 }
 
-pub(crate) fn on_file(order: Order, plan_path: &[u8], cursor_path: &[u8]) {
+pub(crate) fn on_file<R: Files, O: Write, E: Write>(
+    rt: &R,
+    out: &mut O,
+    err: &mut E,
+    order: Order,
+    plan_path: &[u8],
+    cursor_path: &[u8],
+) -> io::Result<()> {
     let mut bytes = [0u8; PLAN_ROOM];
-    let read = durable::file(plan_path, &mut bytes);
+    let read = durable::file(rt, err, plan_path, &mut bytes);
     match read {
         FileRead::Bytes(n) => {
-            on_bytes(order, plan_path, cursor_path, &bytes, n);
+            on_bytes(rt, out, err, order, plan_path, cursor_path, &bytes, n)?;
         }
         FileRead::Missing => {
-            durable::missing(plan_path);
+            durable::missing(err, plan_path);
         }
         FileRead::Failed => {}
     }
+    Ok(())
 }

@@ -8,6 +8,9 @@ use reasons::records;
 use recheck::RecheckAnswer;
 use show::answers;
 use show::answers::Part;
+use std::io;
+use std::io::Write;
+use std::rt::Files;
 use table::Move;
 
 // Which plan is to be kept as an accepted one: none, the one before a move, or the one after it.
@@ -56,7 +59,9 @@ fn found(told: RecheckAnswer, standing: Accepted, ended: bool) -> After {
 }
 
 // What follows a move that is granted, after a cursor that was at the end of the plan before it, or was not.
-pub(crate) fn after_move(
+pub(crate) fn after_move<R: Files, E: Write>(
+    rt: &R,
+    err: &mut E,
     cursor_path: &[u8],
     t: &[u32],
     leg: u32,
@@ -68,7 +73,7 @@ pub(crate) fn after_move(
     }
     found(
         recheck::recheck(t, leg),
-        accepted::judged(cursor_path, t, leg),
+        accepted::judged(rt, err, cursor_path, t, leg),
         ended,
     )
 }
@@ -80,9 +85,17 @@ pub(crate) fn kept_after(after: After) -> Keep {
     }
 }
 
-fn refused_so(t: &[u32], leg: u32, number: u32, at: usize) {
+fn refused_so<O: Write, E: Write>(
+    out: &mut O,
+    err: &mut E,
+    t: &[u32],
+    leg: u32,
+    number: u32,
+    at: usize,
+) -> io::Result<()> {
     if number == NO_LEG {
         refused::why_move(
+            err,
             t,
             Move {
                 leg,
@@ -90,20 +103,27 @@ fn refused_so(t: &[u32], leg: u32, number: u32, at: usize) {
                 periods: 0,
             },
         );
-        calls::judged(t, number, at, Part::Leg);
-        return;
+        calls::judged(out, t, number, at, Part::Leg)?;
+        return Ok(());
     }
-    calls::plan_refused(t, number, at);
+    calls::plan_refused(out, err, t, number, at)
 }
 
-fn tell(t: &[u32], leg: u32, told: RecheckAnswer, known: bool) {
+fn tell<O: Write, E: Write>(
+    out: &mut O,
+    err: &mut E,
+    t: &[u32],
+    leg: u32,
+    told: RecheckAnswer,
+    known: bool,
+) -> io::Result<()> {
     let legs = records::leg_count(t);
     match told {
         RecheckAnswer::Refused(number, at) => {
-            refused_so(t, leg, number, at);
+            refused_so(out, err, t, leg, number, at)?;
         }
         RecheckAnswer::NothingViolated(n) => {
-            answers::recheck_clean(leg, n, legs, revision_of(t), known);
+            answers::recheck_clean(out, leg, n, legs, revision_of(t), known)?;
         }
         RecheckAnswer::Violated(place, rule, n) => {
             let at = Cursor {
@@ -111,62 +131,93 @@ fn tell(t: &[u32], leg: u32, told: RecheckAnswer, known: bool) {
                 leg: place.leg,
                 place: place.place,
             };
-            answers::recheck_violated(leg, at, rule, n, legs, known);
+            answers::recheck_violated(out, leg, at, rule, n, legs, known)?;
         }
     }
+    Ok(())
 }
 
 // Ends the answer of a move.
-pub(crate) fn told_after(t: &[u32], leg: u32, after: After) {
+pub(crate) fn told_after<O: Write, E: Write>(
+    out: &mut O,
+    err: &mut E,
+    t: &[u32],
+    leg: u32,
+    after: After,
+) -> io::Result<()> {
     match after {
         After::Nothing => {
-            answers::moved();
+            answers::moved(out)?;
         }
         After::Rechecked(told, known, _) => {
-            tell(t, leg, told, known);
+            tell(out, err, t, leg, told, known)?;
         }
     }
+    Ok(())
 }
 
 // Keeps the plan as an accepted one, unless it is. Where that fails it is said, and the answer is right all the same.
-fn keep_plan(cursor_path: &[u8], plan: &[u8]) {
-    if accepted::holds(cursor_path, plan) {
+fn keep_plan<R: Files, E: Write>(rt: &R, err: &mut E, cursor_path: &[u8], plan: &[u8]) {
+    if accepted::holds(rt, err, cursor_path, plan) {
         return;
     }
-    if accepted::write_beside(cursor_path, plan) {
-        if accepted::put_in_place(cursor_path) {
+    if accepted::write_beside(rt, err, cursor_path, plan) {
+        if accepted::put_in_place(rt, err, cursor_path) {
             return;
         }
     }
-    reasons::begin();
-    reasons::text(cursor_path);
+    reasons::begin(err);
+    reasons::text(err, cursor_path);
     reasons::text(
+        err,
         b".accepted could not be written: a recheck after this one may not know that the plan is accepted\n",
     );
 }
 
 // Whether the cursor is at the end of this very plan, and nothing says otherwise: where a place is violated, these commands did not leave the two so.
-fn has_ended(cursor_path: &[u8], plan: &[u8], t: &[u32], told: RecheckAnswer) -> bool {
+fn has_ended<R: Files, E: Write>(
+    rt: &R,
+    err: &mut E,
+    cursor_path: &[u8],
+    plan: &[u8],
+    t: &[u32],
+    told: RecheckAnswer,
+) -> bool {
     if let RecheckAnswer::NothingViolated(_) = told {
-        return saved::has_ended(cursor_path, plan, revision_of(t), records::leg_count(t));
+        return saved::has_ended(
+            rt,
+            err,
+            cursor_path,
+            plan,
+            revision_of(t),
+            records::leg_count(t),
+        );
     }
     false
 }
 
 // Rechecks a leg of a plan as it stands.
-pub(crate) fn as_it_stands(cursor_path: &[u8], plan: &[u8], t: &[u32], leg: u32) {
+pub(crate) fn as_it_stands<R: Files, O: Write, E: Write>(
+    rt: &R,
+    out: &mut O,
+    err: &mut E,
+    cursor_path: &[u8],
+    plan: &[u8],
+    t: &[u32],
+    leg: u32,
+) -> io::Result<()> {
     let told = recheck::recheck(t, leg);
     if let RecheckAnswer::Refused(number, at) = told {
-        refused_so(t, leg, number, at);
-        return;
+        refused_so(out, err, t, leg, number, at)?;
+        return Ok(());
     }
     let after = found(
         told,
-        accepted::judged(cursor_path, t, leg),
-        has_ended(cursor_path, plan, t, told),
+        accepted::judged(rt, err, cursor_path, t, leg),
+        has_ended(rt, err, cursor_path, plan, t, told),
     );
     if let Keep::New = kept_after(after) {
-        keep_plan(cursor_path, plan);
+        keep_plan(rt, err, cursor_path, plan);
     }
-    told_after(t, leg, after);
+    told_after(out, err, t, leg, after)
 }

@@ -2,6 +2,7 @@
 ghost use Rattle.std.specs.Prelude.{◌≤◌};
 
 use crate::{get, leg_at, link_at, reading, set, stream_at};
+use std::io::Write;
 
 // Where the parts of a table begin.
 fn streams_from(links: u32) -> usize
@@ -98,10 +99,10 @@ pub fn are_same(t: &[u32], other: &[u32]) -> bool {
 }
 
 // Internal: whether a text is that of a table.
-pub fn is_text_of(text: &[u8], t: &[u32]) -> bool {
+pub fn is_text_of<E: Write>(err: &mut E, text: &[u8], t: &[u32]) -> bool {
     let mut draft = [0u32; crate::DRAFT_WORDS];
     let mut words = [0u32; table::MAX_TABLE_WORDS];
-    if 0 < reading::read(text, true, &mut draft) {
+    if 0 < reading::read(err, text, true, &mut draft) {
         return false;
     }
     let n = table_of(&draft, &mut words);

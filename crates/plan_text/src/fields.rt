@@ -2,6 +2,7 @@
 use crate::{GIVEN_AT, VALUES_AT, faults, get, set};
 use decimal::Decimal;
 use lines::words::{are_same, count, word};
+use std::io::Write;
 use units::Time;
 
 // The records that have fields.
@@ -135,10 +136,11 @@ fn form_of(name: &[u8]) -> Form {
     Form::Number
 }
 
-fn unknown(draft: &mut [u32], record: u32, name: &[u8]) {
+fn unknown<E: Write>(err: &mut E, draft: &mut [u32], record: u32, name: &[u8]) {
     match record {
         PLAN => {
             faults::word(
+                err,
                 draft,
                 name,
                 b" is no field of the plan: expected revision or precision",
@@ -146,6 +148,7 @@ fn unknown(draft: &mut [u32], record: u32, name: &[u8]) {
         }
         LINK => {
             faults::word(
+                err,
                 draft,
                 name,
                 b" is no field of a link: expected rate or propagation",
@@ -153,6 +156,7 @@ fn unknown(draft: &mut [u32], record: u32, name: &[u8]) {
         }
         STREAM => {
             faults::word(
+                err,
                 draft,
                 name,
                 b" is no field of a stream: expected period, deadline, octets, first or legs",
@@ -160,6 +164,7 @@ fn unknown(draft: &mut [u32], record: u32, name: &[u8]) {
         }
         _ => {
             faults::word(
+                err,
                 draft,
                 name,
                 b" is no field of a leg: expected offset, periods or stream",
@@ -192,70 +197,103 @@ fn clear(draft: &mut [u32]) {
     }
 }
 
-fn refused(draft: &mut [u32], stood: &[u8], sentence: &[u8]) -> bool {
-    faults::word(draft, stood, sentence);
+fn refused<E: Write>(err: &mut E, draft: &mut [u32], stood: &[u8], sentence: &[u8]) -> bool {
+    faults::word(err, draft, stood, sentence);
     false
 }
 
-fn number(draft: &mut [u32], field: u32, stood: &[u8]) -> bool {
+fn number<E: Write>(err: &mut E, draft: &mut [u32], field: u32, stood: &[u8]) -> bool {
     let read = decimal::read_decimal(stood);
     match read {
         Decimal::Value(n) => keep(draft, field, n),
-        Decimal::Empty => refused(draft, stood, b" is no number: expected 0 to 4294967295"),
-        Decimal::NoDigit(_) => refused(draft, stood, b" is no number: expected 0 to 4294967295"),
-        Decimal::TooLarge => refused(draft, stood, b" is too large: expected 0 to 4294967295"),
+        Decimal::Empty => refused(
+            err,
+            draft,
+            stood,
+            b" is no number: expected 0 to 4294967295",
+        ),
+        Decimal::NoDigit(_) => refused(
+            err,
+            draft,
+            stood,
+            b" is no number: expected 0 to 4294967295",
+        ),
+        Decimal::TooLarge => refused(
+            err,
+            draft,
+            stood,
+            b" is too large: expected 0 to 4294967295",
+        ),
     }
 }
 
-fn time(draft: &mut [u32], field: u32, stood: &[u8]) -> bool {
+fn time<E: Write>(err: &mut E, draft: &mut [u32], field: u32, stood: &[u8]) -> bool {
     let read = units::read_time(stood);
     match read {
         Time::Ns(ns) => keep(draft, field, ns),
         Time::NoUnit => refused(
+            err,
             draft,
             stood,
             b" has no unit: expected a number and one of ns, us, ms and s, as in 100us",
         ),
         Time::NoNumber => refused(
+            err,
             draft,
             stood,
             b" is no time: expected digits, perhaps a point and digits, and one of ns, us, ms and s, as in 12.5us",
         ),
         Time::TooFine => refused(
+            err,
             draft,
             stood,
             b" is too fine: expected at most nine digits after the point",
         ),
-        Time::NotWhole => refused(draft, stood, b" is no whole number of ns: expected one"),
-        Time::TooLarge => refused(draft, stood, b" is too long: expected at most 4294967295ns"),
+        Time::NotWhole => refused(
+            err,
+            draft,
+            stood,
+            b" is no whole number of ns: expected one",
+        ),
+        Time::TooLarge => refused(
+            err,
+            draft,
+            stood,
+            b" is too long: expected at most 4294967295ns",
+        ),
     }
 }
 
-fn rate(draft: &mut [u32], field: u32, stood: &[u8]) -> bool {
+fn rate<E: Write>(err: &mut E, draft: &mut [u32], field: u32, stood: &[u8]) -> bool {
     let read = units::read_rate(stood);
     match read {
         Time::Ns(ns) => keep(draft, field, ns),
         Time::TooLarge => refused(
+            err,
             draft,
             stood,
             b" is too slow: expected at most 4294967295ns/octet",
         ),
         Time::NotWhole => refused(
+            err,
             draft,
             stood,
             b" is no whole number of ns for an octet: expected one",
         ),
         Time::TooFine => refused(
+            err,
             draft,
             stood,
             b" is too fine: expected at most nine digits after the point",
         ),
         Time::NoUnit => refused(
+            err,
             draft,
             stood,
             b" is no rate: expected 10M, 100M, 1G or a time for an octet, as in 8ns/octet",
         ),
         Time::NoNumber => refused(
+            err,
             draft,
             stood,
             b" is no rate: expected 10M, 100M, 1G or a time for an octet, as in 8ns/octet",
@@ -263,25 +301,33 @@ fn rate(draft: &mut [u32], field: u32, stood: &[u8]) -> bool {
     }
 }
 
-fn valued(draft: &mut [u32], field: u32, name: &[u8], stood: &[u8]) -> bool {
+fn valued<E: Write>(err: &mut E, draft: &mut [u32], field: u32, name: &[u8], stood: &[u8]) -> bool {
     let form = form_of(name);
     match form {
-        Form::Time => time(draft, field, stood),
-        Form::Rate => rate(draft, field, stood),
-        Form::Number => number(draft, field, stood),
+        Form::Time => time(err, draft, field, stood),
+        Form::Rate => rate(err, draft, field, stood),
+        Form::Number => number(err, draft, field, stood),
     }
 }
 
 // Reads the field at the k-th word of so many.
-fn pair(line: &[u8], k: usize, words: usize, record: u32, draft: &mut [u32]) -> bool {
+fn pair<E: Write>(
+    err: &mut E,
+    line: &[u8],
+    k: usize,
+    words: usize,
+    record: u32,
+    draft: &mut [u32],
+) -> bool {
     let name = word(line, k);
     let field = field_of(record, name);
     if field == NO_FIELD {
-        unknown(draft, record, name);
+        unknown(err, draft, record, name);
         return false;
     }
     if is_given(draft, field) {
         return refused(
+            err,
             draft,
             name,
             b" stands twice in this line: expected each field once",
@@ -290,20 +336,28 @@ fn pair(line: &[u8], k: usize, words: usize, record: u32, draft: &mut [u32]) -> 
     let next = std::num::wrapping_add_usize(k, 1);
     if words <= next {
         return refused(
+            err,
             draft,
             name,
             b" is the last word: expected its value after it",
         );
     }
-    valued(draft, field, name, word(line, next))
+    valued(err, draft, field, name, word(line, next))
 }
 
 // Reads the fields of a record from the k-th word on. The first that is wrong is said, and the answer is false then.
-pub(crate) fn read(line: &[u8], from: usize, record: u32, draft: &mut [u32]) -> bool {
+pub(crate) fn read<E: Write>(
+    err: &mut E,
+    line: &[u8],
+    from: usize,
+    record: u32,
+    draft: &mut [u32],
+) -> bool {
     clear(draft);
     let words = count(line);
     if MOST_WORDS < words {
         faults::numbers(
+            err,
             draft,
             b"the line has # words: expected a record with its fields, each once",
             &[reasons::small(words)],
@@ -312,7 +366,7 @@ pub(crate) fn read(line: &[u8], from: usize, record: u32, draft: &mut [u32]) -> 
     }
     let mut k = from;
     while k < words {
-        if !pair(line, k, words, record, draft) {
+        if !pair(err, line, k, words, record, draft) {
             return false;
         }
         k = k + 2;
@@ -321,10 +375,10 @@ pub(crate) fn read(line: &[u8], from: usize, record: u32, draft: &mut [u32]) -> 
 }
 
 // Says that a field is missing where it is.
-pub(crate) fn needs(draft: &mut [u32], field: u32, sentence: &[u8]) -> bool {
+pub(crate) fn needs<E: Write>(err: &mut E, draft: &mut [u32], field: u32, sentence: &[u8]) -> bool {
     if is_given(draft, field) {
         return true;
     }
-    faults::numbers(draft, sentence, &[]);
+    faults::numbers(err, draft, sentence, &[]);
     false
 }

@@ -6,6 +6,7 @@ use crate::{NAMED_AT, assembling, get, link_at, nodes, reading, records, set, st
 use durable::FileRead;
 use std::io;
 use std::io::Write;
+use std::rt::Files;
 
 // Internal: the name of a node, or nothing.
 pub fn node<'a>(text: &'a [u8], draft: &[u32], number: u32) -> &'a [u8] {
@@ -33,12 +34,22 @@ fn print_name<O: Write>(out: &mut O, name: &[u8], kind: &[u8], number: u32) -> i
 }
 
 // Internal: prints the name of a node, or its number.
-pub fn print_node<O: Write>(out: &mut O, text: &[u8], draft: &[u32], number: u32) -> io::Result<()> {
+pub fn print_node<O: Write>(
+    out: &mut O,
+    text: &[u8],
+    draft: &[u32],
+    number: u32,
+) -> io::Result<()> {
     print_name(out, node(text, draft, number), b"node ", number)
 }
 
 // Internal: prints the name of a stream, or its number.
-pub fn print_stream<O: Write>(out: &mut O, text: &[u8], draft: &[u32], number: u32) -> io::Result<()> {
+pub fn print_stream<O: Write>(
+    out: &mut O,
+    text: &[u8],
+    draft: &[u32],
+    number: u32,
+) -> io::Result<()> {
     print_name(out, stream(text, draft, number), b"stream ", number)
 }
 
@@ -83,42 +94,52 @@ fn is_of(t: &[u32], draft: &[u32]) -> bool {
     assembling::are_same_but_moves(t, &words[0..n])
 }
 
-fn said(path: &[u8], sentence: &[u8]) -> bool {
-    reasons::begin();
-    reasons::text(path);
-    reasons::text(sentence);
+fn said<E: Write>(err: &mut E, path: &[u8], sentence: &[u8]) -> bool {
+    reasons::begin(err);
+    reasons::text(err, path);
+    reasons::text(err, sentence);
     false
 }
 
-fn is_fit(path: &[u8], text: &[u8], t: &[u32], draft: &mut [u32]) -> bool {
+fn is_fit<E: Write>(err: &mut E, path: &[u8], text: &[u8], t: &[u32], draft: &mut [u32]) -> bool {
     if crate::MAX_BYTES < text.len() {
         return said(
+            err,
             path,
             b" has more than 262144 bytes: numbers are used in place of its names\n",
         );
     }
-    if 0 < reading::read(text, true, draft) {
-        reasons::begin();
-        reasons::say(b"line # of ", &[reading::first_wrong(draft)]);
-        reasons::text(path);
-        reasons::text(b" is wrong: numbers are used in place of its names\n");
+    if 0 < reading::read(err, text, true, draft) {
+        reasons::begin(err);
+        reasons::say(err, b"line # of ", &[reading::first_wrong(draft)]);
+        reasons::text(err, path);
+        reasons::text(err, b" is wrong: numbers are used in place of its names\n");
         return false;
     }
     if is_of(t, draft) {
         return true;
     }
     said(
+        err,
         path,
         b" is of another plan: numbers are used in place of its names\n",
     )
 }
 
 // Reads the names that a path leads to, and answers whether there are some of this plan.
-fn are_read(path: &[u8], t: &[u32], text: &mut [u8], draft: &mut [u32]) -> bool {
-    let read = durable::file(path, text);
+fn are_read<R: Files, E: Write>(
+    rt: &R,
+    err: &mut E,
+    path: &[u8],
+    t: &[u32],
+    text: &mut [u8],
+    draft: &mut [u32],
+) -> bool {
+    let read = durable::file(rt, err, path, text);
     match read {
         FileRead::Missing => false,
         FileRead::Failed => said(
+            err,
             path,
             b" cannot be read: numbers are used in place of names\n",
         ),
@@ -126,14 +147,14 @@ fn are_read(path: &[u8], t: &[u32], text: &mut [u8], draft: &mut [u32]) -> bool 
             if text.len() < n {
                 return false;
             }
-            is_fit(path, &text[0..n], t, draft)
+            is_fit(err, path, &text[0..n], t, draft)
         }
     }
 }
 
 // Internal: puts a table into a draft, without names.
-pub fn nameless(t: &[u32], draft: &mut [u32]) {
-    reading::read(b"", true, draft);
+pub fn nameless<E: Write>(err: &mut E, t: &[u32], draft: &mut [u32]) {
+    reading::read(err, b"", true, draft);
     assembling::draft_of(t, draft);
 }
 
@@ -145,12 +166,19 @@ pub fn path_of(plan: &[u8], out: &mut [u8]) -> usize
 }
 
 // Internal: puts a table into a draft, with the names that stand beside its plan file. Where there are none, or of another plan, it has none.
-pub fn beside(path: &[u8], t: &[u32], text: &mut [u8], draft: &mut [u32]) {
+pub fn beside<R: Files, E: Write>(
+    rt: &R,
+    err: &mut E,
+    path: &[u8],
+    t: &[u32],
+    text: &mut [u8],
+    draft: &mut [u32],
+) {
     let mut name = [0u8; 4096];
     let n = path_of(path, &mut name);
-    if are_read(&name[..n], t, text, draft) {
+    if are_read(rt, err, &name[..n], t, text, draft) {
         assembling::draft_of(t, draft);
         return;
     }
-    nameless(t, draft);
+    nameless(err, t, draft);
 }

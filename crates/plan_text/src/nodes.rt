@@ -3,6 +3,7 @@
 use crate::{LOWEST_AT, MAX_NAME, MAX_NAMED, NAMED_AT, faults, get, link_at, node_at, raise, set};
 use decimal::Decimal;
 use lines::words::{are_same, part_of, word};
+use std::io::Write;
 
 // A node of a line: its number, or that the line is wrong, which was said.
 #[derive(Clone, Copy)]
@@ -107,7 +108,8 @@ fn lowest(draft: &[u32], from: u32, but: u32) -> u32 {
     number
 }
 
-fn keep(
+fn keep<E: Write>(
+    err: &mut E,
     draft: &mut [u32],
     number: u32,
     start: usize,
@@ -118,6 +120,7 @@ fn keep(
     let place = get(draft, NAMED_AT);
     if MAX_NAMED <= table::wide(place) {
         faults::word_numbers(
+            err,
             draft,
             word(line, k),
             b" is one name too many: expected names for at most # nodes",
@@ -155,9 +158,10 @@ pub(crate) fn is_numeral(stood: &[u8]) -> bool {
 }
 
 // Whether a word may be a name. What is wrong with it is said.
-pub(crate) fn is_name(draft: &mut [u32], stood: &[u8]) -> bool {
+pub(crate) fn is_name<E: Write>(err: &mut E, draft: &mut [u32], stood: &[u8]) -> bool {
     if stood.len() == 0 {
         faults::numbers(
+            err,
             draft,
             b"the line ends where a name or a number is expected",
             &[],
@@ -165,11 +169,17 @@ pub(crate) fn is_name(draft: &mut [u32], stood: &[u8]) -> bool {
         return false;
     }
     if are_same(stood, b"->") {
-        faults::word(draft, stood, b" is no name: expected a name or a number");
+        faults::word(
+            err,
+            draft,
+            stood,
+            b" is no name: expected a name or a number",
+        );
         return false;
     }
     if MAX_NAME < stood.len() {
         faults::word(
+            err,
             draft,
             stood,
             b" is too long: expected a name of at most 64 bytes",
@@ -179,8 +189,9 @@ pub(crate) fn is_name(draft: &mut [u32], stood: &[u8]) -> bool {
     true
 }
 
-fn wrong_number(draft: &mut [u32], stood: &[u8]) -> Node {
+fn wrong_number<E: Write>(err: &mut E, draft: &mut [u32], stood: &[u8]) -> Node {
     faults::word(
+        err,
         draft,
         stood,
         b" is no node: expected a number from 0 to 4294967295, or a name, which does not begin with a digit",
@@ -189,7 +200,7 @@ fn wrong_number(draft: &mut [u32], stood: &[u8]) -> Node {
 }
 
 // A number that stands for itself. Where a name got it by its order, it is not known which of the two is meant.
-fn bare(text: &[u8], draft: &mut [u32], number: u32) -> Node {
+fn bare<E: Write>(err: &mut E, text: &[u8], draft: &mut [u32], number: u32) -> Node {
     let place = place_of_number(draft, number);
     let Place::At(i) = place else {
         return Node::Number(number);
@@ -198,6 +209,7 @@ fn bare(text: &[u8], draft: &mut [u32], number: u32) -> Node {
         return Node::Number(number);
     }
     faults::number_of(
+        err,
         draft,
         number,
         b"is ",
@@ -207,18 +219,19 @@ fn bare(text: &[u8], draft: &mut [u32], number: u32) -> Node {
     Node::Wrong
 }
 
-fn by_number(text: &[u8], draft: &mut [u32], stood: &[u8]) -> Node {
+fn by_number<E: Write>(err: &mut E, text: &[u8], draft: &mut [u32], stood: &[u8]) -> Node {
     let read = decimal::read_decimal(stood);
     match read {
-        Decimal::Value(number) => bare(text, draft, number),
-        Decimal::Empty => wrong_number(draft, stood),
-        Decimal::NoDigit(_) => wrong_number(draft, stood),
-        Decimal::TooLarge => wrong_number(draft, stood),
+        Decimal::Value(number) => bare(err, text, draft, number),
+        Decimal::Empty => wrong_number(err, draft, stood),
+        Decimal::NoDigit(_) => wrong_number(err, draft, stood),
+        Decimal::TooLarge => wrong_number(err, draft, stood),
     }
 }
 
 // The node that the k-th word of a line is. A new name gets a number, past the one that the line has taken already.
-pub(crate) fn met(
+pub(crate) fn met<E: Write>(
+    err: &mut E,
     text: &[u8],
     start: usize,
     line: &[u8],
@@ -228,9 +241,9 @@ pub(crate) fn met(
 ) -> Node {
     let stood = word(line, k);
     if is_numeral(stood) {
-        return by_number(text, draft, stood);
+        return by_number(err, text, draft, stood);
     }
-    if !is_name(draft, stood) {
+    if !is_name(err, draft, stood) {
         return Node::Wrong;
     }
     let place = place_of_name(text, draft, stood);
@@ -239,19 +252,20 @@ pub(crate) fn met(
     }
     let number = lowest(draft, get(draft, LOWEST_AT), but);
     set(draft, LOWEST_AT, number);
-    keep(draft, number, start, line, k, 0)
+    keep(err, draft, number, start, line, k, 0)
 }
 
 // The node that a word of a leg is: one that is known.
-pub(crate) fn known(text: &[u8], stood: &[u8], draft: &mut [u32]) -> Node {
+pub(crate) fn known<E: Write>(err: &mut E, text: &[u8], stood: &[u8], draft: &mut [u32]) -> Node {
     if is_numeral(stood) {
-        return by_number(text, draft, stood);
+        return by_number(err, text, draft, stood);
     }
     let place = place_of_name(text, draft, stood);
     if let Place::At(i) = place {
         return Node::Number(get(draft, node_at(i)));
     }
     faults::word(
+        err,
         draft,
         stood,
         b" is no node so far: expected the ends of a link above",
@@ -260,12 +274,20 @@ pub(crate) fn known(text: &[u8], stood: &[u8], draft: &mut [u32]) -> Node {
 }
 
 // A line that declares a name: node NAME NUMBER.
-fn declared_as(text: &[u8], start: usize, line: &[u8], number: u32, draft: &mut [u32]) {
+fn declared_as<E: Write>(
+    err: &mut E,
+    text: &[u8],
+    start: usize,
+    line: &[u8],
+    number: u32,
+    draft: &mut [u32],
+) {
     let name = word(line, 1);
     let known_name = place_of_name(text, draft, name);
     if let Place::At(i) = known_name {
         let other = get(draft, node_at(i));
         faults::word_numbers(
+            err,
             draft,
             name,
             b" is node # already: expected each name for one node, and declared above its first use",
@@ -276,6 +298,7 @@ fn declared_as(text: &[u8], start: usize, line: &[u8], number: u32, draft: &mut 
     let place = place_of_number(draft, number);
     if let Place::At(j) = place {
         faults::number_of(
+            err,
             draft,
             number,
             b"is ",
@@ -284,33 +307,46 @@ fn declared_as(text: &[u8], start: usize, line: &[u8], number: u32, draft: &mut 
         );
         return;
     }
-    keep(draft, number, start, line, 1, 1);
+    keep(err, draft, number, start, line, 1, 1);
 }
 
-pub(crate) fn declared(text: &[u8], start: usize, line: &[u8], draft: &mut [u32]) {
+pub(crate) fn declared<E: Write>(
+    err: &mut E,
+    text: &[u8],
+    start: usize,
+    line: &[u8],
+    draft: &mut [u32],
+) {
     let name = word(line, 1);
     if is_numeral(name) {
         faults::word(
+            err,
             draft,
             name,
             b" is no name: expected one that does not begin with a digit",
         );
         return;
     }
-    if !is_name(draft, name) {
+    if !is_name(err, draft, name) {
         return;
     }
     let stood = word(line, 2);
     let read = decimal::read_decimal(stood);
     match read {
         Decimal::Value(number) => {
-            declared_as(text, start, line, number, draft);
+            declared_as(err, text, start, line, number, draft);
         }
         Decimal::Empty => {
-            faults::word(draft, name, b" has no number: expected node NAME NUMBER");
+            faults::word(
+                err,
+                draft,
+                name,
+                b" has no number: expected node NAME NUMBER",
+            );
         }
         Decimal::NoDigit(_) => {
             faults::word(
+                err,
                 draft,
                 stood,
                 b" is no number of a node: expected 0 to 4294967295",
@@ -318,6 +354,7 @@ pub(crate) fn declared(text: &[u8], start: usize, line: &[u8], draft: &mut [u32]
         }
         Decimal::TooLarge => {
             faults::word(
+                err,
                 draft,
                 stood,
                 b" is no number of a node: expected 0 to 4294967295",

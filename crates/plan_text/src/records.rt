@@ -7,6 +7,7 @@ use crate::{
 };
 use decimal::Decimal;
 use lines::words::{are_same, count, part_of, word};
+use std::io::Write;
 
 // What stands above a leg: nothing, a stream that counts its legs, a stream that says how many it has, or the rest.
 const NOTHING: u32 = 0;
@@ -20,21 +21,23 @@ const REST: u32 = 3;
 // No node of a line so far: a number that no name gets by its order.
 const NO_NODE: u32 = 4294967295;
 
-pub(crate) fn plan(line: &[u8], draft: &mut [u32]) {
+pub(crate) fn plan<E: Write>(err: &mut E, line: &[u8], draft: &mut [u32]) {
     if get(draft, RECORDS_AT) != 0 {
         faults::word(
+            err,
             draft,
             word(line, 0),
             b" stands below other records: expected it once, as the first",
         );
         return;
     }
-    if !fields::read(line, 1, fields::PLAN, draft) {
+    if !fields::read(err, line, 1, fields::PLAN, draft) {
         return;
     }
     let precision = fields::value(draft, fields::PRECISION);
     if table::MAX_PRECISION < table::wide(precision) {
         faults::numbers(
+            err,
             draft,
             b"the precision is #ns: expected at most 1ms",
             &[precision],
@@ -46,24 +49,32 @@ pub(crate) fn plan(line: &[u8], draft: &mut [u32]) {
     set(draft, table::PRECISION_AT, precision);
 }
 
-pub(crate) fn node(text: &[u8], start: usize, line: &[u8], draft: &mut [u32]) {
+pub(crate) fn node<E: Write>(
+    err: &mut E,
+    text: &[u8],
+    start: usize,
+    line: &[u8],
+    draft: &mut [u32],
+) {
     if 3 < count(line) {
         faults::word(
+            err,
             draft,
             word(line, 3),
             b" is one word too many: expected node NAME NUMBER",
         );
         return;
     }
-    nodes::declared(text, start, line, draft);
+    nodes::declared(err, text, start, line, draft);
 }
 
 // ---- Links
 
-fn add_link(draft: &mut [u32], from: u32, to: u32) {
+fn add_link<E: Write>(err: &mut E, draft: &mut [u32], from: u32, to: u32) {
     let i = get(draft, table::LINKS_AT);
     if table::MAX_LINKS <= table::wide(i) {
         faults::numbers(
+            err,
             draft,
             b"one link too many: expected at most # links",
             &[table::MAX_LINKS as u32],
@@ -80,16 +91,17 @@ fn add_link(draft: &mut [u32], from: u32, to: u32) {
     raise(draft, table::LINKS_AT);
 }
 
-fn between(line: &[u8], from: u32, to: u32, draft: &mut [u32]) {
-    link_fields(line, draft);
-    add_link(draft, from, to);
+fn between<E: Write>(err: &mut E, line: &[u8], from: u32, to: u32, draft: &mut [u32]) {
+    link_fields(err, line, draft);
+    add_link(err, draft, from, to);
 }
 
-fn link_fields(line: &[u8], draft: &mut [u32]) -> bool {
-    if !fields::read(line, 4, fields::LINK, draft) {
+fn link_fields<E: Write>(err: &mut E, line: &[u8], draft: &mut [u32]) -> bool {
+    if !fields::read(err, line, 4, fields::LINK, draft) {
         return false;
     }
     fields::needs(
+        err,
         draft,
         fields::RATE,
         b"the link has no rate: expected one, as in rate 100M",
@@ -97,32 +109,39 @@ fn link_fields(line: &[u8], draft: &mut [u32]) -> bool {
 }
 
 // Whether the word between two nodes is an arrow.
-fn has_arrow(line: &[u8], draft: &mut [u32], forms: &[u8]) -> bool {
+fn has_arrow<E: Write>(err: &mut E, line: &[u8], draft: &mut [u32], forms: &[u8]) -> bool {
     let stood = word(line, 2);
     if are_same(stood, b"->") {
         return true;
     }
-    faults::word(draft, stood, forms);
+    faults::word(err, draft, stood, forms);
     false
 }
 
-pub(crate) fn link(text: &[u8], start: usize, line: &[u8], draft: &mut [u32]) {
+pub(crate) fn link<E: Write>(
+    err: &mut E,
+    text: &[u8],
+    start: usize,
+    line: &[u8],
+    draft: &mut [u32],
+) {
     if !has_arrow(
+        err,
         line,
         draft,
         b" stands where -> is expected: link FROM -> TO rate RATE propagation TIME",
     ) {
         return;
     }
-    let first = nodes::met(text, start, line, 1, NO_NODE, draft);
+    let first = nodes::met(err, text, start, line, 1, NO_NODE, draft);
     let Node::Number(from) = first else {
         return;
     };
-    let second = nodes::met(text, start, line, 3, from, draft);
+    let second = nodes::met(err, text, start, line, 3, from, draft);
     let Node::Number(to) = second else {
         return;
     };
-    between(line, from, to, draft);
+    between(err, line, from, to, draft);
 }
 
 // ---- Streams
@@ -146,7 +165,7 @@ fn stream_named(text: &[u8], draft: &[u32], name: &[u8]) -> u32 {
 }
 
 // A number in the place of a name is that of this very stream.
-fn is_own_number(draft: &mut [u32], stood: &[u8]) -> bool {
+fn is_own_number<E: Write>(err: &mut E, draft: &mut [u32], stood: &[u8]) -> bool {
     let own = get(draft, table::STREAMS_AT);
     let read = decimal::read_decimal(stood);
     if let Decimal::Value(n) = read {
@@ -155,6 +174,7 @@ fn is_own_number(draft: &mut [u32], stood: &[u8]) -> bool {
         }
     }
     faults::word_numbers(
+        err,
         draft,
         stood,
         b" is not the number of this stream: expected #, or a name, which does not begin with a digit",
@@ -164,18 +184,25 @@ fn is_own_number(draft: &mut [u32], stood: &[u8]) -> bool {
 }
 
 // Keeps the name of the next stream.
-fn name_stream(text: &[u8], start: usize, line: &[u8], draft: &mut [u32]) -> bool {
+fn name_stream<E: Write>(
+    err: &mut E,
+    text: &[u8],
+    start: usize,
+    line: &[u8],
+    draft: &mut [u32],
+) -> bool {
     let stood = word(line, 1);
     if nodes::is_numeral(stood) {
-        return is_own_number(draft, stood);
+        return is_own_number(err, draft, stood);
     }
-    if !nodes::is_name(draft, stood) {
+    if !nodes::is_name(err, draft, stood) {
         return false;
     }
     let own = get(draft, table::STREAMS_AT);
     let other = stream_named(text, draft, stood);
     if other < own {
         faults::word_numbers(
+            err,
             draft,
             stood,
             b" is stream # already: expected each name for one stream",
@@ -202,11 +229,12 @@ fn keep_name(draft: &mut [u32], i: u32, start: usize, line: &[u8]) {
     );
 }
 
-fn stream_fields(line: &[u8], draft: &mut [u32]) -> bool {
-    if !fields::read(line, 2, fields::STREAM, draft) {
+fn stream_fields<E: Write>(err: &mut E, line: &[u8], draft: &mut [u32]) -> bool {
+    if !fields::read(err, line, 2, fields::STREAM, draft) {
         return false;
     }
     if !fields::needs(
+        err,
         draft,
         fields::PERIOD,
         b"the stream has no period: expected period, deadline and octets",
@@ -214,6 +242,7 @@ fn stream_fields(line: &[u8], draft: &mut [u32]) -> bool {
         return false;
     }
     if !fields::needs(
+        err,
         draft,
         fields::DEADLINE,
         b"the stream has no deadline: expected period, deadline and octets",
@@ -221,6 +250,7 @@ fn stream_fields(line: &[u8], draft: &mut [u32]) -> bool {
         return false;
     }
     fields::needs(
+        err,
         draft,
         fields::OCTETS,
         b"the stream has no octets: expected period, deadline and octets",
@@ -258,29 +288,43 @@ fn first_leg(draft: &[u32]) -> u32 {
     get(draft, table::LEGS_AT)
 }
 
-pub(crate) fn stream(text: &[u8], start: usize, line: &[u8], draft: &mut [u32]) {
+pub(crate) fn stream<E: Write>(
+    err: &mut E,
+    text: &[u8],
+    start: usize,
+    line: &[u8],
+    draft: &mut [u32],
+) {
     if table::MAX_STREAMS <= table::wide(get(draft, table::STREAMS_AT)) {
         faults::numbers(
+            err,
             draft,
             b"one stream too many: expected at most # streams",
             &[table::MAX_STREAMS as u32],
         );
         return;
     }
-    read_stream(text, start, line, draft);
+    read_stream(err, text, start, line, draft);
     add_stream(draft);
 }
 
-fn read_stream(text: &[u8], start: usize, line: &[u8], draft: &mut [u32]) -> bool {
-    if !name_stream(text, start, line, draft) {
+fn read_stream<E: Write>(
+    err: &mut E,
+    text: &[u8],
+    start: usize,
+    line: &[u8],
+    draft: &mut [u32],
+) -> bool {
+    if !name_stream(err, text, start, line, draft) {
         return false;
     }
-    stream_fields(line, draft)
+    stream_fields(err, line, draft)
 }
 
-pub(crate) fn rest(line: &[u8], draft: &mut [u32]) {
+pub(crate) fn rest<E: Write>(err: &mut E, line: &[u8], draft: &mut [u32]) {
     if 1 < count(line) {
         faults::word(
+            err,
             draft,
             word(line, 1),
             b" is one word too many: expected rest alone, and legs below it",
@@ -299,17 +343,31 @@ enum OfLeg {
     Wrong,
 }
 
-fn said_no_link(line: &[u8], draft: &mut [u32], before: &[u8], after: &[u8]) -> OfLeg {
-    faults::two(draft, before, word(line, 1), b" to ", word(line, 3), after);
+fn said_no_link<E: Write>(
+    err: &mut E,
+    line: &[u8],
+    draft: &mut [u32],
+    before: &[u8],
+    after: &[u8],
+) -> OfLeg {
+    faults::two(
+        err,
+        draft,
+        before,
+        word(line, 1),
+        b" to ",
+        word(line, 3),
+        after,
+    );
     OfLeg::Wrong
 }
 
-fn by_ends(text: &[u8], line: &[u8], draft: &mut [u32]) -> OfLeg {
-    let first = nodes::known(text, word(line, 1), draft);
+fn by_ends<E: Write>(err: &mut E, text: &[u8], line: &[u8], draft: &mut [u32]) -> OfLeg {
+    let first = nodes::known(err, text, word(line, 1), draft);
     let Node::Number(from) = first else {
         return OfLeg::Wrong;
     };
-    let second = nodes::known(text, word(line, 3), draft);
+    let second = nodes::known(err, text, word(line, 3), draft);
     let Node::Number(to) = second else {
         return OfLeg::Wrong;
     };
@@ -317,12 +375,14 @@ fn by_ends(text: &[u8], line: &[u8], draft: &mut [u32]) -> OfLeg {
     match found {
         Found::One(i) => OfLeg::By(i),
         Found::None => said_no_link(
+            err,
             line,
             draft,
             b"no link goes from ",
             b": expected the ends of a link above",
         ),
         Found::Several => said_no_link(
+            err,
             line,
             draft,
             b"more than one link goes from ",
@@ -331,13 +391,14 @@ fn by_ends(text: &[u8], line: &[u8], draft: &mut [u32]) -> OfLeg {
     }
 }
 
-fn by_number(line: &[u8], draft: &mut [u32]) -> OfLeg {
+fn by_number<E: Write>(err: &mut E, line: &[u8], draft: &mut [u32]) -> OfLeg {
     let stood = word(line, 2);
     let read = decimal::read_decimal(stood);
     if let Decimal::Value(n) = read {
         return OfLeg::By(n);
     }
     faults::word(
+        err,
         draft,
         stood,
         b" is no number of a link: expected 0 to 4294967295",
@@ -349,14 +410,15 @@ fn is_route(line: &[u8]) -> bool {
     are_same(word(line, 2), b"->")
 }
 
-fn route(text: &[u8], line: &[u8], draft: &mut [u32]) -> OfLeg {
+fn route<E: Write>(err: &mut E, text: &[u8], line: &[u8], draft: &mut [u32]) -> OfLeg {
     if is_route(line) {
-        return by_ends(text, line, draft);
+        return by_ends(err, text, line, draft);
     }
     if are_same(word(line, 1), b"link") {
-        return by_number(line, draft);
+        return by_number(err, line, draft);
     }
     faults::word(
+        err,
         draft,
         word(line, 2),
         b" stands where -> is expected: leg FROM -> TO offset TIME, or leg link NUMBER offset TIME",
@@ -393,10 +455,11 @@ fn count_above(draft: &mut [u32]) {
     raise(draft, stream_at(above) + 4);
 }
 
-fn add_leg(draft: &mut [u32], link: u32) {
+fn add_leg<E: Write>(err: &mut E, draft: &mut [u32], link: u32) {
     let i = get(draft, table::LEGS_AT);
     if table::MAX_LEGS <= table::wide(i) {
         faults::numbers(
+            err,
             draft,
             b"one leg too many: expected at most # legs",
             &[table::MAX_LEGS as u32],
@@ -414,11 +477,12 @@ fn add_leg(draft: &mut [u32], link: u32) {
     count_leg(draft);
 }
 
-fn leg_fields(line: &[u8], draft: &mut [u32]) -> bool {
-    if !fields::read(line, fields_from(line), fields::LEG, draft) {
+fn leg_fields<E: Write>(err: &mut E, line: &[u8], draft: &mut [u32]) -> bool {
+    if !fields::read(err, line, fields_from(line), fields::LEG, draft) {
         return false;
     }
     if !fields::needs(
+        err,
         draft,
         fields::OFFSET,
         b"the leg has no offset: expected one, as in offset 1176ns",
@@ -429,26 +493,28 @@ fn leg_fields(line: &[u8], draft: &mut [u32]) -> bool {
         return true;
     }
     fields::needs(
+        err,
         draft,
         fields::OF_STREAM,
         b"the leg stands below rest and names no stream: expected one, as in stream 4",
     )
 }
 
-pub(crate) fn leg(text: &[u8], line: &[u8], draft: &mut [u32]) {
+pub(crate) fn leg<E: Write>(err: &mut E, text: &[u8], line: &[u8], draft: &mut [u32]) {
     if get(draft, BELOW_AT) == NOTHING {
         faults::word(
+            err,
             draft,
             word(line, 0),
             b" stands below no stream: expected a stream above, or rest",
         );
         return;
     }
-    let by = route(text, line, draft);
+    let by = route(err, text, line, draft);
     let OfLeg::By(link) = by else {
         count_leg(draft);
         return;
     };
-    leg_fields(line, draft);
-    add_leg(draft, link);
+    leg_fields(err, line, draft);
+    add_leg(err, draft, link);
 }

@@ -4,6 +4,10 @@
 #![tactic(auto)]
 
 use lines::words::are_same;
+use std::env::Env;
+use std::io;
+use std::io::Write;
+use std::rt::Files;
 
 mod decode;
 mod encode;
@@ -14,28 +18,43 @@ const PATH_AT: usize = 2;
 
 const OPTION_AT: usize = 3;
 
-fn is_replacing() -> bool {
+fn is_replacing<R: Env>(rt: &R) -> bool {
     let mut option = [0u8; 4096];
-    let n = input::argument_or_nothing(OPTION_AT, &mut option);
+    let n = input::argument_or_nothing(rt, OPTION_AT, &mut option);
     are_same(&option[..n], b"--replace")
 }
 
-fn on_path(verb: &[u8], path: &[u8]) {
+fn on_path<R: Env + Files + Input, O: Write, E: Write>(
+    rt: &R,
+    out: &mut O,
+    err: &mut E,
+    verb: &[u8],
+    path: &[u8],
+) -> io::Result<()> {
     if are_same(verb, b"encode") {
-        encode::to(path, is_replacing());
-        return;
+        encode::to(rt, out, err, path, is_replacing(rt))?;
+        return Ok(());
     }
     if are_same(verb, b"decode") {
-        decode::of(path);
-        return;
+        decode::of(rt, out, err, path)?;
+        return Ok(());
     }
-    reasons::text(b"the first argument is encode or decode\n");
+    reasons::text(err, b"the first argument is encode or decode\n");
+    Ok(())
 }
 
-fn main() {
+fn run<R: Env + Files + Input, O: Write, E: Write>(
+    rt: &R,
+    out: &mut O,
+    err: &mut E,
+) -> io::Result<()> {
     let mut verb = [0u8; 4096];
-    let n = input::argument_or_nothing(VERB_AT, &mut verb);
+    let n = input::argument_or_nothing(rt, VERB_AT, &mut verb);
     let mut path = [0u8; 4096];
-    let m = input::argument_or_nothing(PATH_AT, &mut path);
-    on_path(&verb[..n], &path[..m]);
+    let m = input::argument_or_nothing(rt, PATH_AT, &mut path);
+    on_path(rt, out, err, &verb[..n], &path[..m])
+}
+
+fn main(rt: HostRuntime) {
+    let _ = run(&rt, &mut rt.stdout(), &mut rt.stderr());
 }

@@ -104,7 +104,8 @@ pub fn table<O: Write>(out: &mut O, t: &[u32]) -> io::Result<bool> {
             refused(out, number, at)?;
             Ok(false)
         }
-    }}
+    }
+}
 
 // Internal: prints the table in the first n words of a buffer.
 pub fn first_words<O: Write>(out: &mut O, words: &[u32], n: usize) -> io::Result<()> {

@@ -4,6 +4,8 @@ use checker::cursors::{CANNOT_RISE, MAX_REVISION};
 use checker::{Grant, SliceAnswer};
 use files::Cursor;
 use reasons::records;
+use std::io;
+use std::io::Write;
 
 // More than any table has places.
 const ENOUGH: u32 = 4294967295;
@@ -19,47 +21,51 @@ fn checked(t: &[u32]) -> SliceAnswer {
 }
 
 // Internal: whether the plan is accepted. Where it is not, the answer has the first violated place too.
-pub(crate) fn is_accepted(t: &[u32]) -> bool {
+pub(crate) fn is_accepted<O: Write, E: Write>(
+    out: &mut O,
+    err: &mut E,
+    t: &[u32],
+) -> io::Result<bool> {
     let told = checked(t);
     match told {
         SliceAnswer::Violated(at, steps, rule) => {
-            why::not_accepted(at);
-            out::not_accepted(at, rule);
-            false
+            why::not_accepted(err, at);
+            out::not_accepted(out, at, rule)?;
+            Ok(false)
         }
-        SliceAnswer::NothingViolated(end, steps) => true,
-        SliceAnswer::Paused(at, steps) => true,
-        SliceAnswer::Refused(number, at, given) => true,
+        SliceAnswer::NothingViolated(end, steps) => Ok(true),
+        SliceAnswer::Paused(at, steps) => Ok(true),
+        SliceAnswer::Refused(number, at, given) => Ok(true),
     }
 }
 
-fn can_rise(t: &[u32]) -> bool {
+fn can_rise<O: Write, E: Write>(out: &mut O, err: &mut E, t: &[u32]) -> io::Result<bool> {
     if records::header_word(t, table::REVISION_AT) < MAX_REVISION {
-        return true;
+        return Ok(true);
     }
-    why::cannot_rise(b"");
-    out::refused(b"", CANNOT_RISE, 0);
-    false
+    why::cannot_rise(err, b"");
+    out::refused(out, b"", CANNOT_RISE, 0)?;
+    Ok(false)
 }
 
-fn is_well_formed(t: &[u32]) -> bool {
+fn is_well_formed<O: Write, E: Write>(out: &mut O, err: &mut E, t: &[u32]) -> io::Result<bool> {
     let told = checker::start(t);
     match told {
-        Grant::Granted(_) => true,
+        Grant::Granted(_) => Ok(true),
         Grant::Refused(number, at, _) => {
-            records::why(t, number, at);
-            show::refused(number, at);
-            false
+            records::why(err, t, number, at);
+            show::refused(out, number, at)?;
+            Ok(false)
         }
     }
 }
 
 // Whether all is right that has to be before the first stream of a list is looked at.
-fn takes_streams(t: &[u32]) -> bool {
-    if !can_rise(t) {
-        return false;
+fn takes_streams<O: Write, E: Write>(out: &mut O, err: &mut E, t: &[u32]) -> io::Result<bool> {
+    if !can_rise(out, err, t)? {
+        return Ok(false);
     }
-    is_accepted(t)
+    is_accepted(out, err, t)
 }
 
 // Whether the lines of what is wanted have labels: then they are a list.
@@ -71,21 +77,31 @@ fn is_list(text: &[u8]) -> bool {
 }
 
 // A stream alone is refused in the order of the admission, and a list as a whole where its plan is.
-fn is_right(text: &[u8], t: &[u32]) -> bool {
-    if !is_well_formed(t) {
-        return false;
+fn is_right<O: Write, E: Write>(
+    out: &mut O,
+    err: &mut E,
+    text: &[u8],
+    t: &[u32],
+) -> io::Result<bool> {
+    if !is_well_formed(out, err, t)? {
+        return Ok(false);
     }
     if is_list(text) {
-        return takes_streams(t);
+        return takes_streams(out, err, t);
     }
-    true
+    Ok(true)
 }
 
 // Internal: whether streams may be looked at. Where they may not, that is the answer.
-pub(crate) fn stands(text: &[u8], t: &[u32]) -> bool {
-    if is_right(text, t) {
-        return true;
+pub(crate) fn stands<O: Write, E: Write>(
+    out: &mut O,
+    err: &mut E,
+    text: &[u8],
+    t: &[u32],
+) -> io::Result<bool> {
+    if is_right(out, err, text, t)? {
+        return Ok(true);
     }
-    out::nothing_written();
-    false
+    out::nothing_written(out)?;
+    Ok(false)
 }

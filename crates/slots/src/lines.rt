@@ -5,6 +5,7 @@ ghost use Rattle.std.specs.Prelude.{◌≤◌, length};
 use decimal::Decimal;
 use enlarge::Wanted;
 use shape::streams::MAX_ROUTE;
+use std::io::Write;
 
 // The most bytes that it may have.
 pub(crate) const MAX_BYTES: usize = 262144;
@@ -151,28 +152,29 @@ fn is_right(line: &[u8]) -> bool {
     HEAD <= read_numbers(after_label(line), &mut head, &mut way)
 }
 
-fn said_wrong(n: u32) {
+fn said_wrong<E: Write>(err: &mut E, n: u32) {
     reasons::line(
+        err,
         b"line # of what is wanted is not a label, a tab and at least four numbers from 0 to 4294967295 with a blank between them",
         &[n],
     );
 }
 
 // Whether all lines have what they must have. Where one has not, that is said.
-pub(crate) fn all_right(text: &[u8]) -> bool {
+pub(crate) fn all_right<E: Write>(err: &mut E, text: &[u8]) -> bool {
     let mut start: usize = 0;
     let mut n: u32 = 0;
     while start < text.len() {
         let end = place_of(text, start, b'\n');
         n = std::num::wrapping_add_u32(n, 1);
         if !is_right(&text[start..end]) {
-            said_wrong(n);
+            said_wrong(err, n);
             return false;
         }
         start = end + 1;
     }
     if n == 0 {
-        reasons::line(b"no stream is wanted", &[]);
+        reasons::line(err, b"no stream is wanted", &[]);
     }
     0 < n
 }

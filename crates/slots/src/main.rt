@@ -6,6 +6,10 @@
 use durable::FileRead;
 use files::PlanRead;
 use show::answers;
+use std::env::Env;
+use std::io;
+use std::io::Write;
+use std::rt::{Clock, Files};
 
 mod judge;
 mod lines;
@@ -26,84 +30,130 @@ const PLAN_ROOM: usize = files::MAX_FILE_BYTES + 1;
 // One byte more than what is wanted may have.
 const TEXT_ROOM: usize = lines::MAX_BYTES + 1;
 
-fn on_table(text: &[u8], new_path: &[u8], words: &mut [u32], n: usize) {
+fn on_table<R: Clock + Files, O: Write, E: Write>(
+    rt: &R,
+    out: &mut O,
+    err: &mut E,
+    text: &[u8],
+    new_path: &[u8],
+    words: &mut [u32],
+    n: usize,
+) -> io::Result<()> {
     if words.len() < n {
-        return;
+        return Ok(());
     }
-    if judge::stands(text, &words[0..n]) {
-        list::admitted(text, new_path, words, n);
+    if judge::stands(out, err, text, &words[0..n])? {
+        list::admitted(rt, out, err, text, new_path, words, n)?;
     }
+    Ok(())
 }
 
-fn on_bytes(text: &[u8], new_path: &[u8], bytes: &[u8], n: usize) {
+fn on_bytes<R: Clock + Files, O: Write, E: Write>(
+    rt: &R,
+    out: &mut O,
+    err: &mut E,
+    text: &[u8],
+    new_path: &[u8],
+    bytes: &[u8],
+    n: usize,
+) -> io::Result<()> {
     if bytes.len() < n {
-        return;
+        return Ok(());
     }
     let plan = &bytes[0..n];
     let mut words = [0u32; table::MAX_TABLE_WORDS];
     let read = files::read_plan(plan, &mut words);
     match read {
         PlanRead::Refused(number, at) => {
-            reasons::file::why(plan, number, at);
-            answers::plan_refused(number, at);
+            reasons::file::why(err, plan, number, at);
+            answers::plan_refused(out, number, at)?;
         }
         PlanRead::Words(m) => {
-            on_table(text, new_path, &mut words, m);
+            on_table(rt, out, err, text, new_path, &mut words, m)?;
         }
     }
+    Ok(())
 }
 
-fn on_paths(text: &[u8], plan_path: &[u8], new_path: &[u8]) {
+fn on_paths<R: Clock + Files, O: Write, E: Write>(
+    rt: &R,
+    out: &mut O,
+    err: &mut E,
+    text: &[u8],
+    plan_path: &[u8],
+    new_path: &[u8],
+) -> io::Result<()> {
     let mut bytes = [0u8; PLAN_ROOM];
-    let read = durable::file(plan_path, &mut bytes);
+    let read = durable::file(rt, err, plan_path, &mut bytes);
     match read {
         FileRead::Bytes(n) => {
-            on_bytes(text, new_path, &bytes, n);
+            on_bytes(rt, out, err, text, new_path, &bytes, n)?;
         }
         FileRead::Missing => {
-            durable::missing(plan_path);
+            durable::missing(err, plan_path);
         }
         FileRead::Failed => {}
     }
+    Ok(())
 }
 
-fn on_text(text: &[u8]) {
-    if !lines::all_right(text) {
-        return;
+fn on_text<R: Clock + Env + Files, O: Write, E: Write>(
+    rt: &R,
+    out: &mut O,
+    err: &mut E,
+    text: &[u8],
+) -> io::Result<()> {
+    if !lines::all_right(err, text) {
+        return Ok(());
     }
     let mut plan = [0u8; 4096];
-    let first = input::argument(PLAN_AT, &mut plan, b"the path of the plan");
+    let first = input::argument(rt, err, PLAN_AT, &mut plan, b"the path of the plan");
     let Some(n) = first else {
-        return;
+        return Ok(());
     };
     let mut new = [0u8; 4096];
-    let second = input::argument(NEW_AT, &mut new, b"the path of the new file");
+    let second = input::argument(rt, err, NEW_AT, &mut new, b"the path of the new file");
     let Some(m) = second else {
-        return;
+        return Ok(());
     };
-    on_paths(text, &plan[..n], &new[..m]);
+    on_paths(rt, out, err, text, &plan[..n], &new[..m])
 }
 
-fn on_whole_text(text: &[u8]) {
+fn on_whole_text<R: Clock + Env + Files, O: Write, E: Write>(
+    rt: &R,
+    out: &mut O,
+    err: &mut E,
+    text: &[u8],
+) -> io::Result<()> {
     if text.len() == TEXT_ROOM {
         reasons::line(
+            err,
             b"what is wanted has more than # bytes",
             &[lines::MAX_BYTES as u32],
         );
-        return;
+        return Ok(());
     }
-    on_text(text);
+    on_text(rt, out, err, text)
 }
 
-fn main() {
+fn run<R: Clock + Env + Files + Input, O: Write, E: Write>(
+    rt: &R,
+    out: &mut O,
+    err: &mut E,
+) -> io::Result<()> {
     let mut text = [0u8; TEXT_ROOM];
-    let read = input::standard(&mut text);
+    let read = input::standard(rt, &mut text);
     match read {
         Ok(n) => {
-            on_whole_text(&text[..n]);
+            on_whole_text(rt, out, err, &text[..n])?;
         }
         Err(e) => {
-            reasons::fail(b"what is wanted", &e);
+            reasons::fail(err, b"what is wanted", &e);
         }
     }
+    Ok(())
+}
+
+fn main(rt: HostRuntime) {
+    let _ = run(&rt, &mut rt.stdout(), &mut rt.stderr());
 }

@@ -2,6 +2,8 @@
 use admission::Admission;
 use enlarge::Wanted;
 use shape::streams::MAX_PERIOD;
+use std::io::Write;
+use std::rt::Clock;
 
 // The first offsets of a piece at least.
 const LEAST_PIECE: u32 = 1000000;
@@ -29,8 +31,8 @@ pub(crate) struct Found {
 }
 
 // The time in whole seconds.
-pub(crate) fn now() -> i64 {
-    input::seconds()
+pub(crate) fn now<R: Clock>(rt: &R) -> i64 {
+    input::seconds(rt)
 }
 
 // Whether it is time to say something again, also where the clock was set back.
@@ -42,17 +44,18 @@ pub(crate) fn is_due(now: i64, said: i64) -> bool {
 }
 
 // Begins a line on standard error, with the label of the stream where it has one.
-pub(crate) fn begin(label: &[u8]) {
-    reasons::begin();
+pub(crate) fn begin<E: Write>(err: &mut E, label: &[u8]) {
+    reasons::begin(err);
     if 0 < label.len() {
-        reasons::text(label);
-        reasons::text(b": ");
+        reasons::text(err, label);
+        reasons::text(err, b": ");
     }
 }
 
-fn say(label: &[u8], until: u32, period: u32) {
-    begin(label);
+fn say<E: Write>(err: &mut E, label: &[u8], until: u32, period: u32) {
+    begin(err, label);
     reasons::say(
+        err,
         b"looked through first offsets below # of #\n",
         &[until, period],
     );
@@ -84,8 +87,8 @@ fn next_size(size: u32, began: i64, ended: i64) -> u32 {
 }
 
 // The next piece, after one that was looked through. It says how far the search is, where that is due.
-fn next(label: &[u8], pace: Pace, period: u32) -> Pace {
-    let time = now();
+fn next<R: Clock, E: Write>(rt: &R, err: &mut E, label: &[u8], pace: Pace, period: u32) -> Pace {
+    let time = now(rt);
     let size = next_size(
         std::num::wrapping_sub_u32(pace.until, pace.from),
         pace.began,
@@ -93,7 +96,7 @@ fn next(label: &[u8], pace: Pace, period: u32) -> Pace {
     );
     let mut said = pace.said;
     if is_due(time, said) {
-        say(label, pace.until, period);
+        say(err, label, pace.until, period);
         said = time;
     }
     Pace {
@@ -105,7 +108,9 @@ fn next(label: &[u8], pace: Pace, period: u32) -> Pace {
 }
 
 // Looks for the least first offset that fits. Where one is found, the enlarged table is in the lent words.
-pub(crate) fn look(
+pub(crate) fn look<R: Clock, E: Write>(
+    rt: &R,
+    err: &mut E,
     label: &[u8],
     t: &[u32],
     want: Wanted,
@@ -116,7 +121,7 @@ pub(crate) fn look(
     let mut pace = Pace {
         from: 0,
         until: LEAST_PIECE,
-        began: now(),
+        began: now(rt),
         said,
     };
     let mut left = MOST_PIECES;
@@ -136,7 +141,7 @@ pub(crate) fn look(
                 };
             }
             Admission::NoneYet => {
-                pace = next(label, pace, want.period);
+                pace = next(rt, err, label, pace, want.period);
             }
         }
         left = left - 1;

@@ -3,6 +3,7 @@ use crate::sentences;
 use lines::shown::shown;
 use lines::words;
 use reasons::{begin, say, text};
+use std::io::Write;
 use wishes::forms::Claim;
 use wishes::reading::Counts;
 use wishes::{bounds, forms, names};
@@ -28,8 +29,9 @@ fn with_wrong(got: Claimed, n: u32) -> Claimed {
     }
 }
 
-fn bad_form(got: Claimed, line: &[u8], n: u32) -> Claimed {
+fn bad_form<E: Write>(err: &mut E, got: Claimed, line: &[u8], n: u32) -> Claimed {
     sentences::wrong(
+        err,
         n,
         b" of the claim",
         line,
@@ -39,9 +41,9 @@ fn bad_form(got: Claimed, line: &[u8], n: u32) -> Claimed {
 }
 
 // The first line of an answer may stand in front of the others.
-fn with_head(got: Claimed, line: &[u8], n: u32) -> Claimed {
+fn with_head<E: Write>(err: &mut E, got: Claimed, line: &[u8], n: u32) -> Claimed {
     if got.begun {
-        return bad_form(got, line, n);
+        return bad_form(err, got, line, n);
     }
     Claimed {
         times: 0,
@@ -51,20 +53,23 @@ fn with_head(got: Claimed, line: &[u8], n: u32) -> Claimed {
     }
 }
 
-fn far_time(got: Claimed, line: &[u8], n: u32) -> Claimed {
-    begin();
-    say(b"line # of the claim has the time ", &[n]);
-    shown(words::word(line, 2));
-    text(b", but times are -9223372036854775808 to 9223372036854775807\n");
+fn far_time<E: Write>(err: &mut E, got: Claimed, line: &[u8], n: u32) -> Claimed {
+    begin(err);
+    say(err, b"line # of the claim has the time ", &[n]);
+    shown(err, words::word(line, 2));
+    text(
+        err,
+        b", but times are -9223372036854775808 to 9223372036854775807\n",
+    );
     with_wrong(got, n)
 }
 
 // Says something of the event that a line of the claim names.
-fn bad_event(got: Claimed, line: &[u8], n: u32, what: &[u8]) -> Claimed {
-    begin();
-    say(b"line # of the claim gives a time to ", &[n]);
-    shown(words::word(line, 1));
-    text(what);
+fn bad_event<E: Write>(err: &mut E, got: Claimed, line: &[u8], n: u32, what: &[u8]) -> Claimed {
+    begin(err);
+    say(err, b"line # of the claim gives a time to ", &[n]);
+    shown(err, words::word(line, 1));
+    text(err, what);
     with_wrong(got, n)
 }
 
@@ -112,7 +117,8 @@ fn set_link(chain: &mut [u32], i: usize, k: u32) {
 }
 
 // Takes in the time of an event.
-fn with_time(
+fn with_time<E: Write>(
+    err: &mut E,
     network: &[u8],
     counts: Counts,
     at: &[usize],
@@ -125,10 +131,10 @@ fn with_time(
 ) -> Claimed {
     let event = names::find(network, at, counts.events, words::word(line, 1));
     if counts.events <= event {
-        return bad_event(got, line, n, b", but the network has no such event\n");
+        return bad_event(err, got, line, n, b", but the network has no such event\n");
     }
     if has_time(places, event) {
-        return bad_event(got, line, n, b", but a line before it did so too\n");
+        return bad_event(err, got, line, n, b", but a line before it did so too\n");
     }
     set_time(times, got.times, time);
     let place = std::num::wrapping_add_usize(got.times, 1);
@@ -141,16 +147,20 @@ fn with_time(
     }
 }
 
-fn no_constraint(got: Claimed, line: &[u8], n: u32) -> Claimed {
-    begin();
-    say(b"line # of the claim is ", &[n]);
-    shown(line);
-    text(b", but there is no constraint in that line of the network\n");
+fn no_constraint<E: Write>(err: &mut E, got: Claimed, line: &[u8], n: u32) -> Claimed {
+    begin(err);
+    say(err, b"line # of the claim is ", &[n]);
+    shown(err, line);
+    text(
+        err,
+        b", but there is no constraint in that line of the network\n",
+    );
     with_wrong(got, n)
 }
 
 // Takes in a constraint of a chain, by its line in the network.
-fn with_link(
+fn with_link<E: Write>(
+    err: &mut E,
     counts: Counts,
     in_lines: &[u32],
     got: Claimed,
@@ -161,7 +171,7 @@ fn with_link(
 ) -> Claimed {
     let k = bounds::in_line(in_lines, counts.constraints, named);
     if counts.constraints <= k {
-        return no_constraint(got, line, n);
+        return no_constraint(err, got, line, n);
     }
     set_link(chain, got.links, reasons::small(k));
     Claimed {
@@ -173,7 +183,8 @@ fn with_link(
 }
 
 // Takes in the n-th line of the claim.
-fn with_line(
+fn with_line<E: Write>(
+    err: &mut E,
     network: &[u8],
     counts: Counts,
     at: &[usize],
@@ -188,16 +199,17 @@ fn with_line(
     let says = forms::claim_in(line);
     match says {
         Claim::Nothing => got,
-        Claim::Head => with_head(got, line, n),
-        Claim::Time(time) => with_time(network, counts, at, got, line, n, time, times, places),
-        Claim::FarTime => far_time(got, line, n),
-        Claim::Line(named) => with_link(counts, in_lines, got, line, n, named, chain),
-        Claim::Wrong => bad_form(got, line, n),
+        Claim::Head => with_head(err, got, line, n),
+        Claim::Time(time) => with_time(err, network, counts, at, got, line, n, time, times, places),
+        Claim::FarTime => far_time(err, got, line, n),
+        Claim::Line(named) => with_link(err, counts, in_lines, got, line, n, named, chain),
+        Claim::Wrong => bad_form(err, got, line, n),
     }
 }
 
 // Reads a claim on a network that was read. Lent are its times in their order, the place of each event's time, and its chain.
-pub(crate) fn read(
+pub(crate) fn read<E: Write>(
+    err: &mut E,
     claim: &[u8],
     network: &[u8],
     counts: Counts,
@@ -220,7 +232,7 @@ pub(crate) fn read(
         n = std::num::wrapping_add_u32(n, 1);
         let line = lines::content(claim, start, end);
         got = with_line(
-            network, counts, at, in_lines, got, line, n, times, places, chain,
+            err, network, counts, at, in_lines, got, line, n, times, places, chain,
         );
         start = end + 1;
     }

@@ -3,6 +3,7 @@ use crate::out;
 use lines::shown::shown;
 use lines::words;
 use reasons::{begin, line, say, small, text};
+use std::io;
 use std::io::Write;
 use wishes::forms::Wish;
 use wishes::reading::Counts;
@@ -20,18 +21,18 @@ pub(crate) fn sum<E: Write>(err: &mut E, s: Sum) {
 }
 
 // Says that a line has none of the forms that it may have.
-pub(crate) fn wrong(n: u32, of: &[u8], bytes: &[u8], forms: &[u8]) {
-    begin();
-    say(b"line #", &[n]);
-    text(of);
-    text(b" is ");
-    shown(bytes);
-    text(b", but a line there is ");
-    text(forms);
-    text(b"\n");
+pub(crate) fn wrong<E: Write>(err: &mut E, n: u32, of: &[u8], bytes: &[u8], forms: &[u8]) {
+    begin(err);
+    say(err, b"line #", &[n]);
+    text(err, of);
+    text(err, b" is ");
+    shown(err, bytes);
+    text(err, b", but a line there is ");
+    text(err, forms);
+    text(err, b"\n");
 }
 
-fn judged(line: &[u8], n: u32) {
+fn judged<E: Write>(err: &mut E, line: &[u8], n: u32) {
     let wish = forms::wish_in(line);
     match wish {
         Wish::Nothing => {}
@@ -40,6 +41,7 @@ fn judged(line: &[u8], n: u32) {
         Wish::Least(_) => {}
         Wish::Wrong => {
             wrong(
+                err,
                 n,
                 b" of the network",
                 line,
@@ -50,63 +52,74 @@ fn judged(line: &[u8], n: u32) {
 }
 
 // Says of each line with none of the forms what stands there.
-pub(crate) fn wrong_lines(network: &[u8]) {
+pub(crate) fn wrong_lines<E: Write>(err: &mut E, network: &[u8]) {
     let mut start: usize = 0;
     let mut n: u32 = 0;
     while start < network.len() {
         let end = lines::line_end(network, start);
         n = std::num::wrapping_add_u32(n, 1);
-        judged(lines::content(network, start, end), n);
+        judged(err, lines::content(network, start, end), n);
         start = end + 1;
     }
 }
 
-fn too_many(text_of: &[u8], got: Counts, at: &[usize]) {
+fn too_many<E: Write>(err: &mut E, text_of: &[u8], got: Counts, at: &[usize]) {
     if network::MAX_EVENTS < got.events {
-        begin();
+        begin(err);
         say(
+            err,
             b"the network has more than # events: the first past them is ",
             &[small(network::MAX_EVENTS)],
         );
-        shown(names::name(text_of, at, network::MAX_EVENTS));
-        text(b"\n");
+        shown(err, names::name(text_of, at, network::MAX_EVENTS));
+        text(err, b"\n");
         return;
     }
     line(
+        err,
         b"the network has # constraints, but at most # are allowed",
         &[small(got.constraints), small(network::MAX_CONSTRAINTS)],
     );
 }
 
 // The number of a constraint is the last word of its line.
-fn out_of_range(network: &[u8], n: u32) {
-    begin();
-    say(b"line # of the network has the number ", &[n]);
-    shown(words::word(lines::numbered(network, n), 4));
-    text(b", but numbers are -1000000000 to 1000000000\n");
+fn out_of_range<E: Write>(err: &mut E, network: &[u8], n: u32) {
+    begin(err);
+    say(err, b"line # of the network has the number ", &[n]);
+    shown(err, words::word(lines::numbered(network, n), 4));
+    text(err, b", but numbers are -1000000000 to 1000000000\n");
 }
 
 // The refusal of a network that was read.
-pub(crate) fn refused(
+pub(crate) fn refused<O: Write, E: Write>(
+    out: &mut O,
+    err: &mut E,
     network: &[u8],
     got: Counts,
     at: &[usize],
     in_lines: &[u32],
     number: u32,
     k: usize,
-) {
+) -> io::Result<()> {
     if number == TOO_MANY {
-        too_many(network, got, at);
+        too_many(err, network, got, at);
     } else {
-        out_of_range(network, bounds::line(in_lines, k));
+        out_of_range(err, network, bounds::line(in_lines, k));
     }
-    out::refused(number, k);
+    out::refused(out, number, k)
 }
 
 // The refusal of a text that is too long.
-pub(crate) fn too_long(what: &[u8]) {
-    begin();
-    text(what);
-    text(b" has more than 262144 bytes, and there is no room for it\n");
-    out::text(b"refused long\nstatus 2\n");
+pub(crate) fn too_long<O: Write, E: Write>(
+    out: &mut O,
+    err: &mut E,
+    what: &[u8],
+) -> io::Result<()> {
+    begin(err);
+    text(err, what);
+    text(
+        err,
+        b" has more than 262144 bytes, and there is no room for it\n",
+    );
+    out::text(out, b"refused long\nstatus 2\n")
 }

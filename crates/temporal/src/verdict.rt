@@ -3,6 +3,8 @@ use crate::{claim, out, sentences, solution};
 use claims::{ChainTest, TimesTest};
 use lines::shown::shown;
 use reasons::{begin, line, say, small, text};
+use std::io;
+use std::io::Write;
 use wishes::reading::Counts;
 use wishes::{bounds, names, number, sums};
 
@@ -54,27 +56,35 @@ fn renumber_all(constraints: &[i64], words: &mut [i64], places: &[usize], counts
     }
 }
 
-fn untimed(network: &[u8], at: &[usize], event: usize) {
-    out::text(b", but ");
-    out::text(names::name(network, at, event));
-    out::text(b" has no time\nstatus 1\n");
+fn untimed<O: Write>(out: &mut O, network: &[u8], at: &[usize], event: usize) -> io::Result<()> {
+    out::text(out, b", but ")?;
+    out::text(out, names::name(network, at, event))?;
+    out::text(out, b" has no time\nstatus 1\n")
 }
 
 // Why a constraint is not kept, after it was printed.
-fn but(network: &[u8], at: &[usize], to: usize, from: usize, times: &[i64], places: &[usize]) {
+fn but<O: Write>(
+    out: &mut O,
+    network: &[u8],
+    at: &[usize],
+    to: usize,
+    from: usize,
+    times: &[i64],
+    places: &[usize],
+) -> io::Result<()> {
     if !claim::has_time(places, to) {
-        untimed(network, at, to);
-        return;
+        untimed(out, network, at, to)?;
+        return Ok(());
     }
     if !claim::has_time(places, from) {
-        untimed(network, at, from);
-        return;
+        untimed(out, network, at, from)?;
+        return Ok(());
     }
-    out::text(b", but it is ");
+    out::text(out, b", but it is ")?;
     let later = claim::time_of(times, places, to);
     let earlier = claim::time_of(times, places, from);
-    out::sum(sums::difference(later, earlier));
-    out::text(b"\nstatus 1\n");
+    out::sum(out, sums::difference(later, earlier))?;
+    out::text(out, b"\nstatus 1\n")
 }
 
 // Tests times on the constraints in the first words of a buffer.
@@ -85,7 +95,9 @@ fn tested(events: usize, words: &[i64], n: usize, times: &[i64]) -> TimesTest {
     claims::test_times(events, &words[0..n], times)
 }
 
-fn on_times(
+fn on_times<O: Write, E: Write>(
+    out: &mut O,
+    err: &mut E,
     network: &[u8],
     counts: Counts,
     at: &[usize],
@@ -93,28 +105,31 @@ fn on_times(
     in_lines: &[u32],
     times: &[i64],
     places: &[usize],
-) {
+) -> io::Result<()> {
     let mut words = [0i64; wishes::CONSTRAINT_WORDS * wishes::KEPT_CONSTRAINTS];
     renumber_all(constraints, &mut words, places, counts);
     let told = tested(counts.events, &words, constraints.len(), times);
     match told {
         TimesTest::Kept => {
-            out::text(b"kept\nstatus 0\n");
+            out::text(out, b"kept\nstatus 0\n")?;
         }
         TimesTest::Broken(k) => {
-            out::text(b"broken\n");
-            out::constraint(network, at, constraints, in_lines, k);
+            out::text(out, b"broken\n")?;
+            out::constraint(out, network, at, constraints, in_lines, k)?;
             let to = bounds::to(constraints, k);
             let from = bounds::from(constraints, k);
-            but(network, at, to, from, times, places);
+            but(out, network, at, to, from, times, places)?;
         }
         TimesTest::Refused(number, k) => {
-            sentences::refused(network, counts, at, in_lines, number, k);
+            sentences::refused(out, err, network, counts, at, in_lines, number, k)?;
         }
     }
+    Ok(())
 }
 
-fn on_first_times(
+fn on_first_times<O: Write, E: Write>(
+    out: &mut O,
+    err: &mut E,
     network: &[u8],
     counts: Counts,
     at: &[usize],
@@ -123,11 +138,13 @@ fn on_first_times(
     times: &[i64],
     n: usize,
     places: &[usize],
-) {
+) -> io::Result<()> {
     if times.len() < n {
-        return;
+        return Ok(());
     }
     on_times(
+        out,
+        err,
         network,
         counts,
         at,
@@ -135,7 +152,7 @@ fn on_first_times(
         in_lines,
         &times[0..n],
         places,
-    );
+    )
 }
 
 // ---- Chains
@@ -166,7 +183,8 @@ fn unlinked(constraints: &[i64], chain: &[u32]) -> usize {
     i
 }
 
-fn say_unlinked(
+fn say_unlinked<E: Write>(
+    err: &mut E,
     network: &[u8],
     at: &[usize],
     constraints: &[i64],
@@ -174,15 +192,19 @@ fn say_unlinked(
     k: usize,
     next: usize,
 ) {
-    begin();
-    say(b"line # ends at ", &[bounds::line(in_lines, k)]);
-    shown(names::name(network, at, bounds::to(constraints, k)));
+    begin(err);
+    say(err, b"line # ends at ", &[bounds::line(in_lines, k)]);
+    shown(err, names::name(network, at, bounds::to(constraints, k)));
     say(
+        err,
         b", but line #, which follows, begins at ",
         &[bounds::line(in_lines, next)],
     );
-    shown(names::name(network, at, bounds::from(constraints, next)));
-    text(b"\n");
+    shown(
+        err,
+        names::name(network, at, bounds::from(constraints, next)),
+    );
+    text(err, b"\n");
 }
 
 // The first constraint of a chain that begins at an event, or how many there are.
@@ -210,24 +232,32 @@ fn repeated(constraints: &[i64], chain: &[u32]) -> usize {
     i
 }
 
-fn say_repeated(network: &[u8], at: &[usize], event: usize) {
-    begin();
-    text(b"the event ");
-    shown(names::name(network, at, event));
-    text(b" is in the chain twice\n");
+fn say_repeated<E: Write>(err: &mut E, network: &[u8], at: &[usize], event: usize) {
+    begin(err);
+    text(err, b"the event ");
+    shown(err, names::name(network, at, event));
+    text(err, b" is in the chain twice\n");
 }
 
-fn say_sum(constraints: &[i64], chain: &[u32]) {
-    begin();
-    text(b"the sum is ");
-    sentences::sum(solution::sum_of(constraints, chain));
-    text(b", but that of a chain is below 0\n");
+fn say_sum<E: Write>(err: &mut E, constraints: &[i64], chain: &[u32]) {
+    begin(err);
+    text(err, b"the sum is ");
+    sentences::sum(err, solution::sum_of(constraints, chain));
+    text(err, b", but that of a chain is below 0\n");
 }
 
 // Says why this is no chain.
-fn say_why(network: &[u8], at: &[usize], constraints: &[i64], in_lines: &[u32], chain: &[u32]) {
+fn say_why<E: Write>(
+    err: &mut E,
+    network: &[u8],
+    at: &[usize],
+    constraints: &[i64],
+    in_lines: &[u32],
+    chain: &[u32],
+) {
     if network::MAX_EVENTS < chain.len() {
         line(
+            err,
             b"there are more than # constraints, but a chain has no event twice",
             &[small(network::MAX_EVENTS)],
         );
@@ -236,46 +266,60 @@ fn say_why(network: &[u8], at: &[usize], constraints: &[i64], in_lines: &[u32], 
     let i = unlinked(constraints, chain);
     if i < chain.len() {
         let k = bounds::chained(chain, i);
-        say_unlinked(network, at, constraints, in_lines, k, next_of(chain, i));
+        say_unlinked(
+            err,
+            network,
+            at,
+            constraints,
+            in_lines,
+            k,
+            next_of(chain, i),
+        );
         return;
     }
     let twice = repeated(constraints, chain);
     if twice < chain.len() {
         say_repeated(
+            err,
             network,
             at,
             bounds::from(constraints, bounds::chained(chain, twice)),
         );
         return;
     }
-    say_sum(constraints, chain);
+    say_sum(err, constraints, chain);
 }
 
-fn on_chain(
+fn on_chain<O: Write, E: Write>(
+    out: &mut O,
+    err: &mut E,
     network: &[u8],
     counts: Counts,
     at: &[usize],
     constraints: &[i64],
     in_lines: &[u32],
     chain: &[u32],
-) {
+) -> io::Result<()> {
     let told = claims::test_chain(counts.events, constraints, chain);
     match told {
         ChainTest::Chain => {
-            out::text(b"chain\nstatus 0\n");
+            out::text(out, b"chain\nstatus 0\n")?;
         }
         ChainTest::NoChain => {
-            say_why(network, at, constraints, in_lines, chain);
-            out::text(b"no chain\nstatus 1\n");
+            say_why(err, network, at, constraints, in_lines, chain);
+            out::text(out, b"no chain\nstatus 1\n")?;
         }
         ChainTest::Refused(number, k) => {
-            sentences::refused(network, counts, at, in_lines, number, k);
+            sentences::refused(out, err, network, counts, at, in_lines, number, k)?;
         }
     }
+    Ok(())
 }
 
 // The constraints of the claim that are kept: no chain has more.
-fn on_first_links(
+fn on_first_links<O: Write, E: Write>(
+    out: &mut O,
+    err: &mut E,
     network: &[u8],
     counts: Counts,
     at: &[usize],
@@ -283,34 +327,46 @@ fn on_first_links(
     in_lines: &[u32],
     chain: &[u32],
     n: usize,
-) {
+) -> io::Result<()> {
     if chain.len() < n {
-        on_chain(network, counts, at, constraints, in_lines, chain);
-        return;
+        on_chain(out, err, network, counts, at, constraints, in_lines, chain)?;
+        return Ok(());
     }
-    on_chain(network, counts, at, constraints, in_lines, &chain[0..n]);
+    on_chain(
+        out,
+        err,
+        network,
+        counts,
+        at,
+        constraints,
+        in_lines,
+        &chain[0..n],
+    )
 }
 
 // ---- Both
 
-fn refused_claim(why: &[u8]) {
-    line(why, &[]);
-    out::text(b"refused claim\nstatus 2\n");
+fn refused_claim<O: Write, E: Write>(out: &mut O, err: &mut E, why: &[u8]) -> io::Result<()> {
+    line(err, why, &[]);
+    out::text(out, b"refused claim\nstatus 2\n")
 }
 
 // Reads a claim, and judges its times or its chain.
-fn on_claim(
+fn on_claim<O: Write, E: Write>(
+    out: &mut O,
+    err: &mut E,
     claim: &[u8],
     network: &[u8],
     counts: Counts,
     at: &[usize],
     constraints: &[i64],
     in_lines: &[u32],
-) {
+) -> io::Result<()> {
     let mut times = [0i64; network::MAX_EVENTS];
     let mut places = [0usize; network::MAX_EVENTS];
     let mut chain = [0u32; LINKS];
     let got = claim::read(
+        err,
         claim,
         network,
         counts,
@@ -321,17 +377,21 @@ fn on_claim(
         &mut chain,
     );
     if got.wrong != 0 {
-        out::refused_line(got.wrong);
-        return;
+        out::refused_line(out, got.wrong)?;
+        return Ok(());
     }
     if got.links == 0 {
         if got.times == 0 {
             refused_claim(
+                out,
+                err,
                 b"the claim has neither lines time NAME NUMBER nor lines line N:, and it needs one of the two",
-            );
-            return;
+            )?;
+            return Ok(());
         }
         on_first_times(
+            out,
+            err,
             network,
             counts,
             at,
@@ -340,16 +400,20 @@ fn on_claim(
             &times,
             got.times,
             &places,
-        );
-        return;
+        )?;
+        return Ok(());
     }
     if got.times != 0 {
         refused_claim(
+            out,
+            err,
             b"the claim has lines time NAME NUMBER and lines line N:, and only one of the two may be there",
-        );
-        return;
+        )?;
+        return Ok(());
     }
     on_first_links(
+        out,
+        err,
         network,
         counts,
         at,
@@ -357,26 +421,29 @@ fn on_claim(
         in_lines,
         &chain,
         got.links,
-    );
+    )
 }
 
 // Judges a claim on a network. Where the network is refused, the claim is not read.
-pub(crate) fn judged(
+pub(crate) fn judged<O: Write, E: Write>(
+    out: &mut O,
+    err: &mut E,
     claim: &[u8],
     network: &[u8],
     counts: Counts,
     at: &[usize],
     constraints: &[i64],
     in_lines: &[u32],
-) {
+) -> io::Result<()> {
     let told = claims::test_chain(counts.events, constraints, &[]);
     match told {
         ChainTest::Chain => {}
         ChainTest::NoChain => {
-            on_claim(claim, network, counts, at, constraints, in_lines);
+            on_claim(out, err, claim, network, counts, at, constraints, in_lines)?;
         }
         ChainTest::Refused(number, k) => {
-            sentences::refused(network, counts, at, in_lines, number, k);
+            sentences::refused(out, err, network, counts, at, in_lines, number, k)?;
         }
     }
+    Ok(())
 }
