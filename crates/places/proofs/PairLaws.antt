@@ -107,8 +107,8 @@ module _ {t next : List ℕ} {a n m b : ℕ} {mine : Sharer} {known : Known} (i 
         before = λ d from below. i.along.clear d from below (omega (arith, turn_leg.leg));
       }
 
-      pub turn_on : {next-Known : Known} {other : Sharer} → SharerOf t b other → told ≡ Yes → Tells (PairHolds t a b) told → next-Known.period ≡ other.slot.period
-          → IsGcd mine.slot.period other.slot.period next-Known.divisor → Turn t next a n m mine next-Known (get_or next b 0)
+      pub turn_on : {next_known : Known} {other : Sharer} → SharerOf t b other → told ≡ Yes → Tells (PairHolds t a b) told → next_known.period ≡ other.slot.period
+          → IsGcd mine.slot.period other.slot.period next_known.divisor → Turn t next a n m mine next_known (get_or next b 0)
       turn_on so e x same g = record {
         limit = i.limit;
         chained = i.chained;
