@@ -8,7 +8,6 @@ use native.Mathlib.Nat.{eq-or-lt_of_le}
 use native.Mathlib.Omega.{arith}
 use Rattle.basics.proofs.Splits.{lt_or_ge}
 use Rattle.table.specs.Layout.{revision_of, leg_count}
-use Rattle.table.specs.declared.Move.{Move}
 use Rattle.shape.specs.Shape.{WellFormedTable}
 use Rattle.shape.proofs.OneShape.{well_no_fault}
 use Rattle.files.specs.declared.Cursor.{Cursor}

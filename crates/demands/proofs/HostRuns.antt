@@ -1,5 +1,5 @@
 -- A run of the calls for C is a run of start, slice and move, call by call, so its verdicts are theirs, and come when theirs do. Assumes nothing.
-use Prim.Native.Nat.{ℕ, ◌+◌, ◌≤◌}
+use Prim.Native.Nat.{ℕ, ◌≤◌}
 use mathlib.Core.Bool.{false}
 use mathlib.Core.Path.{◌≡◌, refl, ◌∙◌, sym, ap, subst}
 use mathlib.Core.List.{List, [], ◌∷◌, ◌++◌}
