@@ -72,9 +72,11 @@ show_build() { # LOG
 
 # Builds a crate with rt, which takes minutes: says so at once, and on a terminal how far it is. What rt says goes to the log.
 # A program is built by 'rt run', which proves it, links it as out/NAME and then runs it, with no input: no command of rt builds a program and
-# leaves it at that. Its status is then the program's own, so a build has ended well where rt says that it runs the program. An archive is built by 'rt lib'.
+# leaves it at that. Its status is then the program's own, so a build has ended well where rt says that it runs the program. An archive is built by 'rt lib',
+# for every x86-64: unlike a program it does not look itself at the processor that it runs on, and rt builds for a later one where it is not told.
 run_rt() { # COMMAND CRATE LOG
-    local status=0 shower='' began=$SECONDS what="the program $2" time=three
+    local status=0 shower='' began=$SECONDS what="the program $2" time=three words=("$1")
+    [[ $1 != lib ]] || words+=(--cpu x86-64)
     case $2 in
     timetable) what="the checker" ;;
     operator) what="the program for slices, moves, words, shape and conversions" ;;
@@ -91,7 +93,7 @@ run_rt() { # COMMAND CRATE LOG
     : >"$3"
     [[ ! -t 2 ]] || { show_build "$3" & shower=$!; }
     # rt works in the crate's folder. The program ends at once, as its input is empty; where it does not, it is stopped.
-    (cd "crates/$2" && exec rt "$1") >"$3" 2>&1 </dev/null || status=$?
+    (cd "crates/$2" && exec rt "${words[@]}") >"$3" 2>&1 </dev/null || status=$?
     [[ $1 != run ]] || { status=1 && built_in "$3" "$2" && status=0; }
     if [[ -n $shower ]]; then
         { kill $shower && wait $shower; } 2>/dev/null
@@ -253,7 +255,10 @@ do_install() {
         put "include/$name.h" "include/$name.h"
     done
     put "$temp/flags" lib/pkgconfig/conepalhui.pc
-    for name in docs/*.md docs/changes/*.md docs/pictures/*.svg; do put "$name" "share/doc/conepalhui/${name#docs/}"; done
+    for name in docs/*.md docs/changes/*.md docs/pictures/*.svg; do
+        # How the sources were brought to another kit is for developers.
+        [[ $name == docs/PORT.md || $name == docs/port-names.md ]] || put "$name" "share/doc/conepalhui/${name#docs/}"
+    done
     put "$temp/page" share/man/man1/conepalhui.1
     put "$temp/command" bin/conepalhui 755 # The last: without it nothing is run.
     printf 'installed %s\n' "$to" || stop "cannot write to standard output"
