@@ -1,5 +1,5 @@
 -- A number as a person types it: a sign or none, and digits.
-use Rattle.std.specs.Prelude.{◌≡◌, ℕ, ◌<◌, Bool, true, false, List, drop, ◌≢◌, slice_index, slice_index_or}
+use Rattle.std.specs.Prelude.{◌≡◌, ℕ, ◌<◌, Bool, true, false, List, drop, ◌≢◌, get_or}
 use Rattle.decimal.specs.Decimal.{Typed, worth_of}
 use Rattle.wishes.specs.declared.number.Number.{Number}
 use Rattle.wishes.specs.declared.number.Number.TheVariants as number
@@ -30,6 +30,6 @@ ReadsDigits s b number.Wrong = Typed s → ⊥
 
 -- Reading a number: what comes after its sign, if it has one, is read as digits.
 pub record ReadsSigned (s : List ℕ) (r : Number) : Type 0 where
-  pub minus : slice_index_or s 0 0 ≡ minus_sign → ReadsDigits (drop 1 s) true r
-  pub plus : slice_index_or s 0 0 ≡ plus_sign → ReadsDigits (drop 1 s) false r
-  pub none : (slice_index s 0 ≢ minus_sign) → (slice_index s 0 ≢ plus_sign) → ReadsDigits s false r
+  pub minus : get_or s 0 0 ≡ minus_sign → ReadsDigits (drop 1 s) true r
+  pub plus : get_or s 0 0 ≡ plus_sign → ReadsDigits (drop 1 s) false r
+  pub none : (get_or s 0 0 ≢ minus_sign) → (get_or s 0 0 ≢ plus_sign) → ReadsDigits s false r
