@@ -73,7 +73,7 @@ show_build() { # LOG
 # Builds a crate with rt, which takes minutes: says so at once, and on a terminal how far it is. What rt says goes to the log.
 # A program is built by 'rt run', which proves it, links it as out/NAME and then runs it, with no input: no command of rt builds a program and
 # leaves it at that. Its status is then the program's own, so a build has ended well where rt says that it runs the program. An archive is built by 'rt lib',
-# for every x86-64: unlike a program it does not look itself at the processor that it runs on, and rt builds for a later one where it is not told.
+# for every x86-64, as its header says: rt builds for a later one where it is not told.
 run_rt() { # COMMAND CRATE LOG
     local status=0 shower='' began=$SECONDS what="the program $2" time=three words=("$1")
     [[ $1 != lib ]] || words+=(--cpu x86-64)

@@ -148,7 +148,8 @@ prove() {
 about_test() {
     cat <<'END'
 Proves every crate with 'rt ci', which also holds the sources to their layout, tries each edit of crates/*/must-fail and runs each program as two
-compilers build it; then runs each tests/*.test, two at a time. What rt ci passed on this machine is kept, and only what changed is proved again.
+compilers build it; then runs each tests/*.test, two at a time. What rt ci passed on this machine is kept, and only what changed is proved again;
+that the cases tell an edit apart is noted in ~/.cache/conepalhui, and run again where something changed on which it rests.
 The last line is 'N passed, M failed'. The exit status is 0 only where something passed and nothing failed.
 END
 }
@@ -163,6 +164,8 @@ do_test() {
     fi
     install_missing
     prove
+    # What tests/edits.test told apart is noted outside the checkout, so that another one need not run it again.
+    [[ -z ${XDG_CACHE_HOME-}${HOME-} ]] || export EDITS_KEPT=${EDITS_KEPT-${XDG_CACHE_HOME:-$HOME/.cache}/conepalhui}
     # Two tests may want a program at once. Where one cannot be built, the tests that run it fail.
     ((failed > 0)) || (for file in "${all_programs[@]}"; do build "$file"; done) >/dev/null 2>&1
     [[ ! -e tests/edits.test ]] || files=(tests/edits.test) # The longest begins first: the others run beside it.
