@@ -18,6 +18,14 @@ find_names() { # [PLAN]
     path=/dev/null
     (($# == 0)) || { path=$(real_path "$1") && path=${path%$'\n.'}; } || stop "cannot find the plan $1"
     [[ ! -e $path.names || -f $path.names ]] || { note "$path.names is no file: numbers are used in place of names" && path=/dev/null; }
+    find_text_names
+}
+
+# Leaves out names whose path is not UTF-8: they cannot be opened.
+find_text_names() {
+    is_text "$path" && return
+    [[ ! -e $path.names ]] || note "the path $(printf %q "$path.names") is not UTF-8: numbers are used in place of names"
+    path=/dev/null
 }
 
 do_explain() {
@@ -25,6 +33,7 @@ do_explain() {
     (($# >= 1 && $# <= 3)) || stop "explain takes a plan, and perhaps a cursor, or a leg and a place: $(usage explain)"
     if (($# == 2)); then
         find_input cursor "$2"
+        need_text "$file"
         asked=cursor
     elif (($# == 3)); then
         is_word "$2" || stop "the leg is $(shown_word "$2"), but it is a number from 0 to 4294967295"
@@ -253,6 +262,7 @@ do_encode() {
     prepare scribe
     take_text "${files[0]}"
     "$find" "${files[1]}"
+    need_text "$cursor"
     [[ ! /dev/fd/0 -ef $cursor && ! /dev/fd/0 -ef $cursor.names ]] ||
         stop "the text ${files[0]} would be replaced by what is made of it: give the plan another name, or the text"
     found=$cursor plan=$cursor
@@ -278,13 +288,15 @@ stop_draw() { stop "$1: '$called help draw' says what is needed"; } # SENTENCE
 
 # Writes a picture to a new file. A signal that comes meanwhile is heard when the program has ended, and then nothing stays of what was written.
 write_picture() { # PLAN NEW KIND NUMBER FROM TO
-    local plan cursor held wrote status='' why name signal=''
+    local plan cursor held wrote status='' why name signal='' path
     prepare draw
     hold_old_and_new "$1" "$2"
+    path=$plan
+    find_text_names
     keep_private
     for name in HUP INT TERM; do trap "signal=$name" $name; done
     drop_new || give_up "cannot remove $cursor.conepalhui-new, and what is written has this name first"
-    wrote=$(run_program draw "${@:3}" "$plan" <"$plan" && printf .)
+    wrote=$(run_program draw "${@:3}" "$path" <"$plan" && printf .)
     [[ -z $signal ]] && take_status || give_up "the program draw gave no whole answer: nothing was written"
     if ((status == 0)); then
         printf '%s' "$wrote" >"$cursor.conepalhui-new" && sync -- "$cursor.conepalhui-new" || give_up "cannot write $2: nothing was written"
@@ -334,5 +346,6 @@ do_draw() {
     fi
     path=$words # Names stand beside the plan.
     [[ $path == /* ]] || path=$from/$path
+    find_text_names
     take_plan draw "$words" && answer draw $kind "$number" "$begins" "$ends" "$path"
 }

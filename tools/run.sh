@@ -138,6 +138,20 @@ stop_at_kept_name() { # PATH
         stop "names that end in .conepalhui-new, .seen, .accepted or .names are kept for files of these commands: give $1 another name"
 }
 
+# Whether a path is UTF-8: the programs open no file by another one.
+is_text() { # PATH
+    local LC_ALL=C more=$'[\x80-\xbf]'
+    [[ $1 =~ ^([$'\x01'-$'\x7f']|[$'\xc2'-$'\xdf']$more|$'\xe0'[$'\xa0'-$'\xbf']$more|[$'\xe1'-$'\xec'$'\xee'$'\xef']$more$more|$'\xed'[$'\x80'-$'\x9f']$more|$'\xf0'[$'\x90'-$'\xbf']$more$more|[$'\xf1'-$'\xf3']$more$more$more|$'\xf4'[$'\x80'-$'\x8f']$more$more)*$ ]]
+}
+
+# Ends a call whose program would be given the path of a file that it could not open.
+need_text() { # PATH...
+    local path
+    for path; do
+        is_text "$path" || stop "the path $(printf %q "$path") is not UTF-8, and no file is opened by such a path: give the file, or its folder, another name"
+    done
+}
+
 # Finds the files $plan and $cursor. Links are followed, so that a file is replaced and not the link to it.
 find_files() { # PLAN CURSOR
     local path
@@ -149,6 +163,7 @@ find_files() { # PLAN CURSOR
         stop_at_kept_name "$path"
     done
     [[ -f $plan ]] || stop "there is no plan file $1"
+    need_text "$plan" "$cursor"
     [[ ! -e $cursor || -f $cursor && -w $cursor ]] || stop "the cursor $2 is not a file that can be written"
     [[ ! -L $cursor.seen && (-f $cursor.seen || ! -e $cursor.seen) ]] || stop "$cursor.seen is no file, and the copy of the plan has this name: give the cursor another name"
     [[ ! $plan -ef $cursor ]] || stop "the plan $1 and the cursor $2 are one file"
@@ -365,6 +380,7 @@ do_convert() {
     [[ ${3-first} == first ]] || stop "there is no older layout '$3': the only one is 'first'"
     prepare operator
     hold_old_and_new "$1" "$2"
+    need_text "$plan" "$cursor"
     consult convert
     release
     printf '%s' "$wrote" || stop "cannot write to standard output"
@@ -526,6 +542,7 @@ do_admit() {
     fi
     prepare slots
     hold_old_and_new "${files[@]}"
+    need_text "$plan" "$cursor"
     consult_slots "${files[1]}"
     release
     printf '%s' "$wrote" || stop "cannot write to standard output"
@@ -568,6 +585,7 @@ give_up() { # SENTENCE
 # Asks the program export to write beside the new file or folder. A signal that comes meanwhile is heard when the program has ended, and then nothing stays of what was written.
 consult_export() { # NEW WORD...
     local name signal=''
+    need_text "$cursor"
     keep_private
     for name in HUP INT TERM; do trap "signal=$name" $name; done
     drop_new || give_up "cannot remove $cursor.conepalhui-new, and what is written has this name first"
