@@ -1,6 +1,6 @@
 -- A number in a unit means one time: the point is no digit, so that it is at one place, and a product has one factor beside a known one. Assumes nothing.
-use Prim.Native.Nat.{ℕ, ◌+◌, ◌*◌, ◌≤◌, ◌<◌, ◌^◌}
-use mathlib.Core.Path.{◌≡◌, refl, sym, ◌∙◌, subst}
+use Prim.Native.Nat.{ℕ, ◌+◌, ◌≤◌, ◌<◌, ◌^◌}
+use mathlib.Core.Path.{◌≡◌, refl, ◌∙◌, subst}
 use mathlib.Core.List.{List, [], ◌∷◌}
 use mathlib.Core.Logic.{◌⊎◌, inl, inr}
 use lib.ListN.{length, get_or, take, drop}
@@ -9,7 +9,7 @@ use native.Mathlib.Nat.{pow-le-pow_right}
 use native.Mathlib.Omega.{arith}
 use Rattle.basics.proofs.Splits.{lt_or_ge}
 use Rattle.decimal.specs.Decimal.{IsDigit, Typed, worth_of, worth_after}
-use Rattle.units.specs.Times.{point_byte, Worth, Plain, Pointed, InUnit}
+use Rattle.units.specs.Times.{point_byte, Plain, Pointed}
 use Rattle.units.specs.Theorems.{InUnitOneAnswer, TimesAtNumbers}
 use Rattle.units.proofs.Scaling.{worth_one}
 

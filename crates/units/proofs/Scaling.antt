@@ -1,7 +1,7 @@
 -- Units and parts of a unit in ns: a product and a quotient, of which nothing is left over. Assumes nothing.
 use Prim.Native.Nat.{ℕ, ◌+◌, ◌*◌, ◌/◌, ◌%◌, ◌≤◌, ◌<◌}
-use mathlib.Core.Path.{◌≡◌, refl, sym, ◌∙◌, ap}
-use native.Mathlib.Nat.{add-mul, mul_right_comm, mul-le-mul, div-add-mod', div-le_self, mul-add-mod_self_right, mul-mod_left, eq_of_mul-eq-mul_right}
+use mathlib.Core.Path.{◌≡◌, sym, ◌∙◌, ap}
+use native.Mathlib.Nat.{add-mul, mul_right_comm, mul-le-mul, div-add-mod', mul-add-mod_self_right, mul-mod_left, eq_of_mul-eq-mul_right}
 use native.Mathlib.Omega.{arith}
 use mir.Syntax.{w32}
 use mir.Val.{Fits}
