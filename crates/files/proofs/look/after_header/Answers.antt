@@ -1,7 +1,7 @@
 -- `files::look::after_header` meets its contract: the limits and the length of the header are told, and the records after it are looked through.
 -- Assumes nothing.
 use Rattle.std.proofs.Common.{refl, inl, inr}
-use Rattle.files.proofs.Looking.{Headed, headed, header_above, header_first, table_cut, table_over, table_file}
+use Rattle.files.proofs.Looking.{Headed, headed, table_cut, table_over, table_file}
 use Rattle.files.proofs.look.after_header.Goals.{After-header_words-told}
 use Rattle.files.proofs.look.after_header.Goals as goal
 
@@ -9,12 +9,6 @@ use Rattle.files.proofs.look.after_header.Goals as goal
 abbrev header : After-header_words-told → Headed
 header c =
     headed c.args.e c.header_words-told.result c.requires.head_len c.requires.row c.header_words-told.ensures
-
-pub overflow_sub-size : goal.overflow_sub-size
-overflow_sub-size c = let d : Headed = header (goal.at.overflow_sub-size c).After-header_words-told in search (header_first d.header)
-
-pub returns-in-Above : goal.returns-in-Above
-returns-in-Above c = inr (inl (refl, refl, let d : Headed = header (goal.at.returns-in-Above c).After-header_words-told in search (header_above d.header)))
 
 pub returns-in-Stop : goal.returns-in-Stop
 returns-in-Stop c =

@@ -1,9 +1,9 @@
 -- `files::one_pass::take_records` meets its contract: the limits and the length of the header are told, and the records after it are taken.
 -- Assumes nothing.
-use Rattle.std.proofs.Common.{refl, sym, inl, inr, arith}
+use Rattle.std.proofs.Common.{refl, inl, inr}
 use Rattle.table.specs.Layout.{current}
-use Rattle.files.proofs.Looking.{Headed, headed, header_above, header_first}
-use Rattle.files.proofs.OnePass.{five_words, size_fits, records_cut, records_over, records_whole}
+use Rattle.files.proofs.Looking.{Headed, headed}
+use Rattle.files.proofs.OnePass.{five_words, records_cut, records_over, records_whole}
 use Rattle.files.proofs.one_pass.take_records.Goals.{After-header_words-told}
 use Rattle.files.proofs.one_pass.take_records.Goals as goal
 
@@ -11,26 +11,6 @@ use Rattle.files.proofs.one_pass.take_records.Goals as goal
 abbrev header : After-header_words-told → Headed
 header c =
     headed current c.header_words-told.result (five_words c.args.words.now c.requires.max_table_words_in_bounds) c.requires.row c.header_words-told.ensures
-
-pub slice_bounds-header_words-end-2 : goal.slice_bounds-header_words-end-2
-slice_bounds-header_words-end-2 c = sym (five_words c.args.words.now c.requires.max_table_words_in_bounds)
-
-pub header_words-told-requires : goal.header_words-told-requires
-header_words-told-requires c = omega (arith, five_words c.args.words.now c.requires.max_table_words_in_bounds)
-
-pub slice_bounds-take_words-count : goal.slice_bounds-take_words-count
-slice_bounds-take_words-count c = let d : Headed = header (goal.at.slice_bounds-take_words-count c).After-header_words-told in search (header_first d.header)
-
-pub slice_bounds-take_words-start : goal.slice_bounds-take_words-start
-slice_bounds-take_words-start c = let d : Headed = header (goal.at.slice_bounds-take_words-start c).After-header_words-told in search (header_first d.header)
-
-pub slice_bounds-take_words-end : goal.slice_bounds-take_words-end
-slice_bounds-take_words-end c =
-    let d : Headed = header (goal.at.slice_bounds-take_words-end c).After-header_words-told in
-    search (size_fits c.args.words.now c.requires.max_table_words_in_bounds d.header)
-
-pub returns-in-Above : goal.returns-in-Above
-returns-in-Above c = inr (inl (refl, refl, let d : Headed = header (goal.at.returns-in-Above c).After-header_words-told in search (header_above d.header)))
 
 pub returns-in-Stop : goal.returns-in-Stop
 returns-in-Stop c =
