@@ -1,13 +1,7 @@
 -- `overlap::gcd` meets its contract: the divisor of the odd parts, doubled as often as both numbers were halved. Assumes nothing.
 use Rattle.std.proofs.Common.{rules}
-use Rattle.overlap.proofs.Halving.{none_left, none_right, first_less, second_less}
+use Rattle.overlap.proofs.Halving.{first_less, second_less}
 use Rattle.overlap.proofs.gcd.Goals as goal
-
-pub returns-then-a-eq0 : goal.returns-then-a-eq0
-returns-then-a-eq0 c = search none_left
-
-pub returns-then-b-eq0 : goal.returns-then-b-eq0
-returns-then-b-eq0 c = search none_right
 
 pub returns-then-x-y : goal.returns-then-x-y
 returns-then-x-y c =
