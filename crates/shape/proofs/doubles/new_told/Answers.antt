@@ -1,9 +1,6 @@
 -- `shape::doubles::new_told` meets its contract: along the chain of the link's bucket every link passed has other ends. Assumes nothing.
-use Rattle.shape.proofs.DoubleLaws.{its_link_lies, chain_begins, earlier_link_lies, chain_meets, earlier_room, chain_less, chain_goes_on, chain_ends}
+use Rattle.shape.proofs.DoubleLaws.{chain_begins, earlier_link_lies, chain_meets, earlier_room, chain_less, chain_goes_on, chain_ends}
 use Rattle.shape.proofs.doubles.new_told.Goals as goal
-
-pub link_in-l-requires : goal.link_in-l-requires
-link_in-l-requires c = search its_link_lies
 
 pub loop-c-init : goal.loop-c-init
 loop-c-init c = search chain_begins

@@ -1,9 +1,6 @@
 -- `shape::legs::link_of` meets its contract: the leg and its link are records of the table's parts. Assumes nothing.
-use Rattle.shape.proofs.RouteLaws.{leg_lies, link_lies, link_read}
+use Rattle.shape.proofs.RouteLaws.{link_lies, link_read}
 use Rattle.shape.proofs.legs.link_of.Goals as goal
-
-pub leg_in-leg-requires : goal.leg_in-leg-requires
-leg_in-leg-requires c = search leg_lies
 
 pub link_in-requires : goal.link_in-requires
 link_in-requires c = search link_lies
