@@ -1,6 +1,6 @@
 -- `repeats::first_meeting` meets its contract: the earlier of two first beginnings. Assumes nothing.
 use Rattle.std.proofs.Common.{sym, subst}
-use Rattle.repeats.proofs.Joining.{Both, also_begins, AlsoBegins, only_other, only_later, other_first, later_first}
+use Rattle.repeats.proofs.Joining.{Both, also_begins, AlsoBegins, only_other, other_first, later_first}
 use Rattle.repeats.proofs.first_meeting.Goals.{After-exchange-other}
 use Rattle.repeats.proofs.first_meeting.Goals as goal
 
@@ -21,9 +21,6 @@ here c =
 
 pub returns-in_default : goal.returns-in_default
 returns-in_default c = let p : Both = here (goal.at.returns-in_default c).After-exchange-other in search (only_other p)
-
-pub returns-in_default-other : goal.returns-in_default-other
-returns-in_default-other c = let p : Both = here (goal.at.returns-in_default-other c).After-exchange-other in search (only_later p)
 
 pub returns-then-y-x : goal.returns-then-y-x
 returns-then-y-x c = let p : Both = here (goal.at.returns-then-y-x c).After-exchange-other in search (other_first p)
