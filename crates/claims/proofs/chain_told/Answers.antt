@@ -1,8 +1,8 @@
 -- `claims::chain_told` meets its contract. Assumes nothing.
-use Rattle.std.proofs.Common.{◌∙◌, ◌≤◌, ◌<◌, arith, w64, SFits, to_z, to_z-of_z}
+use Rattle.std.proofs.Common.{◌∙◌, arith, w64, SFits, to_z, to_z-of_z}
 use Rattle.signed.proofs.Parts.{mag_abs}
-use Rattle.signed.proofs.Ranges.{le_true, le_false}
-use Rattle.claims.proofs.Linking.{Looking, none_yet, wrong_start, twice, one_more, not_closed, not_negative, closes, names_none, names}
+use Rattle.signed.proofs.Ranges.{le_false}
+use Rattle.claims.proofs.Linking.{Looking, none_yet, wrong_start, twice, one_more, not_closed, closes, names}
 use Rattle.claims.proofs.chain_told.Goals.{In-At-named}
 use Rattle.claims.proofs.chain_told.Goals as goal
 
@@ -25,60 +25,21 @@ here c =
       reads = named.1;
     }
 
-event-in : (l : Looking) → l.r.from < 128
-event-in l = omega (arith, l.reads.from_in, l.linked_so.range.size.events)
-
-placed : (l : Looking) → l.a ≤ 128
-placed l = omega (arith, l.linked_so.count, l.linked_so.range.size.events)
-
 most-fits : (l : Looking) → SFits w64 l.r.most
 most-fits l = record { sfits = omega (arith, mag_abs l.r.most, l.reads.most_in) }
 
-pub returns-then-numbers-eq0 : goal.returns-then-numbers-eq0
-returns-then-numbers-eq0 c = λ ch. omega (arith, ch.some)
-
-pub returns-in_default : goal.returns-in_default
-returns-in_default c =
-    names_none c.args.events c.args.constraints.now c.args.numbers.now 0 c.named_at-begin.result (search) c.named_at-begin.ensures (omega arith)
-
 pub loop-a-init : goal.loop-a-init
-loop-a-init c =
-    (
-      omega arith,
-      none_yet c.args.events c.args.constraints.now c.args.numbers.now c.in-At.b.from c.requires
-          (names c.args.events c.args.constraints.now c.args.numbers.now 0 c.named_at-begin.result c.in-At.is c.named_at-begin.ensures).1.from,
-    )
-
-pub returns-in_default-named : goal.returns-in_default-named
-returns-in_default-named c =
-    names_none c.args.events c.args.constraints.now c.args.numbers.now c.loop-a.a c.named_at-named.result (search) c.named_at-named.ensures c.loop-a-test.true
+loop-a-init c = (
+  omega arith,
+  none_yet c.args.events c.args.constraints.now c.args.numbers.now c.in-At.b.from c.requires
+      (names c.args.events c.args.constraints.now c.args.numbers.now 0 c.named_at-begin.result c.in-At.is c.named_at-begin.ensures).1.from,
+)
 
 pub returns-then-i-at : goal.returns-then-i-at
 returns-then-i-at c = let l : Looking = here (goal.at.returns-then-i-at c).In-At-named in wrong_start l c.if-i-at.true
 
-pub offset_bounds-seen-i : goal.offset_bounds-seen-i
-offset_bounds-seen-i c = let l : Looking = here (goal.at.offset_bounds-seen-i c).In-At-named in record { fits = omega (arith, event-in l) }
-
-pub bounds-seen-i : goal.bounds-seen-i
-bounds-seen-i c = let l : Looking = here (goal.at.bounds-seen-i c).In-At-named in omega (arith, event-in l)
-
 pub returns-then-seen-i-ne0 : goal.returns-then-seen-i-ne0
 returns-then-seen-i-ne0 c = let l : Looking = here (goal.at.returns-then-seen-i-ne0 c).In-At-named in twice l c.if-seen-i-ne0.true
-
-pub overflow_add-seen : goal.overflow_add-seen
-overflow_add-seen c = let l : Looking = here (goal.at.overflow_add-seen c).In-At-named in record { fits = omega (arith, placed l) }
-
-pub offset_bounds-seen-i-in-loop-a : goal.offset_bounds-seen-i-in-loop-a
-offset_bounds-seen-i-in-loop-a c = let l : Looking = here (goal.at.offset_bounds-seen-i-in-loop-a c).In-At-named in record { fits = omega (arith, event-in l) }
-
-pub bounds-seen-i-in-loop-a : goal.bounds-seen-i-in-loop-a
-bounds-seen-i-in-loop-a c = let l : Looking = here (goal.at.bounds-seen-i-in-loop-a c).In-At-named in omega (arith, event-in l)
-
-pub sum-sum-requires : goal.sum-sum-requires
-sum-sum-requires c = let l : Looking = here (goal.at.sum-sum-requires c).In-At-named in rw (to_z-of_z (most-fits l)) (omega (arith, l.linked_so.small, placed l, l.reads.most_in))
-
-pub overflow_add-a : goal.overflow_add-a
-overflow_add-a c = let l : Looking = here (goal.at.overflow_add-a c).In-At-named in record { fits = omega (arith, placed l) }
 
 pub loop-a-preserved : goal.loop-a-preserved
 loop-a-preserved c =
@@ -88,9 +49,6 @@ loop-a-preserved c =
 
 pub returns-then-at-first : goal.returns-then-at-first
 returns-then-at-first c = not_closed c.loop-a.invariant.1 (omega arith) (omega arith) c.if-at-first.true
-
-pub returns-then-sum-ge0 : goal.returns-then-sum-ge0
-returns-then-sum-ge0 c = not_negative c.loop-a.invariant.1 (omega arith) (omega arith) (le_true (search))
 
 pub returns : goal.returns
 returns c = closes c.loop-a.invariant.1 (omega arith) (omega arith) c.if-at-first.false (le_false (search))
