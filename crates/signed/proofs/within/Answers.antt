@@ -1,8 +1,8 @@
 -- `signed::within` meets its contract: x plus c is made only where it fits, and elsewhere the answer is known. Assumes nothing.
-use Rattle.std.proofs.Common.{arith, ◌≡◌, sym, true, false, pos, ◌+ℤ◌, ◌-ℤ◌, ◌≤ℤ◌, ◌<ℤ◌, w64, SFits, to_z, of_z, to_z-of_z}
+use Rattle.std.proofs.Common.{arith, ◌≡◌, true, false, pos, ◌+ℤ◌, ◌-ℤ◌, ◌≤ℤ◌, ◌<ℤ◌, w64, SFits, to_z, of_z, to_z-of_z}
 use lib.Signed.{le_z, lt_z}
-use Rattle.signed.proofs.Parts.{le, lt, to_le, to_lt, add, minus}
-use Rattle.signed.proofs.Ranges.{less_yes, less_no, top, bottom, fits_of, fits_top, fits_bottom, le_true, le_false, true_le, false_le, moved}
+use Rattle.signed.proofs.Parts.{le, lt, to_le, add, minus}
+use Rattle.signed.proofs.Ranges.{less_no, top, bottom, fits_of, fits_top, fits_bottom, le_true, le_false, moved}
 use Rattle.signed.proofs.within.Goals.{Else-c-ge0, Else-c-x, Else-x-c, Then-c-ge0}
 use Rattle.signed.proofs.within.Goals as goal
 
@@ -49,37 +49,9 @@ sum_low c =
     (to_le (omega (arith, lt below, le (fits_top c.args.x c.ranges.x), add c.args.x c.args.c)))
     (to_le (omega (arith, le d, minus bottom c.args.c, add c.args.x c.args.c)))
 
-pub overflow_sub-c : goal.overflow_sub-c
-overflow_sub-c c = rw (to_z-of_z c.ranges.c) (high (goal.at.overflow_sub-c c).Then-c-ge0)
-
-pub returns-then-c-x : goal.returns-then-c-x
-returns-then-c-x c =
-    let e : lt_z (to_z w64 (of_z w64 (top -ℤ to_z w64 (of_z w64 c.args.c)))) (to_z w64 (of_z w64 c.args.x)) ≡ true = c.if-c-x.true
-    in let d : (top -ℤ c.args.c) <ℤ c.args.x = less_yes (high (goal.at.returns-then-c-x c).Then-c-ge0) c.ranges.x (rw (to_z-of_z c.ranges.c) at e)
-    in sym
-    (true_le (c.args.y -ℤ c.args.x) c.args.c
-    (to_le (omega (arith, lt d, minus top c.args.c, minus c.args.y c.args.x, le (fits_top c.args.y c.ranges.y)))))
-
-pub overflow_add-result : goal.overflow_add-result
-overflow_add-result c = rw (to_z-of_z c.ranges.x, to_z-of_z c.ranges.c) (sum-high (goal.at.overflow_add-result c).Else-c-x)
-
 pub returns-then-c-ge0 : goal.returns-then-c-ge0
 returns-then-c-ge0 c =
     rw (to_z-of_z c.ranges.x, to_z-of_z c.ranges.c, to_z-of_z c.ranges.y, to_z-of_z (sum-high (goal.at.returns-then-c-ge0 c).Else-c-x)) (moved c.args.x c.args.y c.args.c)
-
-pub overflow_sub-c-2 : goal.overflow_sub-c-2
-overflow_sub-c-2 c = rw (to_z-of_z c.ranges.c) (low (goal.at.overflow_sub-c-2 c).Else-c-ge0)
-
-pub returns-then-x-c : goal.returns-then-x-c
-returns-then-x-c c =
-    let e : lt_z (to_z w64 (of_z w64 c.args.x)) (to_z w64 (of_z w64 (bottom -ℤ to_z w64 (of_z w64 c.args.c)))) ≡ true = c.if-x-c.true
-    in let d : c.args.x <ℤ (bottom -ℤ c.args.c) = less_yes c.ranges.x (low (goal.at.returns-then-x-c c).Else-c-ge0) (rw (to_z-of_z c.ranges.c) at e)
-    in sym
-    (false_le (c.args.y -ℤ c.args.x) c.args.c
-    (to_lt (omega (arith, lt d, minus bottom c.args.c, minus c.args.y c.args.x, le (fits_bottom c.args.y c.ranges.y)))))
-
-pub overflow_add-result-2 : goal.overflow_add-result-2
-overflow_add-result-2 c = rw (to_z-of_z c.ranges.x, to_z-of_z c.ranges.c) (sum_low (goal.at.overflow_add-result-2 c).Else-x-c)
 
 pub returns : goal.returns
 returns c =
