@@ -6,9 +6,6 @@ use Rattle.rules.proofs.judge.hop_told.Goals as goal
 pub returns-then-a-f : goal.returns-then-a-f
 returns-then-a-f c = search first_has_no_hop
 
-pub ready-requires-clause-leg_in : goal.ready-requires-clause-leg_in
-ready-requires-clause-leg_in c = record { table = search; leg = omega arith }
-
 pub returns-then-ready-f : goal.returns-then-ready-f
 returns-then-ready-f c = let next : c.args.a ≡ c.args.a - 1 + 1 = omega arith in search hop_kept
 

@@ -1,15 +1,12 @@
 -- `rules::times::frame` meets its contract: the leg, its stream and its link are records of the table's parts. Assumes nothing.
 use Rattle.std.proofs.Common.{arith}
-use Rattle.rules.proofs.Framing.{Reading, reading, leg_lies, stream_lies, link_lies, frame_read}
+use Rattle.rules.proofs.Framing.{Reading, reading, stream_lies, link_lies, frame_read}
 use Rattle.rules.proofs.times.frame.Goals.{After-link_in-link}
 use Rattle.rules.proofs.times.frame.Goals as goal
 
 -- The three records, once they are read.
 abbrev read : After-link_in-link → Reading
 read c = search reading
-
-pub leg_in-leg-requires : goal.leg_in-leg-requires
-leg_in-leg-requires c = search leg_lies
 
 pub stream_in-stream-requires : goal.stream_in-stream-requires
 stream_in-stream-requires c = search stream_lies
@@ -40,9 +37,6 @@ hold_time-requires-clause-le_rate c = let r : Reading = read (goal.at.hold_time-
 
 pub hold_time-requires-clause-rate_le_max_rate : goal.hold_time-requires-clause-rate_le_max_rate
 hold_time-requires-clause-rate_le_max_rate c = let r : Reading = read (goal.at.hold_time-requires-clause-rate_le_max_rate c).After-link_in-link in omega arith
-
-pub overflow_add-result : goal.overflow_add-result
-overflow_add-result c = let r : Reading = read (goal.at.overflow_add-result c).After-link_in-link in omega arith
 
 pub returns : goal.returns
 returns c = let r : Reading = read (goal.at.returns c).After-link_in-link in search (frame_read r)

@@ -12,11 +12,6 @@ product n r some few slow fast =
     let k : 1 * 1 ≤ n * r = mul-le-mul some slow in
     (omega arith, omega arith)
 
-pub overflow_mul-result : goal.overflow_mul-result
-overflow_mul-result c =
-    let p = product (c.wide.result + c.args.beside) c.wide-2.result (omega arith) (omega arith) (omega arith) (omega arith) in
-    omega arith
-
 pub returns : goal.returns
 unfolding lasting
 returns c =

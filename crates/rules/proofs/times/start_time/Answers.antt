@@ -8,16 +8,6 @@ use Rattle.rules.proofs.times.start_time.Goals as goal
 latest : (n p : ℕ) → n ≤ max_periods → p ≤ max_period → n * p ≤ max_periods * max_period
 latest n p few short = mul-le-mul few short
 
-pub overflow_mul-late : goal.overflow_mul-late
-overflow_mul-late c =
-    let l = latest c.wide.result c.wide-2.result (omega arith) (omega arith) in
-    omega arith
-
-pub overflow_add-result : goal.overflow_add-result
-overflow_add-result c =
-    let l = latest c.wide.result c.wide-2.result (omega arith) (omega arith) in
-    omega arith
-
 pub returns : goal.returns
 unfolding start_time
 returns c =
