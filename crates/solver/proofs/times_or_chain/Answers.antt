@@ -1,26 +1,12 @@
 -- `solver::times_or_chain` meets its contract. Assumes nothing.
-use Rattle.std.proofs.Common.{refl, subst}
+use Rattle.std.proofs.Common.{subst}
 use Rattle.solver.specs.Steps.{Ended}
 use Rattle.solver.proofs.Ends.{begun, set_off}
 use Rattle.solver.proofs.times_or_chain.Goals as goal
 
-pub rounds-step-requires-clause-network_in_range : goal.rounds-step-requires-clause-network_in_range
-rounds-step-requires-clause-network_in_range c = c.requires.network_in_range
-
 pub rounds-step-requires-clause-stands : goal.rounds-step-requires-clause-stands
 rounds-step-requires-clause-stands c = begun c.args.events c.args.constraints.now c.requires.network_in_range
 
-pub chain_from-length-requires-clause-network_in_range : goal.chain_from-length-requires-clause-network_in_range
-chain_from-length-requires-clause-network_in_range c = c.requires.network_in_range
-
 pub chain_from-length-requires-clause-walking : goal.chain_from-length-requires-clause-walking
 chain_from-length-requires-clause-walking c = set_off c.args.events c.args.constraints.now c.requires.network_in_range c.in-Lowered.v c.rounds-step.new.times c.rounds-step.new.ticks c.rounds-step.new.by
-            (subst (λ s. Ended s c.args.events c.args.constraints.now c.rounds-step.new.times c.rounds-step.new.ticks c.rounds-step.new.by) c.in-Lowered.is c.rounds-step.ensures)
-
-pub returns-in-Stayed : goal.returns-in-Stayed
-returns-in-Stayed c =
-    (
-      (c.requires.network_in_range, c.requires.events_in_bounds),
-      subst (λ s. Ended s c.args.events c.args.constraints.now c.rounds-step.new.times c.rounds-step.new.ticks c.rounds-step.new.by) c.in-Stayed.is c.rounds-step.ensures,
-      refl,
-    )
+    (subst (λ s. Ended s c.args.events c.args.constraints.now c.rounds-step.new.times c.rounds-step.new.ticks c.rounds-step.new.by) c.in-Lowered.is c.rounds-step.ensures)

@@ -1,5 +1,5 @@
 -- `solver::rounds::lower` meets its contract: a broken constraint lowers its end, and one that holds changes nothing. Assumes nothing.
-use Rattle.std.proofs.Common.{◌≡◌, ◌∙◌, ◌+◌, ◌<◌, arith, ◌+ℤ◌, get_or-set_same, w64, SFits, to_z-of_z}
+use Rattle.std.proofs.Common.{◌≡◌, ◌∙◌, ◌<◌, arith, ◌+ℤ◌, w64, SFits, to_z-of_z}
 use Rattle.signed.proofs.Parts.{mag_abs}
 use Rattle.signed.proofs.Ranges.{less_yes, less_no}
 use Rattle.network.specs.Constraints.{max_events, times_of}
@@ -31,21 +31,12 @@ sum-s-requires c =
     (omega (arith, c.requires.stands.kept.small c.constraint_at-c.result.from c.constraint_at-c.ensures.from_in, c.constraint_at-c.ensures.most_in))
 
 pub returns-then-s-y-clause-stands_2 : goal.returns-then-s-y-clause-stands_2
-returns-then-s-y-clause-stands_2 c = let j : c.constraint_at-c.result.to < max_events = omega (arith, c.constraint_at-c.ensures.to_in, c.requires.network_in_range.size.events) in  rw (to_z-of_z (sum_fits (goal.at.returns-then-s-y-clause-stands_2 c).After-sum-s))
-          (fell c.args.events c.args.constraints.now c.args.base c.args.k c.args.times.now c.args.ticks.now c.args.by.now
-          c.requires.network_in_range c.requires.k_bound_2 c.requires.stands c.constraint_at-c.result c.constraint_at-c.ensures c.sum-s.result (sum_is (goal.at.returns-then-s-y-clause-stands_2 c).After-sum-s)
-          (less_yes (sum_fits (goal.at.returns-then-s-y-clause-stands_2 c).After-sum-s) (end_fits (goal.at.returns-then-s-y-clause-stands_2 c).After-y-1) c.if-s-y.true))
-
-pub returns-then-s-y-clause-last_2 : goal.returns-then-s-y-clause-last_2
-returns-then-s-y-clause-last_2 c = let j : c.constraint_at-c.result.to < max_events = omega (arith, c.constraint_at-c.ensures.to_in, c.requires.network_in_range.size.events) in  (
-        c.constraint_at-c.ensures.to_in,
-        rw (get_or-set_same c.args.ticks.now c.constraint_at-c.result.to (c.args.base + c.args.k + 1) 0 (omega (arith, c.requires.stands.ticks))) (omega arith),
-      )
+returns-then-s-y-clause-stands_2 c = let j : c.constraint_at-c.result.to < max_events = omega (arith, c.constraint_at-c.ensures.to_in, c.requires.network_in_range.size.events) in rw (to_z-of_z (sum_fits (goal.at.returns-then-s-y-clause-stands_2 c).After-sum-s))
+    (fell c.args.events c.args.constraints.now c.args.base c.args.k c.args.times.now c.args.ticks.now c.args.by.now
+    c.requires.network_in_range c.requires.k_bound_2 c.requires.stands c.constraint_at-c.result c.constraint_at-c.ensures c.sum-s.result (sum_is (goal.at.returns-then-s-y-clause-stands_2 c).After-sum-s)
+    (less_yes (sum_fits (goal.at.returns-then-s-y-clause-stands_2 c).After-sum-s) (end_fits (goal.at.returns-then-s-y-clause-stands_2 c).After-y-1) c.if-s-y.true))
 
 pub returns-clause-stands_2 : goal.returns-clause-stands_2
 returns-clause-stands_2 c = stayed c.args.events c.args.constraints.now c.args.base c.args.k c.args.times.now c.args.ticks.now c.args.by.now
-          c.requires.network_in_range c.requires.k_bound_2 c.requires.stands c.constraint_at-c.result c.constraint_at-c.ensures c.sum-s.result (sum_is (goal.at.returns-clause-stands_2 c).After-sum-s)
-          (less_no (sum_fits (goal.at.returns-clause-stands_2 c).After-sum-s) (end_fits (goal.at.returns-clause-stands_2 c).After-y-1) c.if-s-y.false)
-
-pub returns-clause-last_2 : goal.returns-clause-last_2
-returns-clause-last_2 c = c.requires.last
+    c.requires.network_in_range c.requires.k_bound_2 c.requires.stands c.constraint_at-c.result c.constraint_at-c.ensures c.sum-s.result (sum_is (goal.at.returns-clause-stands_2 c).After-sum-s)
+    (less_no (sum_fits (goal.at.returns-clause-stands_2 c).After-sum-s) (end_fits (goal.at.returns-clause-stands_2 c).After-y-1) c.if-s-y.false)

@@ -4,12 +4,9 @@ use Rattle.network.specs.Constraints.{network_of, constraint_count}
 use Rattle.solver.proofs.SteppingBack.{edge, stepped}
 use Rattle.solver.proofs.walk.back.Goals as goal
 
-pub constraint_at-c-requires-clause-network_in_range : goal.constraint_at-c-requires-clause-network_in_range
-constraint_at-c-requires-clause-network_in_range c = c.requires.network_in_range
-
 pub constraint_at-c-requires-clause-k_bound : goal.constraint_at-c-requires-clause-k_bound
 constraint_at-c-requires-clause-k_bound c = subst (λ k. k < constraint_count c.args.constraints.now) (sym c.wide.ensures)
-          (edge c.args.events c.args.constraints.now c.args.by.now c.args.k c.args.x c.args.path.now c.args.seen.now c.requires.network_in_range c.requires.walking c.requires.x_value)
+    (edge c.args.events c.args.constraints.now c.args.by.now c.args.k c.args.x c.args.path.now c.args.seen.now c.requires.network_in_range c.requires.walking c.requires.x_value)
 
 pub returns : goal.returns
 returns c =

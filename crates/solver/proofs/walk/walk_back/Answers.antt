@@ -21,50 +21,8 @@ seen_in : (c : After-loop-seen) → get_or c.loop-seen.seen c.loop-seen.x 0 ≤ 
 seen_in c =
     (c.loop-seen.invariant.walked.found c.loop-seen.x c.loop-seen.invariant.walked.here (met c)).0
 
-pub loop-seen-init : goal.loop-seen-init
-loop-seen-init c = c.requires.walking
-
-pub offset_bounds-seen-x : goal.offset_bounds-seen-x
-offset_bounds-seen-x c = record { fits = omega (arith, here (goal.at.offset_bounds-seen-x c).At-loop-seen) }
-
-pub bounds-seen-x : goal.bounds-seen-x
-bounds-seen-x c = omega (arith, here (goal.at.bounds-seen-x c).At-loop-seen)
-
 pub back-x-requires-clause-k_lt_max_events : goal.back-x-requires-clause-k_lt_max_events
 back-x-requires-clause-k_lt_max_events c = (omega (arith, space-of (goal.at.back-x-requires-clause-k_lt_max_events c).In-loop-seen, c.requires.network_in_range.size.events), omega (arith, here (goal.at.back-x-requires-clause-k_lt_max_events c).At-loop-seen))
-
-pub back-x-requires-clause-network_in_range : goal.back-x-requires-clause-network_in_range
-back-x-requires-clause-network_in_range c = c.requires.network_in_range
-
-pub back-x-requires-clause-walking : goal.back-x-requires-clause-walking
-back-x-requires-clause-walking c = c.loop-seen.invariant
-
-pub back-x-requires-clause-x_value : goal.back-x-requires-clause-x_value
-back-x-requires-clause-x_value c = c.loop-seen-test.true
-
-pub overflow_add-k : goal.overflow_add-k
-overflow_add-k c = record { fits = omega (arith, space-of (goal.at.overflow_add-k c).In-loop-seen, c.requires.network_in_range.size.events) }
-
-pub loop-seen-smaller : goal.loop-seen-smaller
-loop-seen-smaller c = omega (arith, space-of (goal.at.loop-seen-smaller c).In-loop-seen)
-
-pub loop-seen-preserved : goal.loop-seen-preserved
-loop-seen-preserved c = c.back-x.ensures
-
-pub overflow_sub-result : goal.overflow_sub-result
-overflow_sub-result c = omega (arith, walked-in (goal.at.overflow_sub-result c).At-loop-seen)
-
-pub overflow_add-result : goal.overflow_add-result
-overflow_add-result c = record { fits = omega (arith, walked-in (goal.at.overflow_add-result c).At-loop-seen) }
-
-pub offset_bounds-seen-x-2 : goal.offset_bounds-seen-x-2
-offset_bounds-seen-x-2 c = record { fits = omega (arith, here (goal.at.offset_bounds-seen-x-2 c).At-loop-seen) }
-
-pub bounds-seen-x-2 : goal.bounds-seen-x-2
-bounds-seen-x-2 c = omega (arith, here (goal.at.bounds-seen-x-2 c).At-loop-seen)
-
-pub overflow_sub-result-2 : goal.overflow_sub-result-2
-overflow_sub-result-2 c = omega (arith, seen_in (goal.at.overflow_sub-result-2 c).After-loop-seen)
 
 pub returns : goal.returns
 returns c =
