@@ -2,9 +2,6 @@
 use Rattle.seen.proofs.Laws.{refused_no_plan}
 use Rattle.seen.proofs.is_plan.Goals as goal
 
-pub returns-in-Words : goal.returns-in-Words
-returns-in-Words c = let r = rw c.in-Words.is at c.plan_size-told.ensures in (r.0, r.1)
-
 pub returns-in-Refused : goal.returns-in-Refused
 returns-in-Refused c =
     let r = rw c.in-Refused.is at c.plan_size-told.ensures in
