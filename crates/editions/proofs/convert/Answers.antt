@@ -5,10 +5,7 @@ use Rattle.editions.proofs.Filling.{header_numbers, old_header, size_today, limi
 use Rattle.editions.proofs.convert.Goals as goal
 
 pub fill-requires-clause-all_numbers : goal.fill-requires-clause-all_numbers
-fill-requires-clause-all_numbers c = let u = c.requires.old_file in  header_numbers u.0 u.1
-
-pub fill-requires-clause-count_in_bounds : goal.fill-requires-clause-count_in_bounds
-fill-requires-clause-count_in_bounds c = let u = c.requires.old_file in  omega arith
+fill-requires-clause-all_numbers c = let u = c.requires.old_file in header_numbers u.0 u.1
 
 pub returns-then-words-size : goal.returns-then-words-size
 returns-then-words-size c =
@@ -17,24 +14,20 @@ returns-then-words-size c =
     let n = size_today u.0 u.1 c.fill.ensures refl c.requires.older w.1 in
     (inr (refl, refl, record { table = u.0; file = u.1; long = omega arith }), refl)
 
-pub put_converted-requires-clause-older : goal.put_converted-requires-clause-older
-put_converted-requires-clause-older c = let o = c.requires.older in
-    o
-
 pub put_converted-requires-clause-counted : goal.put_converted-requires-clause-counted
 put_converted-requires-clause-counted c = let o = c.requires.older in
     let u = c.requires.old_file in
     let w = rw c.in-Within.is at c.header_words-told.ensures in
     let h = old_header u.0 u.1 c.fill.ensures refl in
     let n = size_today u.0 u.1 c.fill.ensures refl o w.1 in
-    let l = converted_long o u.0 u.1.complete in  record {
-        table = u.0;
-        file = u.1;
-        links_are = h.word 1 (omega arith);
-        streams_are = h.word 2 (omega arith);
-        legs_are = h.word 3 (omega arith);
-        fits = omega arith;
-      }
+    let l = converted_long o u.0 u.1.complete in record {
+      table = u.0;
+      file = u.1;
+      links_are = h.word 1 (omega arith);
+      streams_are = h.word 2 (omega arith);
+      legs_are = h.word 3 (omega arith);
+      fits = omega arith;
+    }
 
 pub returns-in-Above : goal.returns-in-Above
 returns-in-Above c =

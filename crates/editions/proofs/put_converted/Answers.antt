@@ -1,30 +1,19 @@
 -- `editions::put_converted` meets its contract: the three parts are taken one after the other. Assumes nothing.
 use Rattle.std.proofs.Common.{ℕ, ◌+◌, ap, arith}
 use Rattle.table.specs.Layout.{head_words}
-use Rattle.editions.proofs.Filling.{parts_room, front_numbers, front_long, streams_numbers, streams_long, legs_numbers, all_converted}
+use Rattle.editions.proofs.Filling.{front_numbers, streams_numbers, legs_numbers, all_converted}
 use Rattle.editions.proofs.put_converted.Goals as goal
 
 pub fill_on-first_stream-requires-clause-all_numbers : goal.fill_on-first_stream-requires-clause-all_numbers
 fill_on-first_stream-requires-clause-all_numbers c = let front = ap (λ (x : ℕ). head_words + x) c.part_words-at_streams.ensures.is in
-     front_numbers c.requires.older c.requires.counted front
-
-pub fill_on-first_stream-requires-clause-count_in_bounds : goal.fill_on-first_stream-requires-clause-count_in_bounds
-fill_on-first_stream-requires-clause-count_in_bounds c = let front = ap (λ (x : ℕ). head_words + x) c.part_words-at_streams.ensures.is in
-     omega (arith, parts_room c.requires.older c.requires.counted front)
+    front_numbers c.requires.older c.requires.counted front
 
 pub fill_wider-first_leg-requires-clause-all_numbers : goal.fill_wider-first_leg-requires-clause-all_numbers
 fill_wider-first_leg-requires-clause-all_numbers c = let o = c.requires.older in
     let k = c.requires.counted in
     let front = ap (λ (x : ℕ). head_words + x) c.part_words-at_streams.ensures.is in
     let f = c.fill_on-first_stream.ensures in
-     streams_numbers o k front f
-
-pub fill_wider-first_leg-requires-clause-width_le_wide : goal.fill_wider-first_leg-requires-clause-width_le_wide
-fill_wider-first_leg-requires-clause-width_le_wide c = let o = c.requires.older in
-    let k = c.requires.counted in
-    let front = ap (λ (x : ℕ). head_words + x) c.part_words-at_streams.ensures.is in
-    let f = c.fill_on-first_stream.ensures in
-     (o.stream, omega (arith, parts_room o k front, front_long o k front f))
+    streams_numbers o k front f
 
 pub fill_wider-requires-clause-all_numbers : goal.fill_wider-requires-clause-all_numbers
 fill_wider-requires-clause-all_numbers c = let o = c.requires.older in
@@ -32,15 +21,7 @@ fill_wider-requires-clause-all_numbers c = let o = c.requires.older in
     let front = ap (λ (x : ℕ). head_words + x) c.part_words-at_streams.ensures.is in
     let f = c.fill_on-first_stream.ensures in
     let g = c.fill_wider-first_leg.ensures in
-     legs_numbers o k front f g
-
-pub fill_wider-requires-clause-width_le_wide : goal.fill_wider-requires-clause-width_le_wide
-fill_wider-requires-clause-width_le_wide c = let o = c.requires.older in
-    let k = c.requires.counted in
-    let front = ap (λ (x : ℕ). head_words + x) c.part_words-at_streams.ensures.is in
-    let f = c.fill_on-first_stream.ensures in
-    let g = c.fill_wider-first_leg.ensures in
-     (o.leg, omega (arith, parts_room o k front, streams_long o k front f g, c.part_words.ensures.is))
+    legs_numbers o k front f g
 
 pub returns : goal.returns
 returns c =
