@@ -1,5 +1,5 @@
 -- `checker::move_leg` meets its contract. Assumes nothing.
-use Rattle.std.proofs.Common.{ℕ, ◌+◌, ◌≡◌, refl, subst, List, arith}
+use Rattle.std.proofs.Common.{ℕ, ◌+◌, ◌≡◌, subst, List}
 use Rattle.table.specs.Layout.{revision_of}
 use Rattle.table.specs.Records.{moved}
 use Rattle.table.specs.declared.Move.{Move}
@@ -37,24 +37,6 @@ module _ (s : Told) where
   granted e f b =
       let m = allowed e in
       record { allowed = m; table = f; revision = b.revision; lesser = pulled_to_lesser m.cursor.stands m.can.below b }
-
-pub bounds-t-0 : goal.bounds-t-0
-bounds-t-0 c = let s : Told = here (goal.at.bounds-t-0 c).After-judged_move-told in let m : MoveAllowed s.t s.cursor s.mv = search (allowed s) in omega (arith, m.cursor.shape.sized.head)
-
-pub overflow_add-revision : goal.overflow_add-revision
-overflow_add-revision c = let s : Told = here (goal.at.overflow_add-revision c).After-judged_move-told in let m : MoveAllowed s.t s.cursor s.mv = search (allowed s) in omega (arith, m.can.rises)
-
-pub make_move-requires-clause-sized : goal.make_move-requires-clause-sized
-make_move-requires-clause-sized c = let s : Told = here (goal.at.make_move-requires-clause-sized c).After-judged_move-told in let m : MoveAllowed s.t s.cursor s.mv = search (allowed s) in  m.cursor.shape.sized
-
-pub make_move-requires-clause-leg_bound : goal.make_move-requires-clause-leg_bound
-make_move-requires-clause-leg_bound c = let s : Told = here (goal.at.make_move-requires-clause-leg_bound c).After-judged_move-told in let m : MoveAllowed s.t s.cursor s.mv = search (allowed s) in  m.can.below
-
-pub make_move-requires-clause-revision_value : goal.make_move-requires-clause-revision_value
-make_move-requires-clause-revision_value c = refl
-
-pub returns-in-Refused : goal.returns-in-Refused
-returns-in-Refused c = let s : Told = here (goal.at.returns-in-Refused c).After-judged_move-told in (search (refused s), refl, refl)
 
 pub returns-in-Clear : goal.returns-in-Clear
 returns-in-Clear c = let s : Told = here (goal.at.returns-in-Clear c).After-judged_move-told in search (granted s)

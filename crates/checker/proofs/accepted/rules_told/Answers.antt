@@ -1,12 +1,8 @@
 -- `checker::accepted::rules_told` meets its contract: a slice from a start's cursor, which no table makes pause. Assumes nothing.
 use Rattle.std.proofs.Common.{refl, subst}
-use Rattle.numbers.specs.Number.{max_word}
 use Rattle.checker.specs.Slices.{Slices}
-use Rattle.checker.proofs.Whole.{start_right, few_places, looked_through, looked_broken, not_paused, not_refused}
+use Rattle.checker.proofs.Whole.{few_places, looked_through, looked_broken, not_paused}
 use Rattle.checker.proofs.accepted.rules_told.Goals as goal
-
-pub looked-told-requires : goal.looked-told-requires
-looked-told-requires c = start_right (c.requires, refl)
 
 pub returns-in-NothingViolated : goal.returns-in-NothingViolated
 returns-in-NothingViolated c =
@@ -19,7 +15,3 @@ returns-in-Violated c =
 pub returns-in-Paused : goal.returns-in-Paused
 returns-in-Paused c =
     absurd (not_paused _ _ (c.requires, refl) _ _ _ (few_places _ c.requires) (subst (Slices _ _ _) c.in-Paused.is c.looked-told.ensures))
-
-pub returns-in-Refused : goal.returns-in-Refused
-returns-in-Refused c =
-    absurd (not_refused _ _ (c.requires, refl) _ _ _ max_word (subst (Slices _ _ _) c.in-Refused.is c.looked-told.ensures))

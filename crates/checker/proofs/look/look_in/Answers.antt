@@ -5,14 +5,5 @@ use Rattle.checker.proofs.look.look_in.Goals as goal
 pub chain-requires-clause-guarantees : goal.chain-requires-clause-guarantees
 chain-requires-clause-guarantees c = well_formed_guarantees _ c.requires.cursor_right.shape
 
-pub chain-requires-clause-unbegun : goal.chain-requires-clause-unbegun
-chain-requires-clause-unbegun c = c.requires.unbegun
-
-pub chain-requires-clause-max_legs_in_bounds : goal.chain-requires-clause-max_legs_in_bounds
-chain-requires-clause-max_legs_in_bounds c = c.requires.max_legs_in_bounds
-
-pub look_on-requires-clause-cursor_right : goal.look_on-requires-clause-cursor_right
-look_on-requires-clause-cursor_right c = c.requires.cursor_right
-
 pub look_on-requires-clause-looked : goal.look_on-requires-clause-looked
 look_on-requires-clause-looked c = record { table = well_formed_guarantees _ c.requires.cursor_right.shape; begun = c.chain.ensures.0; chained = c.chain.ensures.1 }
