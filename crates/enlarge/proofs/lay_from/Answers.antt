@@ -5,8 +5,5 @@ use Rattle.enlarge.proofs.lay_from.Goals as goal
 pub lay_legs_from-requires-clause-legs_room : goal.lay_legs_from-requires-clause-legs_room
 lay_legs_from-requires-clause-legs_room c = search new_legs_room
 
-pub lay_legs_from-requires-clause-sends : goal.lay_legs_from-requires-clause-sends
-lay_legs_from-requires-clause-sends c = search new_legs_room
-
 pub returns : goal.returns
 returns c = search grown_laid

@@ -1,5 +1,5 @@
 -- `enlarge::lay_legs_at_zero` meets its contract: the legs passed are laid at offset 0. Assumes nothing.
-use Rattle.enlarge.proofs.LegTurns.{zero_start, zero_long, zero_room, zero_next, zero_end}
+use Rattle.enlarge.proofs.LegTurns.{zero_start, zero_room, zero_next, zero_end}
 use Rattle.enlarge.proofs.lay_legs_at_zero.Goals as goal
 
 pub loop-i-init : goal.loop-i-init
@@ -10,9 +10,6 @@ put_leg-next-requires c = search zero_room
 
 pub loop-i-preserved : goal.loop-i-preserved
 loop-i-preserved c = search zero_next
-
-pub shape_of-out : goal.shape_of-out
-shape_of-out c = search zero_long
 
 pub returns : goal.returns
 returns c = search zero_end

@@ -1,14 +1,8 @@
 -- `enlarge::sent_on` meets its contract: the link is a record of the table's links, and its numbers are small. Assumes nothing.
 use Rattle.std.proofs.Common.{rules}
 use Rattle.shape.specs.Guarantees.{LinkSmall}
-use Rattle.enlarge.proofs.Sending.{link_lies, link_small, sent}
+use Rattle.enlarge.proofs.Sending.{link_small, sent}
 use Rattle.enlarge.proofs.sent_on.Goals as goal
-
-pub link_in-link-requires : goal.link_in-link-requires
-link_in-link-requires c = search link_lies
-
-pub wire_time-requires-clause-octets_le_max_octets : goal.wire_time-requires-clause-octets_le_max_octets
-wire_time-requires-clause-octets_le_max_octets c = let small : LinkSmall c.link_in-link.result = search link_small in search rules
 
 pub wire_time-requires-clause-le_rate : goal.wire_time-requires-clause-le_rate
 wire_time-requires-clause-le_rate c = let small : LinkSmall c.link_in-link.result = search link_small in search rules
