@@ -12,13 +12,9 @@ returns-then-link c = search gathered_other
 pub frame-f-requires : goal.frame-f-requires
 frame-f-requires c = search leg_in_lem
 
-pub add-requires-clause-n_in_bounds : goal.add-requires-clause-n_in_bounds
-add-requires-clause-n_in_bounds c = let p = c.requires in
-     omega (arith, p.may_list.1, p.slots_len, p.gathered.few, p.may_list.0.shape.sized.limits)
-
 pub add-requires-clause-kept : goal.add-requires-clause-kept
 add-requires-clause-kept c = let p = c.requires in
-     is_kept p.may_list.0 refl p.may_list.1 c.frame-f.ensures
+    is_kept p.may_list.0 refl p.may_list.1 c.frame-f.ensures
 
 pub returns : goal.returns
 returns c =
