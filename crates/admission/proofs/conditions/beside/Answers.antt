@@ -1,5 +1,5 @@
 -- `admission::conditions::beside` meets its contract: an old leg asks that the new leg on its link never meets it. Assumes nothing.
-use Rattle.admission.proofs.Asking.{leg_in_lem, sends_met, leg_starts, short_hold, old_asks}
+use Rattle.admission.proofs.Asking.{leg_in_lem, sends_met, leg_starts, old_asks}
 use Rattle.admission.proofs.conditions.beside.Goals as goal
 
 pub hold_on-hold-requires : goal.hold_on-hold-requires
@@ -10,9 +10,6 @@ sharer-requires-clause-leg_in c = search leg_in_lem
 
 pub pair_condition-requires-clause-starts : goal.pair_condition-requires-clause-starts
 pair_condition-requires-clause-starts c = search leg_starts
-
-pub pair_condition-requires-clause-hold_le_max_word : goal.pair_condition-requires-clause-hold_le_max_word
-pair_condition-requires-clause-hold_le_max_word c = search short_hold
 
 pub returns : goal.returns
 returns c =

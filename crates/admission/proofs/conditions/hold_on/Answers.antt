@@ -1,15 +1,9 @@
 -- `admission::conditions::hold_on` meets its contract: the link is a record of the table's links, and its numbers are small. Assumes nothing.
 use Rattle.std.proofs.Common.{rules}
 use Rattle.shape.specs.Guarantees.{LinkSmall}
-use Rattle.enlarge.proofs.Sending.{link_lies, link_small}
+use Rattle.enlarge.proofs.Sending.{link_small}
 use Rattle.admission.proofs.Walking.{held}
 use Rattle.admission.proofs.conditions.hold_on.Goals as goal
-
-pub link_in-l-requires : goal.link_in-l-requires
-link_in-l-requires c = search link_lies
-
-pub hold_time-requires-clause-octets_le_max_octets : goal.hold_time-requires-clause-octets_le_max_octets
-hold_time-requires-clause-octets_le_max_octets c = let small : LinkSmall c.link_in-l.result = search link_small in search rules
 
 pub hold_time-requires-clause-le_rate : goal.hold_time-requires-clause-le_rate
 hold_time-requires-clause-le_rate c = let small : LinkSmall c.link_in-l.result = search link_small in search rules

@@ -1,5 +1,5 @@
 -- `admission::early::can_add_told` meets its contract: what was laid is the table with the stream, and it was judged. Assumes nothing.
-use Rattle.admission.proofs.Refusing.{full_streams, full_legs, laid_long, added, not_added}
+use Rattle.admission.proofs.Refusing.{full_streams, full_legs, added, not_added}
 use Rattle.admission.proofs.early.can_add_told.Goals as goal
 
 pub returns-then-wide-ge-MAX_STREAMS : goal.returns-then-wide-ge-MAX_STREAMS
@@ -7,9 +7,6 @@ returns-then-wide-ge-MAX_STREAMS c = search full_streams
 
 pub returns-then-wide-route : goal.returns-then-wide-route
 returns-then-wide-route c = search full_legs
-
-pub slice_bounds-judged_shape-end : goal.slice_bounds-judged_shape-end
-slice_bounds-judged_shape-end c = search laid_long
 
 pub returns-in-Clear : goal.returns-in-Clear
 returns-in-Clear c = search added
