@@ -258,5 +258,6 @@ fn run<R: Input, O: Write>(rt: &R, out: &mut O) -> io::Result<()> {
 }
 
 fn main(rt: HostRuntime) {
-    let _ = run(&rt, &mut rt.stdout());
+    let mut out = output::to(rt.stdout());
+    let _ = run(&rt, &mut out);
 }

@@ -215,5 +215,6 @@ fn run<R: Clock + Env + Files + Input, O: Write, E: Write>(
 }
 
 fn main(rt: HostRuntime) {
-    let _ = run(&rt, &mut rt.stdout(), &mut rt.stderr());
+    let mut out = output::to(rt.stdout());
+    let _ = run(&rt, &mut out, &mut rt.stderr());
 }

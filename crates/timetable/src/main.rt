@@ -71,5 +71,6 @@ fn run<R: Input, O: Write, E: Write>(rt: &R, out: &mut O, err: &mut E) -> io::Re
 }
 
 fn main(rt: HostRuntime) {
-    let _ = run(&rt, &mut rt.stdout(), &mut rt.stderr());
+    let mut out = output::to(rt.stdout());
+    let _ = run(&rt, &mut out, &mut rt.stderr());
 }

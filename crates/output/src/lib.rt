@@ -1,0 +1,41 @@
+// Standard output as the programs write to it.
+#![tactic(auto)]
+
+use std::io;
+use std::io::{ErrorKind, Write};
+
+// What is written to a stream, or lost there. A pipe that nobody reads any more is an error, so that the program ends at that print; after any other error the print is
+// lost and the program goes on, since files that it still has to write do not depend on what is read of it.
+#[derive(Drop)]
+pub struct Output<W: Write> {
+    to: W,
+}
+
+// Internal: an output to a stream.
+pub fn to<W: Write>(to: W) -> Output<W> {
+    Output { to }
+}
+
+// Whether an error is left to whoever writes: a pipe that nobody reads, and a write that a signal cut off, which is tried again.
+fn is_told(e: &io::Error) -> bool {
+    let kind = e.kind();
+    kind == ErrorKind::BrokenPipe || kind == ErrorKind::Interrupted
+}
+
+impl<W: Write> Write for Output<W> {
+    fn write(&mut self, buf: &[u8]) -> io::Result<usize> {
+        match self.to.write(buf) {
+            Ok(n) => Ok(n),
+            Err(e) => {
+                if is_told(&e) {
+                    return Err(e);
+                }
+                Ok(buf.len())
+            }
+        }
+    }
+
+    fn flush(&mut self) -> io::Result<()> {
+        self.to.flush()
+    }
+}
