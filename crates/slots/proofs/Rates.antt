@@ -2,7 +2,7 @@
 use Rattle.std.proofs.Common.{◌≡◌, ℕ, ◌≤◌}
 use Rattle.basics.specs.Tells.{Tells}
 use Rattle.basics.specs.declared.Holds.{Holds}
-use Rattle.basics.specs.declared.Holds.TheVariants.{Yes, No}
+use Rattle.basics.specs.declared.Holds.TheVariants.{Yes}
 use Rattle.shape.specs.Guarantees.{max_rate}
 use Rattle.shape.specs.Links.{IsRate}
 use Rattle.shape.proofs.Rates.{rate_small}
