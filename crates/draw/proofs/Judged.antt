@@ -2,7 +2,7 @@
 use Rattle.std.proofs.Common.{◌≡◌, ℕ, List}
 use Rattle.basics.specs.declared.Checked.{Checked}
 use Rattle.basics.specs.declared.Checked.TheVariants.{Clear}
-use Rattle.shape.specs.Shape.{ShapeTold, WellFormedTable}
+use Rattle.shape.specs.Shape.{ShapeTold}
 use Rattle.shape.specs.Guarantees.{Guarantees}
 use Rattle.shape.proofs.Placed.{well_formed_guarantees}
 

@@ -1,0 +1,10 @@
+-- `draw::stretch::cycle` is safe and ends: the leg rises to the number of legs. Assumes nothing.
+use Rattle.std.proofs.Common.{◌-◌, ◌≤◌}
+use Rattle.gates.specs.Pairs.{max_cycle}
+use Rattle.draw.proofs.stretch.cycle.Given as goal
+
+abbrev pub invariant-loop-a : goal.invariant-loop-a
+invariant-loop-a l = l.all ≤ max_cycle
+
+abbrev pub decreases-loop-a : goal.decreases-loop-a
+decreases-loop-a l = l.legs - l.a
