@@ -1,7 +1,5 @@
 -- The lowest of many records that is not good.
-use Rattle.std.specs.Prelude.{ℕ, ◌≤◌, ◌<◌}
-use Rattle.basics.specs.declared.Found.{Found}
-use Rattle.basics.specs.declared.Found.TheVariants.{At, Nowhere}
+use Rattle.std.specs.Prelude.{ℕ, ◌≤◌, ◌<◌, Option, Some, None}
 
 -- Good holds of every record below n, and of every record from one up to but without another.
 abbrev pub All : (ℕ → Type 0) → ℕ → Type 0
@@ -18,6 +16,6 @@ pub record Lowest (Good : ℕ → Type 0) (from to p : ℕ) : Type 0 where
   pub before : AllFrom Good from p
 
 -- The lowest that is not good, or that all are.
-abbrev pub Finds : (ℕ → Type 0) → ℕ → ℕ → Found → Type 0
-Finds Good from to (At p) = Lowest Good from to p
-Finds Good from to Nowhere = AllFrom Good from to
+abbrev pub Finds : (ℕ → Type 0) → ℕ → ℕ → Option ℕ → Type 0
+Finds Good from to (Some p) = Lowest Good from to p
+Finds Good from to None = AllFrom Good from to

@@ -11,45 +11,25 @@ use Rattle.numbers.specs.Series.{file_of, Row, overlaid, Laid}
 use Rattle.numbers.specs.Steps.{Numbers, AllNumbers, Stopped, Filled}
 use Rattle.numbers.proofs.Rows.{row_append, row_whole, row_same, file_row}
 use Rattle.table.specs.Layout.{head_words, words_in, LimitsIn, SizedIn}
-use Rattle.table.specs.Size.{LimitsTold}
 use Rattle.table.specs.declared.Edition.{Edition}
-use Rattle.table.specs.declared.Limits.{Limits}
-use Rattle.table.specs.declared.Limits.TheVariants.{Within, Above}
 use Rattle.table.proofs.Headers.{SameHeader, header_in_front, limits_same, words_same}
 use Rattle.files.specs.Reading.{IsFile, Cut, Over}
-use Rattle.files.specs.Plan.{PlanDueIn, HeaderAboveIn}
+use Rattle.files.specs.Plan.{PlanDueIn}
 use Rattle.files.specs.Steps.{PlanTold}
 use Rattle.files.specs.Cursors.{cursor_numbers, CursorComplete}
-use Rattle.files.specs.declared.PlanRead.TheVariants.{Words}
+use Rattle.std.specs.Prelude.{Ok}
+use Rattle.basics.specs.declared.Cause.{Cause}
 
--- The numbers of a header, and what was told of them as the words of an edition's header.
-pub record Header (e : Edition) (s h : List ℕ) (next : ℕ) (told : Limits) : Type 0 where
+-- The numbers of a header within its limits, in an edition where its table has so many words.
+pub record Header (e : Edition) (s h : List ℕ) (next size : ℕ) : Type 0 where
   pub five : length h ≡ head_words
   pub row : Row s 0 h next
-  pub limits : LimitsTold e h told
-
--- The same with its values inside.
-pub record Headed : Type 0 where
-  pub e : Edition
-  pub s : List ℕ
-  pub h : List ℕ
-  pub next : ℕ
-  pub told : Limits
-  pub header : Header e s h next told
-
-abbrev pub headed : (e : Edition) (told : Limits) {s h : List ℕ} {next : ℕ} → length h ≡ head_words → Row s 0 h next → LimitsTold e h told → Headed
-headed e told {s} {h} {next} n r t = record { e = e; s = s; h = h; next = next; told = told; header = record { five = n; row = r; limits = t } }
-
-pub header_above : {e : Edition} {s h : List ℕ} {next : ℕ} {told : Limits} → Header e s h next told → told ≡ Above → HeaderAboveIn e s
-header_above {e} {s} {h} {next} d a = record { head = h; next = next; row = d.row; five = d.five; above = subst (LimitsTold e h) a d.limits }
-
--- After a header that is within its limits: the words that are told, and the records up to p.
-module _ {e : Edition} {s h : List ℕ} {next : ℕ} {told : Limits} (d : Header e s h next told) {size : ℕ} (w : told ≡ Within size) where
   pub within : LimitsIn e h × (size ≡ words_in e h)
-  within = subst (LimitsTold e h) w d.limits
 
+-- After such a header: the table, and the records up to p.
+module _ {e : Edition} {s h : List ℕ} {next size : ℕ} (d : Header e s h next size) where
   pub header_first : head_words ≤ size
-  header_first = omega (arith, within.1)
+  header_first = omega (arith, d.within.1)
 
   front : (r : List ℕ) → SameHeader h (h ++ r)
   front r = header_in_front h r (omega (arith, d.five))
@@ -59,7 +39,7 @@ module _ {e : Edition} {s h : List ℕ} {next : ℕ} {told : Limits} (d : Header
   table_whole r n =
       let l = length-append h r in
       let k = words_same e (front r) in
-      record { head = omega (arith, d.five); limits = limits_same e (front r) within.0; exact = omega (arith, d.five, within.1) }
+      record { head = omega (arith, d.five); limits = limits_same e (front r) d.within.0; exact = omega (arith, d.five, d.within.1) }
 
   module _ {p : ℕ} (n : Numbers s next (size - head_words) p) where
     pub table_over : p < length s → Over (SizedIn e) s p
@@ -71,20 +51,20 @@ module _ {e : Edition} {s h : List ℕ} {next : ℕ} {told : Limits} (d : Header
         record { complete = table_whole n.ws n.count; words = t.words; bytes = row_whole (h ++ n.ws) t z }
 
     pub table_size : size ≡ length (h ++ n.ws)
-    table_size = omega (arith, length-append h n.ws, d.five, n.count, within.1)
+    table_size = omega (arith, length-append h n.ws, d.five, n.count, d.within.1)
 
-    pub table_file : length s ≤ p → PlanTold e s (Words size)
+    pub table_file : length s ≤ p → PlanTold e s (Ok size)
     table_file z = (h ++ n.ws, table_is z, table_size)
 
   -- A record is cut short: another number is due.
-  pub table_cut : {k p : ℕ} → Stopped s next (size - head_words) k p → Cut (PlanDueIn e) s k p
+  pub table_cut : {k : Cause} {p : ℕ} → Stopped s next (size - head_words) k p → Cut (PlanDueIn e) s k p
   table_cut x =
       let l = length-append h x.ws in
       let k = words_same e (front x.ws) in
       record {
         ws = h ++ x.ws;
         row = row_append h x.ws d.row x.row;
-        due = inr (limits_same e (front x.ws) within.0, omega (arith, d.five, within.1, x.short));
+        due = inr (limits_same e (front x.ws) d.within.0, omega (arith, d.five, d.within.1, x.short));
         no_number = x.no_number;
       }
 

@@ -5,6 +5,8 @@ use mathlib.Core.List.{List, [], ◌∷◌, ◌++◌}
 use mathlib.Core.Logic.{inl, inr}
 use lib.ListN.{length}
 use native.Mathlib.Omega.{arith}
+use Rattle.basics.specs.declared.Cause.{Cause}
+use Rattle.basics.specs.declared.Cause.TheVariants as cause
 use Rattle.numbers.specs.Number.{max_word, NoNumber}
 use Rattle.numbers.proofs.Computed.{file_bytes, file_is, total, small_words, row_in_front}
 use Rattle.numbers.proofs.RefusalsAtNumbers.{cut_short, zero_second}
@@ -15,7 +17,7 @@ use Rattle.files.specs.Cursors.{CursorDue, CursorComplete, cursor_words}
 use Rattle.files.specs.RefusalsAtNumbers.{FileRefused, links_above, four_bytes, PlanReadRefusalsAtNumbers, PlanWrittenRefusalsAtNumbers, SavedCursorRefusalsAtNumbers, FileRefusalsAtNumbers}
 
 -- The words ws stand in front, and the number after them, which is due, is refused with k.
-pub cut : (Due : List ℕ → Type 0) (ws rest : List ℕ) (k : ℕ) → total ws ≤ max_word → Due ws → NoNumber (file_bytes ws ++ rest) (length (file_bytes ws)) k
+pub cut : (Due : List ℕ → Type 0) (ws rest : List ℕ) (k : Cause) → total ws ≤ max_word → Due ws → NoNumber (file_bytes ws ++ rest) (length (file_bytes ws)) k
     → Cut Due (file_bytes ws ++ rest) k (length (file_bytes ws))
 cut Due ws rest k h d n = record { ws = ws; row = row_in_front ws rest h; due = d; no_number = n }
 
@@ -24,7 +26,7 @@ over : (Complete : List ℕ → Type 0) (ws rest : List ℕ) → total ws ≤ ma
     → Over Complete (file_bytes ws ++ rest) (length (file_bytes ws))
 over Complete ws rest h c l = record { ws = ws; row = row_in_front ws rest h; complete = c; left_over_lem = l }
 
-plan_cut : (ws rest : List ℕ) (k : ℕ) → total ws ≤ max_word → PlanDue ws → NoNumber (file_bytes ws ++ rest) (length (file_bytes ws)) k → FileRefused (file_bytes ws ++ rest) k (length (file_bytes ws))
+plan_cut : (ws rest : List ℕ) (k : Cause) → total ws ≤ max_word → PlanDue ws → NoNumber (file_bytes ws ++ rest) (length (file_bytes ws)) k → FileRefused (file_bytes ws ++ rest) k (length (file_bytes ws))
 plan_cut ws rest k h d n b = (inl (inl (cut PlanDue ws rest k h d n)), refl)
 
 limits : (r n : ℕ) (ws : List ℕ) → n ≤ max_links → InLimits (r ∷ n ∷ 0 ∷ 0 ∷ 0 ∷ ws)
@@ -35,7 +37,7 @@ empty : (r : ℕ) → Sized (r ∷ 0 ∷ 0 ∷ 0 ∷ 0 ∷ [])
 empty r = record { head = omega arith; limits = limits r 0 [] (omega arith); exact = refl }
 
 -- Five zeros, and bytes after them.
-zeros_over : (b : ℕ) (rest : List ℕ) → FileRefused (0 ∷ 0 ∷ 0 ∷ 0 ∷ 0 ∷ b ∷ rest) 14 5
+zeros_over : (b : ℕ) (rest : List ℕ) → FileRefused (0 ∷ 0 ∷ 0 ∷ 0 ∷ 0 ∷ b ∷ rest) cause.LeftOver 5
 zeros_over b rest buffer = (inl (inr (inr (refl, over Sized (0 ∷ 0 ∷ 0 ∷ 0 ∷ 0 ∷ []) (b ∷ rest) (omega arith) (empty 0) (omega arith)))), refl)
 
 -- The header of one link and three of its numbers: the fourth is due.
@@ -44,11 +46,11 @@ link_due = inr (limits 0 1 _ (omega arith), omega arith)
 
 pub plan_read_refusals_at_numbers : PlanReadRefusalsAtNumbers
 plan_read_refusals_at_numbers = record {
-  missing = plan_cut (0 ∷ 0 ∷ 0 ∷ []) [] 12 (omega arith) (inl (omega arith)) (cut_short _ 3 tt (omega arith));
-  cut_short = plan_cut (0 ∷ 0 ∷ []) (0x80 ∷ []) 12 (omega arith) (inl (omega arith)) (cut_short _ 2 (omega arith, omega arith, tt) (omega arith));
-  link_cut = plan_cut (0 ∷ 1 ∷ 0 ∷ 0 ∷ 0 ∷ 1 ∷ 2 ∷ 8 ∷ []) [] 12 (omega arith) link_due (cut_short _ 8 tt (omega arith));
-  second_unfit = plan_cut (0 ∷ []) (0x80 ∷ 0 ∷ 0 ∷ []) 13 (omega arith) (inl (omega arith)) (zero_second _ 1 0x80 (0 ∷ []) refl (omega arith, omega arith));
-  link_unfit = plan_cut (0 ∷ 1 ∷ 0 ∷ 0 ∷ 0 ∷ 1 ∷ 2 ∷ 8 ∷ []) (0x80 ∷ 0 ∷ []) 13 (omega arith) link_due (zero_second _ 8 0x80 [] refl (omega arith, omega arith));
+  missing = plan_cut (0 ∷ 0 ∷ 0 ∷ []) [] cause.BytesEnd (omega arith) (inl (omega arith)) (cut_short _ 3 tt (omega arith));
+  cut_short = plan_cut (0 ∷ 0 ∷ []) (0x80 ∷ []) cause.BytesEnd (omega arith) (inl (omega arith)) (cut_short _ 2 (omega arith, omega arith, tt) (omega arith));
+  link_cut = plan_cut (0 ∷ 1 ∷ 0 ∷ 0 ∷ 0 ∷ 1 ∷ 2 ∷ 8 ∷ []) [] cause.BytesEnd (omega arith) link_due (cut_short _ 8 tt (omega arith));
+  second_unfit = plan_cut (0 ∷ []) (0x80 ∷ 0 ∷ 0 ∷ []) cause.UnfitNumber (omega arith) (inl (omega arith)) (zero_second _ 1 0x80 (0 ∷ []) refl (omega arith, omega arith));
+  link_unfit = plan_cut (0 ∷ 1 ∷ 0 ∷ 0 ∷ 0 ∷ 1 ∷ 2 ∷ 8 ∷ []) (0x80 ∷ 0 ∷ []) cause.UnfitNumber (omega arith) link_due (zero_second _ 8 0x80 [] refl (omega arith, omega arith));
   above = λ b. (
     inl
         (inr
@@ -65,8 +67,8 @@ plan_read_refusals_at_numbers = record {
         ))),
     refl,
   );
-  above_missing = plan_cut (0 ∷ links_above ∷ 0 ∷ 0 ∷ []) [] 12 (omega arith) (inl (omega arith)) (cut_short _ 5 tt (omega arith));
-  above_unfit = plan_cut (0 ∷ links_above ∷ 0 ∷ 0 ∷ []) (0x80 ∷ 0 ∷ []) 13 (omega arith) (inl (omega arith)) (zero_second _ 5 0x80 [] refl (omega arith, omega arith));
+  above_missing = plan_cut (0 ∷ links_above ∷ 0 ∷ 0 ∷ []) [] cause.BytesEnd (omega arith) (inl (omega arith)) (cut_short _ 5 tt (omega arith));
+  above_unfit = plan_cut (0 ∷ links_above ∷ 0 ∷ 0 ∷ []) (0x80 ∷ 0 ∷ []) cause.UnfitNumber (omega arith) (inl (omega arith)) (zero_second _ 5 0x80 [] refl (omega arith, omega arith));
   left_over_lem = zeros_over 0 [];
   left_over_unfit = zeros_over 0x80 (0 ∷ []);
   no_room_lem = (
@@ -93,9 +95,9 @@ plan_written_refusals_at_numbers = record {
 
 pub saved_cursor_refusals_at_numbers : SavedCursorRefusalsAtNumbers
 saved_cursor_refusals_at_numbers = record {
-  missing = inl (cut CursorDue (7 ∷ 1 ∷ []) [] 12 (omega arith) (omega arith) (cut_short _ 2 tt (omega arith)));
-  cut_short = inl (cut CursorDue (7 ∷ []) (0x80 ∷ []) 12 (omega arith) (omega arith) (cut_short _ 1 (omega arith, omega arith, tt) (omega arith)));
-  unfit = inl (cut CursorDue (7 ∷ []) (0x80 ∷ 0 ∷ []) 13 (omega arith) (omega arith) (zero_second _ 1 0x80 [] refl (omega arith, omega arith)));
+  missing = inl (cut CursorDue (7 ∷ 1 ∷ []) [] cause.BytesEnd (omega arith) (omega arith) (cut_short _ 2 tt (omega arith)));
+  cut_short = inl (cut CursorDue (7 ∷ []) (0x80 ∷ []) cause.BytesEnd (omega arith) (omega arith) (cut_short _ 1 (omega arith, omega arith, tt) (omega arith)));
+  unfit = inl (cut CursorDue (7 ∷ []) (0x80 ∷ 0 ∷ []) cause.UnfitNumber (omega arith) (omega arith) (zero_second _ 1 0x80 [] refl (omega arith, omega arith)));
   left_over_lem = inr (refl, over CursorComplete (7 ∷ 1 ∷ 2 ∷ []) (0x80 ∷ 0 ∷ []) (omega arith) refl (omega arith));
   no_room_lem = (record { number = refl; position = refl; small = omega (arith, ap length (file_is (cursor_words four_bytes))); kept = refl }, refl);
 }

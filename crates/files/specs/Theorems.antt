@@ -1,78 +1,72 @@
 -- What is proved of plan files and saved cursors.
-use Rattle.std.specs.Prelude.{ℕ, ◌*◌, ◌≤◌, ◌≡◌, List, [], ◌∷◌, length, take}
+use Rattle.std.specs.Prelude.{ℕ, ◌*◌, ◌≤◌, ◌≡◌, List, [], ◌∷◌, length, take, Result, Ok}
+use Rattle.basics.specs.declared.Refusal.{Refusal}
 use Rattle.numbers.specs.Number.{max_number_bytes}
 use Rattle.numbers.specs.Series.{AllWords, file_of, overlaid}
-use Rattle.numbers.specs.declared.Written.{Written}
-use Rattle.numbers.specs.declared.Written.TheVariants as written
 use Rattle.table.specs.Layout.{max_table_words, Sized}
 use Rattle.table.specs.PlanA.{plan_a}
 use Rattle.table.specs.declared.Edition.{Edition}
 use Rattle.files.specs.Plan.{ReadsPlanIn, ReadsPlan, TakesPlan, WritesPlan}
 use Rattle.files.specs.Cursors.{cursor_numbers, cursor_words, cursor_file, ReadsCursor, WritesCursor}
-use Rattle.files.specs.declared.PlanRead.{PlanRead}
-use Rattle.files.specs.declared.PlanRead.TheVariants as plan
 use Rattle.files.specs.declared.Cursor.{Cursor}
-use Rattle.files.specs.declared.CursorRead.{CursorRead}
-use Rattle.files.specs.declared.CursorRead.TheVariants as cursor
-use Rattle.files.specs.declared.CursorWritten.{CursorWritten}
-use Rattle.files.specs.declared.CursorWritten.TheVariants as saved
+use Rattle.files.specs.declared.Returned.{Returned}
 
 -- Each call has one answer, and those that are lent memory to write leave one memory. A plan file of any edition has one.
 abbrev pub ReadPlanInOneAnswer : Type 0
 ReadPlanInOneAnswer =
-    (e : Edition) (given : List ℕ → List ℕ) (s b b' b'' : List ℕ) (r r' : PlanRead)
+    (e : Edition) (given : List ℕ → List ℕ) (s b b' b'' : List ℕ) (r r' : Result ℕ Refusal)
     → ReadsPlanIn e given s b r b' → ReadsPlanIn e given s b r' b'' → (r ≡ r') × (b' ≡ b'')
 
 abbrev pub ReadPlanOneAnswer : Type 0
 ReadPlanOneAnswer =
-    (s b b' b'' : List ℕ) (r r' : PlanRead) → ReadsPlan s b r b' → ReadsPlan s b r' b'' → (r ≡ r') × (b' ≡ b'')
+    (s b b' b'' : List ℕ) (r r' : Result ℕ Refusal) → ReadsPlan s b r b' → ReadsPlan s b r' b'' → (r ≡ r') × (b' ≡ b'')
 
 -- So does a plan file that is read in one pass: one answer, and one table in front.
 abbrev pub TakePlanOneAnswer : Type 0
 TakePlanOneAnswer =
-    (s w w' : List ℕ) (r r' : PlanRead) → TakesPlan s r w → TakesPlan s r' w' → (r ≡ r') × ((n : ℕ) → r ≡ plan.Words n → take n w ≡ take n w')
+    (s w w' : List ℕ) (r r' : Result ℕ Refusal) → TakesPlan s r w → TakesPlan s r' w' → (r ≡ r') × ((n : ℕ) → r ≡ Ok n → take n w ≡ take n w')
 
 -- Where lent words have room for any table, what is read into them is also what one pass promises. So with `TakePlanOneAnswer` both readers tell the same.
 abbrev pub ReadingTakes : Type 0
-ReadingTakes = (s b b' : List ℕ) (r : PlanRead) → max_table_words ≤ length b → ReadsPlan s b r b' → TakesPlan s r b'
+ReadingTakes = (s b b' : List ℕ) (r : Result ℕ Refusal) → max_table_words ≤ length b → ReadsPlan s b r b' → TakesPlan s r b'
 
 abbrev pub WritePlanOneAnswer : Type 0
 WritePlanOneAnswer =
-    (t b b' b'' : List ℕ) (r r' : Written) → WritesPlan t b r b' → WritesPlan t b r' b'' → (r ≡ r') × (b' ≡ b'')
+    (t b b' b'' : List ℕ) (r r' : Result ℕ Refusal) → WritesPlan t b r b' → WritesPlan t b r' b'' → (r ≡ r') × (b' ≡ b'')
 
 abbrev pub ReadCursorOneAnswer : Type 0
-ReadCursorOneAnswer = (s : List ℕ) (r r' : CursorRead) → ReadsCursor s r → ReadsCursor s r' → r ≡ r'
+ReadCursorOneAnswer = (s : List ℕ) (r r' : Result Cursor Refusal) → ReadsCursor s r → ReadsCursor s r' → r ≡ r'
 
 abbrev pub WriteCursorOneAnswer : Type 0
 WriteCursorOneAnswer =
-    (c : Cursor) (b b' b'' : List ℕ) (r r' : CursorWritten)
+    (c : Cursor) (b b' b'' : List ℕ) (r r' : Result ℕ Returned)
     → WritesCursor c b r b' → WritesCursor c b r' b'' → (r ≡ r') × (b' ≡ b'')
 
 -- For every file that the reader takes, writing the table that it gave makes the same file again, where there is room for its bytes.
 abbrev pub FilesComeBack : Type 0
 FilesComeBack =
-    (s words words' bytes bytes' : List ℕ) (n : ℕ) (r : Written)
-    → ReadsPlan s words (plan.Words n) words' → WritesPlan (take n words') bytes r bytes'
-    → length s ≤ length bytes → (r ≡ written.Bytes (length s)) × (bytes' ≡ overlaid bytes 0 s)
+    (s words words' bytes bytes' : List ℕ) (n : ℕ) (r : Result ℕ Refusal)
+    → ReadsPlan s words (Ok n) words' → WritesPlan (take n words') bytes r bytes'
+    → length s ≤ length bytes → (r ≡ Ok (length s)) × (bytes' ≡ overlaid bytes 0 s)
 
 -- For every table of words that the writer takes, reading the file that it wrote gives the same table again, where there is room for its words.
 abbrev pub TablesComeBack : Type 0
 TablesComeBack =
-    (t bytes bytes' words words' : List ℕ) (n : ℕ) (r : PlanRead)
-    → AllWords t → WritesPlan t bytes (written.Bytes n) bytes' → ReadsPlan (take n bytes') words r words'
-    → length t ≤ length words → (r ≡ plan.Words (length t)) × (words' ≡ overlaid words 0 t)
+    (t bytes bytes' words words' : List ℕ) (n : ℕ) (r : Result ℕ Refusal)
+    → AllWords t → WritesPlan t bytes (Ok n) bytes' → ReadsPlan (take n bytes') words r words'
+    → length t ≤ length words → (r ≡ Ok (length t)) × (words' ≡ overlaid words 0 t)
 
 -- A cursor that was written is read back, and a saved cursor that was read is written back.
 abbrev pub CursorsComeBack : Type 0
 CursorsComeBack =
-    (c : Cursor) (bytes bytes' : List ℕ) (n : ℕ) (r : CursorRead)
-    → AllWords (cursor_words c) → WritesCursor c bytes (saved.Bytes n) bytes' → ReadsCursor (take n bytes') r → r ≡ cursor.Saved c
+    (c : Cursor) (bytes bytes' : List ℕ) (n : ℕ) (r : Result Cursor Refusal)
+    → AllWords (cursor_words c) → WritesCursor c bytes (Ok n) bytes' → ReadsCursor (take n bytes') r → r ≡ Ok c
 
 abbrev pub SavedCursorsComeBack : Type 0
 SavedCursorsComeBack =
-    (s bytes bytes' : List ℕ) (c : Cursor) (r : CursorWritten)
-    → ReadsCursor s (cursor.Saved c) → WritesCursor c bytes r bytes'
-    → length s ≤ length bytes → (r ≡ saved.Bytes (length s)) × (bytes' ≡ overlaid bytes 0 s)
+    (s bytes bytes' : List ℕ) (c : Cursor) (r : Result ℕ Returned)
+    → ReadsCursor s (Ok c) → WritesCursor c bytes r bytes'
+    → length s ≤ length bytes → (r ≡ Ok (length s)) × (bytes' ≡ overlaid bytes 0 s)
 
 -- No file has more than 58,905 bytes, and no saved cursor more than 15.
 abbrev pub max_file_bytes : ℕ

@@ -5,6 +5,7 @@ use mathlib.Core.List.{List, [], ◌∷◌}
 use mathlib.Core.Logic.{inl, inr}
 use lib.ListN.{length, drop}
 use native.Mathlib.Omega.{arith}
+use Rattle.basics.specs.declared.Cause.TheVariants as cause
 use Rattle.numbers.specs.Number.{group_values, byte_values, max_go_on, max_fifth, bytes_of, groups_of, GoOn, NoNumber}
 use Rattle.numbers.specs.RefusalsAtNumbers.{NumberRefusalsAtNumbers}
 use Rattle.numbers.proofs.OneNumber.{numbers_of_the_paper}
@@ -14,18 +15,18 @@ four b h = (h.0, h.1, (h.0, h.1, (h.0, h.1, (h.0, h.1, tt))))
 
 module _ (s : List ℕ) (at : ℕ) where
   -- The bytes end.
-  pub cut_short : GoOn (drop at s) → length (drop at s) ≤ max_go_on → NoNumber s at 12
+  pub cut_short : GoOn (drop at s) → length (drop at s) ≤ max_go_on → NoNumber s at cause.BytesEnd
   cut_short g l = inl (refl, record { go_on = g; no_fifth = l })
 
   -- A byte that goes on, and then 0.
-  pub zero_second : (b : ℕ) (rest : List ℕ) → drop at s ≡ b ∷ 0 ∷ rest → (group_values ≤ b) × (b < byte_values) → NoNumber s at 13
+  pub zero_second : (b : ℕ) (rest : List ℕ) → drop at s ≡ b ∷ 0 ∷ rest → (group_values ≤ b) × (b < byte_values) → NoNumber s at cause.UnfitNumber
   zero_second b rest e h = inr (
     refl,
     record { before = b ∷ []; byte = 0; stands = record { rest = rest; there = e }; go_on = (h.0, h.1, tt); why = inl (omega arith, refl) },
   )
 
   -- Four bytes b that go on, and a fifth above 0F.
-  fifth : (b last : ℕ) → drop at s ≡ b ∷ b ∷ b ∷ b ∷ last ∷ [] → (group_values ≤ b) × (b < byte_values) → max_fifth < last → NoNumber s at 13
+  fifth : (b last : ℕ) → drop at s ≡ b ∷ b ∷ b ∷ b ∷ last ∷ [] → (group_values ≤ b) × (b < byte_values) → max_fifth < last → NoNumber s at cause.UnfitNumber
   fifth b last e h a = inr (
     refl,
     record {

@@ -1,29 +1,25 @@
--- `files::look::after_header` meets its contract: the limits and the length of the header are told, and the records after it are looked through.
+-- `files::look::after_header` meets its contract: the limits and the length of the header are known, and the records after it are looked through.
 -- Assumes nothing.
-use Rattle.std.proofs.Common.{refl, inl, inr}
-use Rattle.files.proofs.Looking.{Headed, headed, table_cut, table_over, table_file}
-use Rattle.files.proofs.look.after_header.Goals.{After-header_words-told}
+use Rattle.std.proofs.Common.{inl, inr}
+use Rattle.std.proofs.lemmas.Result.{err_from_is_err_and}
+use Rattle.files.proofs.Looking.{Header, table_cut, table_over, table_file}
+use Rattle.files.proofs.look.after_header.Goals.{In-Some}
 use Rattle.files.proofs.look.after_header.Goals as goal
 
--- The header, once it is told.
-abbrev header : After-header_words-told → Headed
-header c =
-    headed c.args.e c.header_words-told.result c.requires.head_len c.requires.row c.header_words-told.ensures
+-- The header, once its limits are known.
+abbrev header : (c : In-Some) → Header c.args.e c.args.bytes.now c.args.head.now c.args.next c.in-Some.size
+header c = record { five = c.requires.head_len; row = c.requires.row; within = c.in-Some.ensures }
 
-pub returns-in-Stop : goal.returns-in-Stop
-returns-in-Stop c =
-    let d : Headed = header (goal.at.returns-in-Stop c).After-header_words-told in
-    let r = rw c.in-Stop.is at c.look_through-seen.ensures in
-    inl (search (table_cut d.header))
+pub returns-in_err-end : goal.returns-in_err-end
+returns-in_err-end c =
+    let p = err_from_is_err_and c.from_residual.result c.from_residual.ensures.1 in
+    rw (p.1, p.2) (inl (table_cut (header (goal.at.returns-in_err-end c).In-Some) c.in_err-end.ensures))
 
-pub returns-then-end-bytes : goal.returns-then-end-bytes
-returns-then-end-bytes c =
-    let d : Headed = header (goal.at.returns-then-end-bytes c).After-header_words-told in
-    let r = rw c.in-End.is at c.look_through-seen.ensures in
-    inr (inr (refl, search (table_over d.header)))
+pub returns-in_err-end_of : goal.returns-in_err-end_of
+returns-in_err-end_of c =
+    let p = err_from_is_err_and c.from_residual-in_err-end_of.result c.from_residual-in_err-end_of.ensures.1 in
+    let e = c.in_err-end_of.ensures in
+    rw (p.1, p.2, e.1) (inr (inr (e.0, table_over (header (goal.at.returns-in_err-end_of c).In-Some) c.in_ok-end.ensures e.2)))
 
-pub returns-else-end-bytes : goal.returns-else-end-bytes
-returns-else-end-bytes c =
-    let d : Headed = header (goal.at.returns-else-end-bytes c).After-header_words-told in
-    let r = rw c.in-End.is at c.look_through-seen.ensures in
-    search (table_file d.header)
+pub returns : goal.returns
+returns c = table_file (header (goal.at.returns c).In-Some) c.in_ok-end.ensures c.in_ok-end_of.ensures

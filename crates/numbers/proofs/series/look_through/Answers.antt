@@ -1,9 +1,9 @@
--- `numbers::series::look_through` meets its contract: the numbers passed are a row, and each that is read is one more. Assumes nothing.
-use Rattle.numbers.proofs.Rows.{looking_start, looking_next}
+-- `numbers::series::look_through` meets its contract: as many numbers as were read stand up to here. Assumes nothing.
+use Rattle.numbers.proofs.Rows.{numbers_none, numbers_more}
 use Rattle.numbers.proofs.series.look_through.Goals as goal
 
-pub loop-left-init : goal.loop-left-init
-loop-left-init c = looking_start _ _ _
+pub loop-init : goal.loop-init
+loop-init c = numbers_none _ _
 
-pub loop-left-preserved : goal.loop-left-preserved
-loop-left-preserved c = search looking_next
+pub loop-preserved : goal.loop-preserved
+loop-preserved c = numbers_more c.loop.invariant c.in_ok-at.ensures

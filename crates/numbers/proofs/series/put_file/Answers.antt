@@ -2,11 +2,11 @@
 use Rattle.numbers.proofs.Rows.{putting_start, putting_room, putting_next}
 use Rattle.numbers.proofs.series.put_file.Goals as goal
 
-pub loop-i-init : goal.loop-i-init
-loop-i-init c = putting_start _ _
+pub loop-word-init : goal.loop-word-init
+loop-word-init c = putting_start _ _
 
 pub put_number-next-requires : goal.put_number-next-requires
 put_number-next-requires c = search putting_room
 
-pub loop-i-preserved : goal.loop-i-preserved
-loop-i-preserved c = search putting_next
+pub loop-word-preserved : goal.loop-word-preserved
+loop-word-preserved c = search putting_next

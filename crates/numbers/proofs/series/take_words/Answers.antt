@@ -3,11 +3,11 @@ use Rattle.std.proofs.Common.{rules}
 use Rattle.numbers.proofs.Rows.{taking_start, taking_next, taking_end}
 use Rattle.numbers.proofs.series.take_words.Goals as goal
 
-pub loop-i-init : goal.loop-i-init
-loop-i-init c = taking_start _ _ _
+pub loop-word-init : goal.loop-word-init
+loop-word-init c = taking_start _ _ _
 
-pub loop-i-preserved : goal.loop-i-preserved
-loop-i-preserved c = search taking_next
+pub loop-word-preserved : goal.loop-word-preserved
+loop-word-preserved c = taking_next c.loop-word.invariant (search rules) c.in_ok-number.ensures
 
 pub returns : goal.returns
-returns c = taking_end c.loop-i.invariant (search rules)
+returns c = taking_end c.loop-word.invariant (search rules)
