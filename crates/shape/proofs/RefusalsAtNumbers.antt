@@ -8,6 +8,8 @@ use native.Mathlib.Omega.{arith}
 use borrow.Author.Count.{below_none, below_more}
 use Rattle.basics.specs.Lowest.{All}
 use Rattle.basics.proofs.Lowest.{lowest_of_all}
+use Rattle.basics.specs.declared.Cause.{Cause}
+use Rattle.basics.specs.declared.Cause.TheVariants as cause
 use Rattle.table.specs.Layout.{link_words, stream_words, leg_words, max_links, max_streams, max_legs, max_precision, link_count, leg_count, InLimits, Sized}
 use Rattle.table.specs.Records.{link_part, stream_part, link_in, stream_in, stream_at}
 use Rattle.table.specs.declared.Link.{Link}
@@ -29,18 +31,18 @@ use Rattle.shape.proofs.Reading.{link_of_lem, stream_of_lem, first_leg_right}
 use Rattle.shape.proofs.Computed.{leg_on_lem, only_leg, in_range, before_next, stream_placed}
 
 -- A refused table is not well-formed, since a shape has one answer.
-refused : (t : List ℕ) (k p : ℕ) → ShapeFault t k p → TableRefused t k p
+refused : (t : List ℕ) (k : Cause) (p : ℕ) → ShapeFault t k p → TableRefused t k p
 refused t k p f = record { first = f; not_well_formed = λ w. well_no_fault w f }
 
-above : (n s g p : ℕ) → (InLimits (header_of n s g p) → ⊥) → TableRefused (header_of n s g p) 2 0
-above n s g p h = refused _ 2 0 (inl (inr (omega arith, inl (refl, refl, h))))
+above : (n s g p : ℕ) → (InLimits (header_of n s g p) → ⊥) → TableRefused (header_of n s g p) cause.AboveLimit 0
+above n s g p h = refused _ cause.AboveLimit 0 (inl (inr (omega arith, inl (refl, refl, h))))
 
 -- The counts n, s and g are within their limits, and so is the precision p.
 limits : (n s g p : ℕ) (ws : List ℕ) → (n ≤ max_links) × (s ≤ max_streams) × (g ≤ max_legs) × (p ≤ max_precision) → InLimits (0 ∷ n ∷ s ∷ g ∷ p ∷ ws)
 limits n s g p ws h = record { links = h.0; streams = h.1; legs = h.2; precision = h.3 }
 
-length_differs : (n s g p : ℕ) (ws : List ℕ) → (n ≤ max_links) × (s ≤ max_streams) × (g ≤ max_legs) × (p ≤ max_precision) → (length ws ≡ link_words * n + stream_words * s + leg_words * g → ⊥) → TableRefused (0 ∷ n ∷ s ∷ g ∷ p ∷ ws) 3 0
-length_differs n s g p ws h d = refused _ 3 0 (inl (inr (omega arith, inr (limits n s g p ws h, (refl, refl, λ e. d (omega arith))))))
+length_differs : (n s g p : ℕ) (ws : List ℕ) → (n ≤ max_links) × (s ≤ max_streams) × (g ≤ max_legs) × (p ≤ max_precision) → (length ws ≡ link_words * n + stream_words * s + leg_words * g → ⊥) → TableRefused (0 ∷ n ∷ s ∷ g ∷ p ∷ ws) cause.WrongLength 0
+length_differs n s g p ws h d = refused _ cause.WrongLength 0 (inl (inr (omega arith, inr (limits n s g p ws h, (refl, refl, λ e. d (omega arith))))))
 
 sized : (n s g : ℕ) (ws : List ℕ) → n + s + g ≤ max_links → length ws ≡ link_words * n + stream_words * s + leg_words * g → Sized (0 ∷ n ∷ s ∷ g ∷ 0 ∷ ws)
 sized n s g ws h e = record {
@@ -101,7 +103,7 @@ module _ (t : List ℕ) where
           within = omega (arith, legs_none t, ap (λ (s : Stream). s.count) stream_0, h.2);
         })
 
-link : ShapeFault wrong_link 4 2
+link : ShapeFault wrong_link cause.BadLink 2
 link =
     inr (sized 3 0 0 _ (omega arith) refl, inl (refl, lowest_of_all (omega arith) bad (second_link wrong_link refl 1 2 refl (omega arith) (omega arith))))
   where
@@ -110,7 +112,7 @@ link =
         let e = link_of_part wrong_link 2 in
         r.different (sym (ap (λ (z : Link). z.from) e) ∙ ap (λ (z : Link). z.to) e)
 
-link_again_lem : ShapeFault link_again 5 2
+link_again_lem : ShapeFault link_again cause.DoubleLink 2
 link_again_lem = inr (sized 3 1 0 _ (omega arith) refl, inr (links, inl (refl, lowest_of_all (omega arith) bad (all_new link_again 2 refl))))
   where
     links : All (LinkRight link_again) 3
@@ -133,23 +135,23 @@ link_again_lem = inr (sized 3 1 0 _ (omega arith) refl, inr (links, inl (refl, l
           to_node = sym (ap (λ (z : Link). z.to) e) ∙ ap (λ (z : Link). z.to) f;
         })
 
-stream : ShapeFault wrong_stream 6 1
+stream : ShapeFault wrong_stream cause.BadStream 1
 stream =
-    past_links wrong_stream 6 1 (one_link wrong_stream (sized 1 2 2 _ (omega arith) refl) refl refl)
+    past_links wrong_stream cause.BadStream 1 (one_link wrong_stream (sized 1 2 2 _ (omega arith) refl) refl refl)
     (inl (refl, lowest_of_all (omega arith) bad (first_stream wrong_stream 1 refl (omega arith, omega arith, omega arith))))
   where
     bad : StreamRight wrong_stream 1 → ⊥
     bad r = omega (arith, r.first, ap (λ (s : Stream). s.first) (stream_of_part wrong_stream 1), legs_before_1 wrong_stream 1 refl)
 
-fewer_legs_lem : ShapeFault fewer_legs 6 1
+fewer_legs_lem : ShapeFault fewer_legs cause.BadStream 1
 fewer_legs_lem =
-    past_links fewer_legs 6 1 (one_link fewer_legs (sized 1 1 2 _ (omega arith) refl) refl refl)
+    past_links fewer_legs cause.BadStream 1 (one_link fewer_legs (sized 1 1 2 _ (omega arith) refl) refl refl)
     (inr (
       first_stream fewer_legs 1 refl (omega arith, omega arith, omega arith),
       inl (refl, refl, λ e. omega (arith, e, legs_before_1 fewer_legs 1 refl)),
     ))
 
-leg : ShapeFault wrong_leg 7 1
+leg : ShapeFault wrong_leg cause.BadLeg 1
 leg =
     let link_0 = sym (link_of_part wrong_leg 0) in
     let link_1 = sym (link_of_part wrong_leg 1) in
@@ -167,7 +169,7 @@ leg =
     0
     (below_none (LegRight wrong_leg))
     (first_leg_right wrong_leg 0 0 0 _ _ _ (omega arith) (omega arith) leg_0 refl refl (omega arith) its_stream refl (omega arith) link_0 (λ e. omega (arith, e))) in
-    past_links wrong_leg 7 1 links
+    past_links wrong_leg cause.BadLeg 1 links
     (inr (
       first_stream wrong_leg 2 refl (omega arith, omega arith, omega arith),
       inr (legs_before_1 wrong_leg 2 refl, (refl, lowest_of_all (omega arith) bad before)),
@@ -193,10 +195,10 @@ module _ (period deadline periods : ℕ) where
       (stream_placed one 0 (legs_none one) (in_range _ (h.2, h.3, h.1) (omega arith, omega arith) (omega arith, omega arith)) (omega arith))
 
   -- Its deadline is too long: 6, whatever its leg.
-  due_late : max_periods_due * period < deadline → TableRefused one 6 0
+  due_late : max_periods_due * period < deadline → TableRefused one cause.BadStream 0
   due_late l =
-      refused one 6 0
-      (past_links one 6 0 links_pass (inl (refl, lowest_of_all (omega arith) bad (below_none (StreamRight one)))))
+      refused one cause.BadStream 0
+      (past_links one cause.BadStream 0 links_pass (inl (refl, lowest_of_all (omega arith) bad (below_none (StreamRight one)))))
     where
       bad : StreamRight one 0 → ⊥
       bad r =
@@ -204,10 +206,10 @@ module _ (period deadline periods : ℕ) where
           omega (arith, r.in_range.deadline_to, ap (λ (s : Stream). s.deadline) e, ap (λ (s : Stream). s.period) e)
 
   module _ (h : (1 ≤ period) × (period ≤ max_period) × (1 ≤ deadline) × (deadline ≤ max_periods_due * period)) where
-    leg_late : max_periods < periods → TableRefused one 7 0
+    leg_late : max_periods < periods → TableRefused one cause.BadLeg 0
     leg_late l =
-        refused one 7 0
-        (past_links one 7 0 links_pass
+        refused one cause.BadLeg 0
+        (past_links one cause.BadLeg 0 links_pass
         (inr (only_stream h, inr (before_next one 0 (legs_none one), (refl, lowest_of_all (omega arith) bad (below_none (LegRight one)))))))
       where
         bad : LegRight one 0 → ⊥
@@ -237,17 +239,17 @@ late = record {
 
 pub shape_refusals_at_numbers : ShapeRefusalsAtNumbers
 shape_refusals_at_numbers = record {
-  four_words_is = refused _ 1 0 (inl (inl (refl, refl, λ h. omega arith)));
+  four_words_is = refused _ cause.NoHeader 0 (inl (inl (refl, refl, λ h. omega arith)));
   links_above_is = above _ _ _ _ (λ h. omega (arith, h.links));
   streams_above = above _ _ _ _ (λ h. omega (arith, h.streams));
   legs_above = above _ _ _ _ (λ h. omega (arith, h.legs));
   precision_above = above _ _ _ _ (λ h. omega (arith, h.precision));
   at_the_limits = length_differs _ _ _ _ _ (omega arith, omega arith, omega arith, omega arith) (λ e. omega (arith, e));
   word_more_is = length_differs _ _ _ _ _ (omega arith, omega arith, omega arith, omega arith) (λ e. omega (arith, e));
-  link = refused _ 4 2 link;
-  link_again_lem = refused _ 5 2 link_again_lem;
-  stream = refused _ 6 1 stream;
-  fewer_legs_lem = refused _ 6 1 fewer_legs_lem;
-  leg = refused _ 7 1 leg;
+  link = refused _ cause.BadLink 2 link;
+  link_again_lem = refused _ cause.DoubleLink 2 link_again_lem;
+  stream = refused _ cause.BadStream 1 stream;
+  fewer_legs_lem = refused _ cause.BadStream 1 fewer_legs_lem;
+  leg = refused _ cause.BadLeg 1 leg;
   late = late;
 }

@@ -1,9 +1,11 @@
 -- The refusals 1 to 7 at numbers: each with its number and its position, most of them where a later one is due too.
 use Rattle.std.specs.Prelude.{ℕ, List, [], ◌∷◌}
+use Rattle.basics.specs.declared.Cause.{Cause}
+use Rattle.basics.specs.declared.Cause.TheVariants as cause
 use Rattle.shape.specs.Shape.{WellFormedTable, ShapeFault}
 
 -- The table t is refused with k at p, and is not well-formed.
-pub record TableRefused (t : List ℕ) (k p : ℕ) : Type 0 where
+pub record TableRefused (t : List ℕ) (k : Cause) (p : ℕ) : Type 0 where
   pub first : ShapeFault t k p
   pub not_well_formed : WellFormedTable t → ⊥
 
@@ -80,24 +82,24 @@ one_leg period deadline periods =
 -- ns, just inside a word; where they are more than a word holds, any word from 1 up is a deadline.
 pub record LateAtNumbers : Type 0 where
   pub latest : WellFormedTable (one_leg 1000 8000 7)
-  pub too_late_is : TableRefused (one_leg 1000 8000 8) 7 0
-  pub due_too_late : TableRefused (one_leg 1000 8001 8) 6 0
+  pub too_late_is : TableRefused (one_leg 1000 8000 8) cause.BadLeg 0
+  pub due_too_late : TableRefused (one_leg 1000 8001 8) cause.BadStream 0
   pub word_full : WellFormedTable (one_leg 536870911 4294967288 7)
-  pub word_over : TableRefused (one_leg 536870911 4294967289 7) 6 0
+  pub word_over : TableRefused (one_leg 536870911 4294967289 7) cause.BadStream 0
   pub word_end : WellFormedTable (one_leg 536870912 4294967295 7)
   pub longest : WellFormedTable (one_leg 1000000000 4294967295 7)
 
 pub record ShapeRefusalsAtNumbers : Type 0 where
-  pub four_words_is : TableRefused four_words 1 0
-  pub links_above_is : TableRefused (header_of 257 512 2048 1000000) 2 0
-  pub streams_above : TableRefused (header_of 256 513 2048 1000000) 2 0
-  pub legs_above : TableRefused (header_of 256 512 2049 1000000) 2 0
-  pub precision_above : TableRefused (header_of 256 512 2048 1000001) 2 0
-  pub at_the_limits : TableRefused (header_of 256 512 2048 1000000) 3 0
-  pub word_more_is : TableRefused word_more 3 0
-  pub link : TableRefused wrong_link 4 2
-  pub link_again_lem : TableRefused link_again 5 2
-  pub stream : TableRefused wrong_stream 6 1
-  pub fewer_legs_lem : TableRefused fewer_legs 6 1
-  pub leg : TableRefused wrong_leg 7 1
+  pub four_words_is : TableRefused four_words cause.NoHeader 0
+  pub links_above_is : TableRefused (header_of 257 512 2048 1000000) cause.AboveLimit 0
+  pub streams_above : TableRefused (header_of 256 513 2048 1000000) cause.AboveLimit 0
+  pub legs_above : TableRefused (header_of 256 512 2049 1000000) cause.AboveLimit 0
+  pub precision_above : TableRefused (header_of 256 512 2048 1000001) cause.AboveLimit 0
+  pub at_the_limits : TableRefused (header_of 256 512 2048 1000000) cause.WrongLength 0
+  pub word_more_is : TableRefused word_more cause.WrongLength 0
+  pub link : TableRefused wrong_link cause.BadLink 2
+  pub link_again_lem : TableRefused link_again cause.DoubleLink 2
+  pub stream : TableRefused wrong_stream cause.BadStream 1
+  pub fewer_legs_lem : TableRefused fewer_legs cause.BadStream 1
+  pub leg : TableRefused wrong_leg cause.BadLeg 1
   pub late : LateAtNumbers

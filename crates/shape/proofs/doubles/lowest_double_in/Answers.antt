@@ -8,8 +8,8 @@ loop-i-init c = search turn_begins
 pub bucket-h-requires : goal.bucket-h-requires
 bucket-h-requires c = search turn_in_range
 
-pub new_told-told-requires : goal.new_told-told-requires
-new_told-told-requires c = search turn_chain
+pub is_new-requires : goal.is_new-requires
+is_new-requires c = search turn_chain
 
 pub loop-i-preserved : goal.loop-i-preserved
 loop-i-preserved c = search turn_passes

@@ -2,8 +2,8 @@
 use Rattle.shape.proofs.LinkLaws.{link_wrong, link_passes}
 use Rattle.shape.proofs.links.lowest_bad_link.Goals as goal
 
-pub returns-in-No : goal.returns-in-No
-returns-in-No c = search link_wrong
+pub returns-then-not-is_in_range : goal.returns-then-not-is_in_range
+returns-then-not-is_in_range c = search link_wrong
 
 pub loop-i-preserved : goal.loop-i-preserved
 loop-i-preserved c = search link_passes

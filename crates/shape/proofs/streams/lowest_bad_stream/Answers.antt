@@ -6,8 +6,8 @@ use Rattle.shape.proofs.streams.lowest_bad_stream.Goals as goal
 pub loop-i-init : goal.loop-i-init
 loop-i-init c = search streams_begin
 
-pub returns-in-No : goal.returns-in-No
-returns-in-No c = inl (search stream_wrong)
+pub returns-then-not-fits : goal.returns-then-not-fits
+returns-then-not-fits c = inl (search stream_wrong)
 
 pub loop-i-preserved : goal.loop-i-preserved
 loop-i-preserved c = search stream_passes

@@ -1,6 +1,6 @@
--- `shape::doubles::new_told` meets its contract: along the chain of the link's bucket every link passed has other ends. Assumes nothing.
+-- `shape::doubles::is_new` meets its contract: along the chain of the link's bucket every link passed has other ends. Assumes nothing.
 use Rattle.shape.proofs.DoubleLaws.{ChainTurn}
-use Rattle.shape.proofs.doubles.new_told.Given as goal
+use Rattle.shape.proofs.doubles.is_new.Given as goal
 
 abbrev pub invariant-loop-c : goal.invariant-loop-c
 invariant-loop-c l = ChainTurn l.t l.earlier l.i l.start l.links l.l l.c
