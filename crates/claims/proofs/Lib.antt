@@ -1,3 +1,2 @@
 pub mod Linking
-pub mod Keeping
 pub mod OneAnswer

@@ -6,7 +6,6 @@ use Prim.Native.Nat.{ℕ, zero, suc, ◌+◌, ◌-◌, ◌<◌, ◌≤◌}
 use native.Mathlib.Omega.{arith}
 use native.Mathlib.Numerals.{add-one}
 use lib.IntN.{ℤ, pos, ◌+ℤ◌}
-use lib.Signed.{◌<ℤ◌, ◌≤ℤ◌}
 use lib.ListN.{length, set, replicate, length-set, length-replicate}
 use Rattle.network.specs.Network.{total}
 use Rattle.network.specs.Constraints.{network_of, numbers_of, constraint_count, NetworkInRange}
@@ -15,11 +14,9 @@ use Rattle.network.specs.Steps.{Reads}
 use Rattle.network.specs.declared.Constraint.{Constraint}
 use Rattle.network.proofs.Marks.{put, all, one_less, none_seen}
 use Rattle.claims.specs.Claims.{IsChain}
-use Rattle.claims.specs.Steps.{Names, Linked}
-use Rattle.claims.specs.declared.Named.{Named}
-use Rattle.claims.specs.declared.Named.TheVariants.{At, Nowhere}
+use Rattle.claims.specs.Steps.{Linked}
 use Rattle.basics.proofs.Splits.{lt_or_ge, eq_or_ne}
-use Rattle.signed.proofs.Parts.{le, lt, abs_add}
+use Rattle.signed.proofs.Parts.{abs_add}
 
 pub none_yet : (n : ℕ) (ws : List ℤ) (ks : List ℕ) (first : ℕ) → NetworkInRange n ws → first ≡ (network_of ws).from (numbers_of ks 0) → Linked n ws ks 0 first first (pos 0) (replicate 128 0)
 unfolding total
@@ -122,27 +119,3 @@ module _ {n : ℕ} {ws : List ℤ} {ks : List ℕ} {a at first : ℕ} {s : ℤ} 
 
   pub not_closed : (at ≡ first → ⊥) → IsChain ws ks → ⊥
   not_closed ne ch = ne (ends_at ∙ ch.closed (a - 1) (omega arith) ∙ sym c.begins)
-
-  pub not_negative : pos 0 ≤ℤ s → IsChain ws ks → ⊥
-  not_negative q ch =
-      let z : s <ℤ pos 0 = subst (λ x. x <ℤ pos 0) (sym (c.sum ∙ ap (total (network_of ws) (numbers_of ks)) whole)) ch.negative
-      in omega (arith, le q, lt z)
-
-  pub closes : at ≡ first → s <ℤ pos 0 → IsChain ws ks
-  closes q z =
-      record {
-        some = omega arith;
-        known = λ b y. c.known b (omega arith);
-        linked = λ b y. c.linked b (omega arith);
-        closed = λ b y. let d : a - 1 ≡ b = omega arith in ap (λ (x : ℕ). (network_of ws).to (numbers_of ks x)) (sym d) ∙ sym ends_at ∙ q ∙ c.begins;
-        once = λ b d y x p. omega (arith, c.marked b (omega arith), c.marked d (omega arith), ap (numbers_of seen) p);
-        negative = subst (λ x. x <ℤ pos 0) (c.sum ∙ ap (total (network_of ws) (numbers_of ks)) whole) z;
-      }
-
--- What a number names.
-module _ (n : ℕ) (ws : List ℤ) (ks : List ℕ) (a : ℕ) where
-  pub names_none : (found : Named) → found ≡ Nowhere → Names found n ws ks a → a < length ks → IsChain ws ks → ⊥
-  names_none found e h z ch = omega (arith, subst (λ x. Names x n ws ks a) e h, ch.known a z)
-
-  pub names : (found : Named) {r : Constraint} → found ≡ At r → Names found n ws ks a → (numbers_of ks a < constraint_count ws) × Reads (network_of ws) n (numbers_of ks a) r
-  names found e h = subst (λ x. Names x n ws ks a) e h

@@ -1,16 +1,15 @@
 -- What inner functions promise.
-use Rattle.std.specs.Prelude.{ℕ, ◌+◌, ◌*◌, ◌-◌, ◌≤◌, ◌<◌, ◌≡◌, List, ℤ, nat_abs, length}
+use Rattle.std.specs.Prelude.{ℕ, ◌+◌, ◌*◌, ◌-◌, ◌≤◌, ◌<◌, ◌≡◌, List, ℤ, nat_abs, length, Option, Some, None}
 use Rattle.network.specs.Network.{total}
 use Rattle.network.specs.Constraints.{max_events, max_most, numbers_of, network_of, constraint_count, NetworkInRange}
 use Rattle.network.specs.Marks.{unseen}
 use Rattle.network.specs.Steps.{Reads}
-use Rattle.claims.specs.declared.Named.{Named}
-use Rattle.claims.specs.declared.Named.TheVariants as named
+use Rattle.network.specs.declared.Constraint.{Constraint}
 
 -- The constraint that number a of a list names, or that it names none.
-abbrev pub Names : Named → ℕ → List ℤ → List ℕ → ℕ → Type 0
-Names (named.At c) n ws ks a = (numbers_of ks a < constraint_count ws) × Reads (network_of ws) n (numbers_of ks a) c
-Names named.Nowhere n ws ks a = constraint_count ws ≤ numbers_of ks a
+abbrev pub Names : Option Constraint → ℕ → List ℤ → List ℕ → ℕ → Type 0
+Names (Some c) n ws ks a = (numbers_of ks a < constraint_count ws) × Reads (network_of ws) n (numbers_of ks a) c
+Names None n ws ks a = constraint_count ws ≤ numbers_of ks a
 
 -- The first a numbers of a list are linked, from event first to event at, and meet no event twice. seen has 1 plus the place at which an event is left, and 0 for the
 -- others; s is the sum.

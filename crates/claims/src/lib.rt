@@ -1,167 +1,99 @@
-// The small tests of temporal networks: of times and of a chain, whoever made them.
+//! The small tests of temporal networks: of times and of a chain, whoever made them.
 #![tactic(auto)]
 
-ghost use Rattle.std.specs.Prelude.{◌<◌, length};
-ghost use Rattle.basics.specs.Tells.{Tells};
+ghost use Rattle.std.specs.Prelude.{◌<◌, ◌↔◌, IsTrue, length};
 ghost use Rattle.basics.specs.Lowest.{Finds};
-ghost use Rattle.network.specs.Constraints.{network_of, constraint_count, NetworkInRange};
+ghost use Rattle.network.specs.Constraints.{network_of, constraint_count};
 ghost use Rattle.claims.specs.Claims.{KeepsOne, TestsTimes, IsChain, TestsChain};
 ghost use Rattle.claims.specs.Steps.{Names};
 
-use basics::{Checked, Found, Holds};
-use network::Constraint;
-
-// All constraints are kept; the lowest one that is not; or a refusal's number and position.
-#[derive(Clone, Copy)]
-pub enum TimesTest {
-    Kept,
-    Broken(usize),
-    Refused(u32, usize),
-}
-
-// A closed chain with a negative sum; no such chain; or a refusal's number and position.
-#[derive(Clone, Copy)]
-pub enum ChainTest {
-    Chain,
-    NoChain,
-    Refused(u32, usize),
-}
-
-// Internal: the constraint that a number names, if there is one.
-#[derive(Clone, Copy)]
-pub enum Named {
-    At(Constraint),
-    Nowhere,
-}
+use basics::Refusal;
+use network::{Constraint, Network};
 
 // Whether the times keep constraint k.
-fn constraint_kept(events: usize, constraints: &[i64], times: &[i64], k: usize) -> Holds
-    requires network_in_range { NetworkInRange events constraints.now }
-    requires k_bound { k < constraint_count constraints.now }
-    ensures { Tells (KeepsOne (network_of constraints.now) times.now k) result }
+fn keeps_one(network: &Network, times: &[i64], k: usize) -> bool
+    requires { k < constraint_count network.now.constraints.now }
+    ensures { IsTrue result ↔ KeepsOne (network_of network.now.constraints.now) times.now k }
 {
-    let c = network::constraint_at(events, constraints, k);
-    let i = c.from;
-    let j = c.to;
-    if times.len() <= i {
-        return Holds::No;
-    }
-    if times.len() <= j {
-        return Holds::No;
-    }
-    if signed::within(times[i], times[j], c.most) {
-        return Holds::Yes;
-    }
-    Holds::No
+    let c = network.constraint(k);
+    c.from < times.len() && c.to < times.len() && signed::within(times[c.from], times[c.to], c.most)
 }
 
 // The lowest constraint that the times do not keep, if there is one.
-fn lowest_broken(events: usize, constraints: &[i64], times: &[i64]) -> Found
-    requires { NetworkInRange events constraints.now }
-    ensures { Finds (KeepsOne (network_of constraints.now) times.now) 0 (constraint_count constraints.now) result }
+fn lowest_broken(network: &Network, times: &[i64]) -> Option<usize>
+    ensures { Finds (KeepsOne (network_of network.now.constraints.now) times.now) 0 (constraint_count network.now.constraints.now) result }
 {
-    let count = network::constraint_count(constraints);
-    let mut k: usize = 0;
-    while k < count {
-        let told = constraint_kept(events, constraints, times, k);
-        let Holds::Yes = told else {
-            return Found::At(k);
-        };
-        k = k + 1;
+    for k in 0..network.size() {
+        if !keeps_one(network, times, k) {
+            return Some(k);
+        }
     }
-    Found::Nowhere
+    None
 }
 
-// Tests times: whether they keep every constraint, be they above zero or not, the latest or not. Event v has the v-th of them, counted from 0; an event past their
-// end has no time, and a constraint that names it is not kept. Refused: 27, 16.
-pub fn test_times(events: usize, constraints: &[i64], times: &[i64]) -> TimesTest
+/// Tests times: returns the lowest constraint that they do not keep, or `None` where they keep every constraint, be they above zero or not, the latest or not.
+/// Event v has the v-th of them, counted from 0; an event past their end has no time, and a constraint that names it is not kept. Refuses with 27 or 16.
+pub fn test_times(
+    events: usize,
+    constraints: &[i64],
+    times: &[i64],
+) -> Result<Option<usize>, Refusal>
     ensures { TestsTimes events constraints.now times.now result }
 {
-    let told = network::judged_network(events, constraints);
-    match told {
-        Checked::Refused(number, at) => {
-            return TimesTest::Refused(number, at);
-        }
-        Checked::Clear => {}
-    }
-    let found = lowest_broken(events, constraints, times);
-    match found {
-        Found::At(k) => TimesTest::Broken(k),
-        Found::Nowhere => TimesTest::Kept,
-    }
+    let network = Network::judge(events, constraints)?;
+    Ok(lowest_broken(&network, times))
 }
 
-// The constraint that number a of a list names.
-fn named_at(events: usize, constraints: &[i64], numbers: &[u32], a: usize) -> Named
-    requires network_in_range { NetworkInRange events constraints.now }
-    requires a_in_bounds { a < length numbers.now }
-    ensures { Names result events constraints.now numbers.now a }
+// The constraint that number a of a list names, if there is one.
+fn named_at(network: &Network, numbers: &[u32], a: usize) -> Option<Constraint>
+    requires { a < length numbers.now }
+    ensures { Names result network.now.events network.now.constraints.now numbers.now a }
 {
-    let k = network::wide(numbers[a]);
-    if network::constraint_count(constraints) <= k {
-        return Named::Nowhere;
+    let k = numbers[a] as usize;
+    if k < network.size() {
+        Some(network.constraint(k))
+    } else {
+        None
     }
-    Named::At(network::constraint_at(events, constraints, k))
 }
 
 // Whether numbers are a chain.
-fn chain_told(events: usize, constraints: &[i64], numbers: &[u32]) -> Holds
-    requires { NetworkInRange events constraints.now }
-    ensures { Tells (IsChain constraints.now numbers.now) result }
+fn is_chain(network: &Network, numbers: &[u32]) -> bool
+    ensures { IsTrue result ↔ IsChain network.now.constraints.now numbers.now }
 {
-    if numbers.len() == 0 {
-        return Holds::No;
+    if numbers.is_empty() {
+        return false;
     }
-    let begin = named_at(events, constraints, numbers, 0);
-    let Named::At(b) = begin else {
-        return Holds::No;
+    let Some(begin) = named_at(network, numbers, 0) else {
+        return false;
     };
-    let first = b.from;
+    let first = begin.from;
     let mut seen = [0usize; network::MAX_EVENTS];
     let mut at = first;
     let mut sum: i64 = 0;
-    let mut a: usize = 0;
-    while a < numbers.len() {
-        let named = named_at(events, constraints, numbers, a);
-        let Named::At(c) = named else {
-            return Holds::No;
+    for a in 0..numbers.len() {
+        let Some(c) = named_at(network, numbers, a) else {
+            return false;
         };
         let i = c.from;
         if i != at {
-            return Holds::No;
+            return false;
         }
         if seen[i] != 0 {
-            return Holds::No;
+            return false;
         }
         seen[i] = a + 1;
         sum = signed::sum(sum, c.most);
         at = c.to;
-        a = a + 1;
     }
-    if at != first {
-        return Holds::No;
-    }
-    if 0 <= sum {
-        return Holds::No;
-    }
-    Holds::Yes
+    at == first && sum < 0
 }
 
-// Tests a chain: whether the constraints with these numbers, at least one and in this order, are linked and closed, meet no event twice and have a negative sum.
-// Refused: 27, 16.
-pub fn test_chain(events: usize, constraints: &[i64], numbers: &[u32]) -> ChainTest
+/// Tests a chain: returns whether the constraints with these numbers, at least one and in this order, are linked and closed, meet no event twice and have a
+/// negative sum. Refuses with 27 or 16.
+pub fn test_chain(events: usize, constraints: &[i64], numbers: &[u32]) -> Result<bool, Refusal>
     ensures { TestsChain events constraints.now numbers.now result }
 {
-    let told = network::judged_network(events, constraints);
-    match told {
-        Checked::Refused(number, at) => {
-            return ChainTest::Refused(number, at);
-        }
-        Checked::Clear => {}
-    }
-    let holds = chain_told(events, constraints, numbers);
-    match holds {
-        Holds::Yes => ChainTest::Chain,
-        Holds::No => ChainTest::NoChain,
-    }
+    let network = Network::judge(events, constraints)?;
+    Ok(is_chain(&network, numbers))
 }

@@ -1,6 +1,6 @@
 -- What digits are worth, one more digit at a time. Assumes nothing.
 use Prim.Native.Nat.{ℕ, zero, suc, ◌+◌, ◌*◌, ◌-◌, ◌≤◌, ◌<◌}
-use mathlib.Core.Path.{◌≡◌, refl, ◌∙◌, sym, subst}
+use mathlib.Core.Path.{◌≡◌, refl, ◌∙◌, sym}
 use mathlib.Core.List.{List, [], ◌∷◌}
 use mathlib.Core.Logic.{⊎_elim}
 use lib.ListN.{length, drop, get_or}
@@ -9,9 +9,7 @@ use native.Mathlib.Numerals.{add-one}
 use native.Mathlib.Omega.{arith}
 use Rattle.basics.proofs.Splits.{lt_or_ge}
 use Rattle.numbers.specs.Number.{max_word}
-use Rattle.decimal.specs.Decimal.{zero_digit, nine_digit, IsDigit, worth_after, worth_of, AllDigits, FirstOther, Typed, OtherTold}
-use Rattle.decimal.specs.declared.Other.{Other}
-use Rattle.decimal.specs.declared.Other.TheVariants as other
+use Rattle.decimal.specs.Decimal.{zero_digit, nine_digit, IsDigit, worth_after, worth_of, AllDigits, Typed}
 
 -- A digit more is worth no less.
 pub worth_grows : (s : List ℕ) (v : ℕ) → v ≤ worth_after v s
@@ -82,11 +80,3 @@ module _ {s : List ℕ} {i : ℕ} (f : DigitsTo s i) where
 
   pub digits_all : length s ≤ i → AllDigits s
   digits_all h = record { digit = λ j k. f.digits j (omega arith) }
-
--- What was told of the first other byte.
-module _ {s : List ℕ} {o : Other} where
-  pub told_other : {i : ℕ} → o ≡ other.At i → OtherTold s o → FirstOther s i
-  told_other e t = subst (OtherTold s) e t
-
-  pub told_digits : o ≡ other.Nothing → OtherTold s o → AllDigits s
-  told_digits e t = subst (OtherTold s) e t

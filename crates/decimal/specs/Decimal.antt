@@ -1,10 +1,8 @@
 -- A number as a person types it: its decimal digits, the highest first.
-use Rattle.std.specs.Prelude.{ℕ, ◌+◌, ◌*◌, ◌-◌, ◌≤◌, ◌<◌, ◌≡◌, List, [], ◌∷◌, length, get_or}
+use Rattle.std.specs.Prelude.{ℕ, ◌+◌, ◌*◌, ◌-◌, ◌≤◌, ◌<◌, ◌≡◌, List, [], ◌∷◌, length, get_or, Option, Some, None, Result, Ok, Err}
 use Rattle.numbers.specs.Number.{max_word}
-use Rattle.decimal.specs.declared.Decimal.{Decimal}
-use Rattle.decimal.specs.declared.Decimal.TheVariants as decimal
-use Rattle.decimal.specs.declared.Other.{Other}
-use Rattle.decimal.specs.declared.Other.TheVariants as other
+use Rattle.decimal.specs.declared.DecimalError.{DecimalError}
+use Rattle.decimal.specs.declared.DecimalError.TheVariants as decimal
 
 -- The bytes of the digits run from 48, the digit 0, to 57, the digit 9.
 abbrev pub zero_digit : ℕ
@@ -41,13 +39,13 @@ pub record Typed (s : List ℕ) : Type 0 where
   pub digits : AllDigits s
 
 -- Reading a number: the word that its digits are worth; no byte at all; the first byte that is no digit; or digits worth more than the largest word.
-abbrev pub ReadsDecimal : List ℕ → Decimal → Type 0
-ReadsDecimal s (decimal.Value v) = Typed s × (worth_of s ≡ v) × (v ≤ max_word)
-ReadsDecimal s decimal.Empty = length s ≡ 0
-ReadsDecimal s (decimal.NoDigit i) = FirstOther s i
-ReadsDecimal s decimal.TooLarge = Typed s × (max_word < worth_of s)
+abbrev pub ReadsDecimal : List ℕ → Result ℕ DecimalError → Type 0
+ReadsDecimal s (Ok v) = Typed s × (worth_of s ≡ v) × (v ≤ max_word)
+ReadsDecimal s (Err decimal.Empty) = length s ≡ 0
+ReadsDecimal s (Err (decimal.NoDigit i)) = FirstOther s i
+ReadsDecimal s (Err decimal.TooLarge) = Typed s × (max_word < worth_of s)
 
 -- Which byte is the first that is no digit, where one is.
-abbrev pub OtherTold : List ℕ → Other → Type 0
-OtherTold s (other.At i) = FirstOther s i
-OtherTold s other.Nothing = AllDigits s
+abbrev pub OtherTold : List ℕ → Option ℕ → Type 0
+OtherTold s (Some i) = FirstOther s i
+OtherTold s None = AllDigits s

@@ -1,11 +1,11 @@
 -- What is proved of numbers as digits.
-use Rattle.std.specs.Prelude.{◌≡◌, List, [], ◌∷◌, ℕ}
+use Rattle.std.specs.Prelude.{◌≡◌, List, [], ◌∷◌, ℕ, Result}
 use Rattle.decimal.specs.Decimal.{worth_of, ReadsDecimal}
-use Rattle.decimal.specs.declared.Decimal.{Decimal}
+use Rattle.decimal.specs.declared.DecimalError.{DecimalError}
 
 -- Reading a number has one answer.
 abbrev pub ReadDecimalOneAnswer : Type 0
-ReadDecimalOneAnswer = (s : List ℕ) (r r' : Decimal) → ReadsDecimal s r → ReadsDecimal s r' → r ≡ r'
+ReadDecimalOneAnswer = (s : List ℕ) (r r' : Result ℕ DecimalError) → ReadsDecimal s r → ReadsDecimal s r' → r ≡ r'
 
 -- The bytes 49 48 50 are worth 102, 48 48 55 are worth 7, and ten digits can be worth the largest word.
 abbrev pub DecimalsAtNumbers : Type 0

@@ -1,8 +1,10 @@
 -- Networks at numbers: the request's example, small networks that rule out wrong definitions, and the longest ring and line.
 use Rattle.std.specs.Prelude.{ℕ, ◌+◌, ◌*◌, ◌≡◌, List, [], ◌∷◌, eqb, ℤ, pos, neg_ℤ, length}
 use Rattle.basics.specs.Pick.{pick}
+use Rattle.basics.specs.Cause.{number_of}
+use Rattle.basics.specs.declared.Cause.TheVariants as cause
 use Rattle.network.specs.Network.{Network, Times, Keeps, Latest, total, Chain}
-use Rattle.network.specs.Constraints.{too_large, out_of_range, times_of, numbers_of, constraint_count, network_of, InRange, SizeAllowed, NetworkInRange, network_refusals}
+use Rattle.network.specs.Constraints.{times_of, numbers_of, constraint_count, network_of, InRange, SizeAllowed, NetworkInRange, network_refusals}
 
 -- n below zero.
 abbrev pub minus : ℕ → ℤ
@@ -72,6 +74,6 @@ pub record RangesAtNumbers : Type 0 where
   pub cut : InRange 2 (pos 0 ∷ pos 1 ∷ []) 0 → ⊥
   pub sizes : (ws : List ℤ) → (length ws ≡ 6144 → SizeAllowed 128 ws) × (length ws ≡ 6145 → SizeAllowed 128 ws → ⊥) × (SizeAllowed 129 ws → ⊥)
   pub example : NetworkInRange 3 (three_events (minus 6))
-  pub size_first : (network_refusals 129 (one_constraint (pos 0) (pos 129) (pos 0))).Fault too_large 0
-  pub lowest_first : (network_refusals 2 (three_events (pos 0))).Fault out_of_range 1
-  pub numbers : (too_large ≡ 27) × (out_of_range ≡ 16)
+  pub size_first : (network_refusals 129 (one_constraint (pos 0) (pos 129) (pos 0))).Fault cause.TooLarge 0
+  pub lowest_first : (network_refusals 2 (three_events (pos 0))).Fault cause.OutOfRange 1
+  pub numbers : (number_of cause.TooLarge ≡ 27) × (number_of cause.OutOfRange ≡ 16)

@@ -1,5 +1,6 @@
 -- A network as it is handed in: how many events it has, and three signed words for each constraint: from, to and most. When it is refused.
 use Rattle.std.specs.Prelude.{ℕ, ◌+◌, ◌*◌, ◌/◌, ◌≤◌, ◌<◌, List, ℤ, pos, nat_abs, length, get_or, ◌≤ℤ◌, ◌<ℤ◌}
+use Rattle.basics.specs.declared.Cause.TheVariants as cause
 use Rattle.basics.specs.Lowest.{All}
 use Rattle.basics.specs.Refusals.{Refusals, unless, lowest, ◌then◌, ◌called◌}
 use Rattle.network.specs.Network.{Network, Times}
@@ -13,13 +14,6 @@ max_constraints = 2048
 
 abbrev pub max_most : ℕ
 max_most = 1000000000
-
--- Refusals: more events or constraints than that, and a constraint out of range.
-abbrev pub too_large : ℕ
-too_large = 27
-
-abbrev pub out_of_range : ℕ
-out_of_range = 16
 
 -- Word i, counted from 0.
 abbrev pub word_at : List ℤ → ℕ → ℤ
@@ -71,6 +65,6 @@ pub record NetworkInRange (n : ℕ) (ws : List ℤ) : Type 0 where
 -- The refusals of a network: 27, then 16 at the lowest constraint that is out of range.
 abbrev pub network_refusals : ℕ → List ℤ → Refusals
 network_refusals n ws =
-    unless too_large (SizeAllowed n ws)
-    then lowest out_of_range (InRange n ws) (constraint_count ws)
+    unless cause.TooLarge (SizeAllowed n ws)
+    then lowest cause.OutOfRange (InRange n ws) (constraint_count ws)
     called NetworkInRange n ws

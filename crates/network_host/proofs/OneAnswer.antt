@@ -5,17 +5,15 @@ use mathlib.Core.List.{List}
 use mathlib.Core.Logic.{◌⊎◌, inl, inr, ⊎_elim}
 use native.Mathlib.Omega.{arith}
 use lib.IntN.{ℤ}
+use Rattle.std.specs.Prelude.{Bool, true, false, Option, Some, None, Result, Ok, Err}
+use Rattle.basics.specs.Cause.{number_of}
+use Rattle.basics.specs.declared.Cause.{Cause}
+use Rattle.basics.specs.declared.Refusal.{Refusal}
 use Rattle.network.specs.Constraints.{network_refusals}
 use Rattle.claims.proofs.OneAnswer.{test_times_one_answer, test_chain_one_answer}
 use Rattle.claims.specs.Claims.{TestsTimes, TestsChain}
-use Rattle.claims.specs.declared.TimesTest.{TimesTest}
-use Rattle.claims.specs.declared.TimesTest.TheVariants as times
-use Rattle.claims.specs.declared.ChainTest.{ChainTest}
-use Rattle.claims.specs.declared.ChainTest.TheVariants as chains
 use Rattle.solver.specs.Solving.{solve_refusals, SolvesWith}
 use Rattle.solver.specs.Theorems.{GaveChain}
-use Rattle.solver.specs.declared.Outcome.{Outcome}
-use Rattle.solver.specs.declared.Outcome.TheVariants as outcome
 use Rattle.solver.proofs.OneAnswer.{solve_one_answer, chains_exactly_without_times}
 use Rattle.network_host.specs.Calls.{outcome_verdict, times_verdict, chain_verdict, refused_result}
 use Rattle.network_host.specs.Theorems.{HostSolveOneAnswer, HostTestTimesOneAnswer, HostTestChainOneAnswer, HostChainsExactlyWithoutTimes, NetworkResultsAreThese, HostSolveRefusalsWriteNothing}
@@ -46,19 +44,19 @@ host_test_times_one_answer n ws ts v v' x y = x.answer ∙ ap times_verdict (tes
 pub host_test_chain_one_answer : HostTestChainOneAnswer
 host_test_chain_one_answer n ws ks v v' x y = x.answer ∙ ap chain_verdict (test_chain_one_answer n ws ks x.given y.given x.tests y.tests) ∙ sym y.answer
 
-refused_nothing : (n : ℕ) (ws : List ℤ) (before : List ℕ) (o : Outcome) (t : List ℤ) (after : List ℕ) → SolvesWith n ws before o t after → refused_result 0 ≤ (outcome_verdict o).result → after ≡ before
-refused_nothing n ws before outcome.Times t after x h = x.2
-refused_nothing n ws before (outcome.Chain l) t after x h = absurd (omega arith)
-refused_nothing n ws before (outcome.Refused k p) t after x h = x.2
+refused_nothing : (n : ℕ) (ws : List ℤ) (before : List ℕ) (o : Result (Option ℕ) Refusal) (t : List ℤ) (after : List ℕ) → SolvesWith n ws before o t after → refused_result 0 ≤ (outcome_verdict o).result → after ≡ before
+refused_nothing n ws before (Ok None) t after x h = x.2
+refused_nothing n ws before (Ok (Some l)) t after x h = absurd (omega arith)
+refused_nothing n ws before (Err e) t after x h = x.2
 
 pub host_solve_refusals_write_nothing : HostSolveRefusalsWriteNothing
 host_solve_refusals_write_nothing n ws before a after x h = refused_nothing n ws before x.given.outcome x.given.times after x.solves (subst (λ r. refused_result 0 ≤ r) x.result h)
 
 -- A result of 1 is a chain.
-one_is_chain : (o : Outcome) → (outcome_verdict o).result ≡ 1 → GaveChain o
-one_is_chain outcome.Times e = absurd (omega (arith, e))
-one_is_chain (outcome.Chain l) e = (l, refl)
-one_is_chain (outcome.Refused k p) e = absurd (omega (arith, e))
+one_is_chain : (o : Result (Option ℕ) Refusal) → (outcome_verdict o).result ≡ 1 → GaveChain o
+one_is_chain (Ok None) e = absurd (omega (arith, e))
+one_is_chain (Ok (Some l)) e = (l, refl)
+one_is_chain (Err f) e = absurd (omega (arith, e))
 
 pub host_chains_exactly_without_times : HostChainsExactlyWithoutTimes
 host_chains_exactly_without_times =
@@ -69,29 +67,29 @@ host_chains_exactly_without_times =
 
 -- Which results there are.
 module _ (n : ℕ) (ws : List ℤ) where
-  of_network : {k p : ℕ} → (network_refusals n ws).Fault k p → (refused_result k ≡ 116) ⊎ (refused_result k ≡ 127)
-  of_network (inl f) = inr (ap refused_result f.0)
-  of_network (inr f) = inl (ap refused_result f.1.0)
+  of_network : {k : Cause} {p : ℕ} → (network_refusals n ws).Fault k p → (refused_result (number_of k) ≡ 116) ⊎ (refused_result (number_of k) ≡ 127)
+  of_network (inl f) = inr (ap (λ c. refused_result (number_of c)) f.0)
+  of_network (inr f) = inl (ap (λ c. refused_result (number_of c)) f.1.0)
 
-  of_solving : {room k p : ℕ} → (solve_refusals n ws room).Fault k p → (refused_result k ≡ 115) ⊎ (refused_result k ≡ 116) ⊎ (refused_result k ≡ 127)
+  of_solving : {room : ℕ} {k : Cause} {p : ℕ} → (solve_refusals n ws room).Fault k p → (refused_result (number_of k) ≡ 115) ⊎ (refused_result (number_of k) ≡ 116) ⊎ (refused_result (number_of k) ≡ 127)
   of_solving (inl f) = inr (of_network f)
-  of_solving (inr f) = inl (ap refused_result f.1.0)
+  of_solving (inr f) = inl (ap (λ c. refused_result (number_of c)) f.1.0)
 
-  solved : (before : List ℕ) (o : Outcome) (t : List ℤ) (after : List ℕ) (r : ℕ) → SolvesWith n ws before o t after → r ≡ (outcome_verdict o).result
+  solved : (before : List ℕ) (o : Result (Option ℕ) Refusal) (t : List ℤ) (after : List ℕ) (r : ℕ) → SolvesWith n ws before o t after → r ≡ (outcome_verdict o).result
       → (r ≡ 0) ⊎ (r ≡ 1) ⊎ (r ≡ 115) ⊎ (r ≡ 116) ⊎ (r ≡ 127)
-  solved before outcome.Times t after r x e = inl e
-  solved before (outcome.Chain l) t after r x e = inr (inl e)
-  solved before (outcome.Refused k p) t after r x e = inr (inr (rw e (of_solving x.0)))
+  solved before (Ok None) t after r x e = inl e
+  solved before (Ok (Some l)) t after r x e = inr (inl e)
+  solved before (Err f) t after r x e = inr (inr (rw e (of_solving x.0)))
 
-  times_tested : (ts : List ℤ) (given : TimesTest) (v : Verdict) → TestsTimes n ws ts given → v ≡ times_verdict given → (v.result ≡ 0) ⊎ (v.result ≡ 2) ⊎ (v.result ≡ 116) ⊎ (v.result ≡ 127)
-  times_tested ts times.Kept v x e = inl (ap (λ (w : Verdict). w.result) e)
-  times_tested ts (times.Broken k) v x e = inr (inl (ap (λ (w : Verdict). w.result) e))
-  times_tested ts (times.Refused k p) v x e = rw e (inr (inr (of_network x)))
+  times_tested : (ts : List ℤ) (given : Result (Option ℕ) Refusal) (v : Verdict) → TestsTimes n ws ts given → v ≡ times_verdict given → (v.result ≡ 0) ⊎ (v.result ≡ 2) ⊎ (v.result ≡ 116) ⊎ (v.result ≡ 127)
+  times_tested ts (Ok None) v x e = inl (ap (λ (w : Verdict). w.result) e)
+  times_tested ts (Ok (Some k)) v x e = inr (inl (ap (λ (w : Verdict). w.result) e))
+  times_tested ts (Err f) v x e = rw e (inr (inr (of_network x)))
 
-  chain_tested : (ks : List ℕ) (given : ChainTest) (v : Verdict) → TestsChain n ws ks given → v ≡ chain_verdict given → (v.result ≡ 1) ⊎ (v.result ≡ 3) ⊎ (v.result ≡ 116) ⊎ (v.result ≡ 127)
-  chain_tested ks chains.Chain v x e = inl (ap (λ (w : Verdict). w.result) e)
-  chain_tested ks chains.NoChain v x e = inr (inl (ap (λ (w : Verdict). w.result) e))
-  chain_tested ks (chains.Refused k p) v x e = rw e (inr (inr (of_network x)))
+  chain_tested : (ks : List ℕ) (given : Result Bool Refusal) (v : Verdict) → TestsChain n ws ks given → v ≡ chain_verdict given → (v.result ≡ 1) ⊎ (v.result ≡ 3) ⊎ (v.result ≡ 116) ⊎ (v.result ≡ 127)
+  chain_tested ks (Ok true) v x e = inl (ap (λ (w : Verdict). w.result) e)
+  chain_tested ks (Ok false) v x e = inr (inl (ap (λ (w : Verdict). w.result) e))
+  chain_tested ks (Err f) v x e = rw e (inr (inr (of_network x)))
 
 pub network_results_are_these : NetworkResultsAreThese
 network_results_are_these =

@@ -1,13 +1,13 @@
-// The calls for C of temporal networks. What a call writes to overlaps nothing else that is lent to it (include/conepalhui-network.h).
+//! The calls for C of temporal networks. What a call writes to overlaps nothing else that is lent to it (include/conepalhui-network.h).
 #![tactic(auto)]
 
 ghost use Rattle.network_host.specs.Calls.{HostSolves, HostTestsTimes, HostTestsChain};
 ghost use Rattle.std.specs.Prelude.{◌≡◌};
+ghost use Rattle.basics.specs.Cause.{number_of};
 ghost use Rattle.network_host.specs.Calls.{verdict, outcome_verdict, times_verdict, chain_verdict, refused_result};
-ghost use Rattle.network_host.specs.Steps.{Small, OutcomeSmall, TimesSmall, ChainSmall};
+ghost use Rattle.network_host.specs.Steps.{Small, NumberSmall, ChainSmall};
 
-use claims::{ChainTest, TimesTest};
-use solver::Outcome;
+use basics::Refusal;
 
 // The results: times, a chain, times that break a constraint, and no chain; and what is added to a refusal's number.
 const TIMES: u32 = 0;
@@ -20,7 +20,7 @@ const NO_CHAIN: u32 = 3;
 
 const REFUSED: u32 = 100;
 
-// What C gets of solving, laid out as the struct in the header: a result, a number beside it, and the times.
+/// What C gets of solving, laid out as the struct in the header: a result, a number beside it, and the times.
 #[repr(C)]
 #[derive(Clone, Copy)]
 pub struct NetworkAnswer {
@@ -29,102 +29,99 @@ pub struct NetworkAnswer {
     pub times: [i64; network::MAX_EVENTS],
 }
 
-// What C gets of a test: a result, and a number beside it.
+/// What C gets of a test: a result, and a number beside it.
 #[repr(C)]
-#[derive(Clone, Copy)]
+#[derive(Clone, Copy, Debug, PartialEq, Eq)]
 pub struct Verdict {
     pub result: u32,
     pub number: u32,
 }
 
-fn refused(number: u32, at: usize) -> Verdict
-    requires { Small number at }
-    ensures { result ≡ verdict (refused_result number) at }
+fn refused(refusal: Refusal) -> Verdict
+    requires { Small (number_of refusal.cause) refusal.at }
+    ensures { result ≡ verdict (refused_result (number_of refusal.cause)) refusal.at }
 {
     Verdict {
-        result: REFUSED + number,
-        number: at as u32,
+        result: REFUSED + u32::from(refusal.cause),
+        number: refusal.at as u32,
     }
 }
 
-fn of_outcome(outcome: Outcome) -> Verdict
-    requires { OutcomeSmall outcome }
+fn of_outcome(outcome: Result<Option<usize>, Refusal>) -> Verdict
+    requires { NumberSmall outcome }
     ensures { result ≡ outcome_verdict outcome }
 {
     match outcome {
-        Outcome::Times => Verdict {
+        Ok(None) => Verdict {
             result: TIMES,
             number: 0,
         },
-        Outcome::Chain(length) => Verdict {
+        Ok(Some(length)) => Verdict {
             result: CHAIN,
             number: length as u32,
         },
-        Outcome::Refused(number, at) => refused(number, at),
+        Err(refusal) => refused(refusal),
     }
 }
 
-fn of_times(test: TimesTest) -> Verdict
-    requires { TimesSmall test }
+fn of_times(test: Result<Option<usize>, Refusal>) -> Verdict
+    requires { NumberSmall test }
     ensures { result ≡ times_verdict test }
 {
     match test {
-        TimesTest::Kept => Verdict {
+        Ok(None) => Verdict {
             result: TIMES,
             number: 0,
         },
-        TimesTest::Broken(k) => Verdict {
+        Ok(Some(k)) => Verdict {
             result: BROKEN,
             number: k as u32,
         },
-        TimesTest::Refused(number, at) => refused(number, at),
+        Err(refusal) => refused(refusal),
     }
 }
 
-fn of_chain(test: ChainTest) -> Verdict
+fn of_chain(test: Result<bool, Refusal>) -> Verdict
     requires { ChainSmall test }
     ensures { result ≡ chain_verdict test }
 {
     match test {
-        ChainTest::Chain => Verdict {
+        Ok(true) => Verdict {
             result: CHAIN,
             number: 0,
         },
-        ChainTest::NoChain => Verdict {
+        Ok(false) => Verdict {
             result: NO_CHAIN,
             number: 0,
         },
-        ChainTest::Refused(number, at) => refused(number, at),
+        Err(refusal) => refused(refusal),
     }
 }
 
-// Solves a network: the latest times, or a chain in the first of the lent words.
+/// Solves a network: the latest times, or a chain in the first of the lent words.
 pub fn conepalhui_network(events: usize, constraints: &[i64], chain: &mut [u32]) -> NetworkAnswer
     ensures { HostSolves events constraints.now chain.old result chain.new }
 {
     let solved = solver::solve(events, constraints, chain);
-    let outcome = solved.outcome;
+    let verdict = of_outcome(solved.outcome);
     let times = solved.times;
-    let told = of_outcome(outcome);
     NetworkAnswer {
-        result: told.result,
-        number: told.number,
+        result: verdict.result,
+        number: verdict.number,
         times,
     }
 }
 
-// Tests times, whoever made them.
+/// Tests times, whoever made them.
 pub fn conepalhui_network_times(events: usize, constraints: &[i64], times: &[i64]) -> Verdict
     ensures { HostTestsTimes events constraints.now times.now result }
 {
-    let test = claims::test_times(events, constraints, times);
-    of_times(test)
+    of_times(claims::test_times(events, constraints, times))
 }
 
-// Tests a chain, whoever made it.
+/// Tests a chain, whoever made it.
 pub fn conepalhui_network_chain(events: usize, constraints: &[i64], numbers: &[u32]) -> Verdict
     ensures { HostTestsChain events constraints.now numbers.now result }
 {
-    let test = claims::test_chain(events, constraints, numbers);
-    of_chain(test)
+    of_chain(claims::test_chain(events, constraints, numbers))
 }

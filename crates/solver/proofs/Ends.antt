@@ -1,22 +1,19 @@
 -- The start of the rounds, the start of the walk, and the chain in its own words. Assumes nothing.
 use mathlib.Core.Path.{◌≡◌, refl, sym, ap, ◌∙◌}
 use mathlib.Core.List.{List}
-use mathlib.Core.Logic.{inl, inr}
 use Prim.Native.Nat.{ℕ, zero, suc, ◌+◌, ◌-◌, ◌<◌, ◌≤◌}
 use native.Mathlib.Omega.{arith}
 use lib.IntN.{ℤ, pos}
-use lib.ListN.{get_or, replicate, length-replicate}
+use Rattle.std.specs.Prelude.{◌++◌}
+use lib.ListN.{length, take, drop, get_or, replicate, length-replicate, length-append, length-drop}
+use lib.Seq.{length-take-le}
+use Rattle.std.proofs.lemmas.List.{get_or_append_left, get_or-append_right, get_or-take, get_or-drop}
 use Rattle.network.specs.Network.{Network, Chain, total}
-use Rattle.basics.specs.Refusals.{Told}
-use Rattle.basics.specs.declared.Checked.{Checked}
-use Rattle.basics.specs.declared.Checked.TheVariants.{Clear, Refused}
-use Rattle.numbers.specs.Number.{no_room}
-use Rattle.network.specs.Constraints.{network_refusals, network_of, NetworkInRange, times_of, numbers_of}
+use Rattle.network.specs.Constraints.{network_of, NetworkInRange, times_of, numbers_of}
 use Rattle.network.proofs.Ranges.{bounded}
-use Rattle.network.proofs.Judging.{told_in_range, told_refused}
 use Rattle.network.proofs.Marks.{all}
-use Rattle.solver.specs.Solving.{solve_refusals, GivesChain}
-use Rattle.solver.specs.Steps.{Stands, Restless, Walking, Turned, Copied}
+use Rattle.solver.specs.Solving.{GivesChain}
+use Rattle.solver.specs.Steps.{Stands, Restless, Walking, Turned}
 use Rattle.solver.proofs.Looking.{zeros}
 use Rattle.solver.proofs.Walking.{set_out}
 
@@ -60,20 +57,22 @@ module _ (w : Network) (l : ℕ) (ks js : ℕ → ℕ) (e : (a : ℕ) → a < l 
         negative = rw (same_total l (omega arith)) c.negative;
       }
 
--- The copy of a chain is one, in the lent words.
-pub given : {n : ℕ} {ws : List ℤ} {path : List ℕ} {start len : ℕ} {before after : List ℕ} → Turned n ws path start len → Copied path start len before after → GivesChain n ws len before after
-given {ws = ws} {path} {start} {len} {after = after} t c =
-    record {
-      chain = same_chain (network_of ws) len (λ a. get_or path (start + a) 0) (numbers_of after) c.same t.chain;
-      short = t.short;
-      rest = c.rest;
-      long = c.long;
-    }
+-- The part of the path with the chain, in front of the other lent words.
+module _ {n : ℕ} {ws : List ℤ} {path : List ℕ} {start len : ℕ} (t : Turned n ws path start len) (before part : List ℕ) (room : len ≤ length before) (is : part ≡ take len (drop start path)) where
+  size : length part ≡ len
+  size = rw is (length-take-le len (drop start path) (omega (arith, length-drop start path, t.within, t.long)))
 
--- What solving tells after the network was judged.
-module _ {n : ℕ} {ws : List ℤ} (told : Checked) (told-so : Told (network_refusals n ws) told) where
-  pub refused : {k p : ℕ} → told ≡ Refused k p → (room : ℕ) → (solve_refusals n ws room).Fault k p
-  refused e room = inl (told_refused told told-so e)
+  copied : (a : ℕ) → a < len → numbers_of (part ++ drop len before) a ≡ get_or path (start + a) 0
+  copied a z = get_or_append_left part (drop len before) 0 a (omega (arith, size)) ∙ ap (λ (l : List ℕ). get_or l a 0) is ∙ get_or-take len (drop start path) a 0 z ∙ get_or-drop start path a 0
 
-  pub no_room_lem : told ≡ Clear → {room : ℕ} → room < n → (solve_refusals n ws room).Fault no_room 0
-  no_room_lem e h = inr (told_in_range told told-so e, (refl, refl, λ q. omega arith))
+  left : (a : ℕ) → len ≤ a → numbers_of (part ++ drop len before) a ≡ numbers_of before a
+  left a z = get_or-append_right part (drop len before) len a 0 size z ∙ get_or-drop len before (a - len) 0 ∙ ap (numbers_of before) (omega arith)
+
+  pub given : GivesChain n ws len before (part ++ drop len before)
+  given =
+      record {
+        chain = same_chain (network_of ws) len (λ a. get_or path (start + a) 0) (numbers_of (part ++ drop len before)) copied t.chain;
+        short = t.short;
+        rest = left;
+        long = omega (arith, length-append part (drop len before), length-drop len before, size);
+      }

@@ -3,7 +3,6 @@ pub mod Falling
 pub mod Walking
 pub mod Lowering
 pub mod SteppingBack
-pub mod Copying
 pub mod Ends
 pub mod Turns
 pub mod OneAnswer

@@ -1,16 +1,15 @@
 -- What solving a network promises (document 02, L2): the latest times, or a closed chain with a negative sum, or a refusal; and every lent word.
-use Rattle.std.specs.Prelude.{ℕ, ◌≤◌, ◌≡◌, List, ℤ, pos, length, replicate}
+use Rattle.std.specs.Prelude.{ℕ, ◌≤◌, ◌≡◌, List, ℤ, pos, length, replicate, Option, Some, None, Result, Ok, Err}
 use Rattle.basics.specs.Refusals.{Refusals, unless, ◌then◌}
-use Rattle.numbers.specs.Number.{no_room}
+use Rattle.basics.specs.declared.Cause.TheVariants as cause
+use Rattle.basics.specs.declared.Refusal.{Refusal}
 use Rattle.network.specs.Network.{Latest, Chain}
 use Rattle.network.specs.Constraints.{max_events, times_of, numbers_of, network_of, network_refusals}
-use Rattle.solver.specs.declared.Outcome.{Outcome}
-use Rattle.solver.specs.declared.Outcome.TheVariants as outcome
 use Rattle.solver.specs.declared.Solved.{Solved}
 
 -- The refusals: those of the network, then 15 where fewer words are lent for a chain than there are events, also where times exist.
 abbrev pub solve_refusals : ℕ → List ℤ → ℕ → Refusals
-solve_refusals n ws room = network_refusals n ws then unless no_room (n ≤ room)
+solve_refusals n ws room = network_refusals n ws then unless cause.NoRoom (n ≤ room)
 
 -- 128 times of 0: what is given with a chain and with a refusal.
 abbrev pub no_times : List ℤ
@@ -30,10 +29,10 @@ pub record GivesChain (n : ℕ) (ws : List ℤ) (l : ℕ) (before after : List �
   pub long : length after ≡ length before
 
 -- Solving a network of n events with the constraints ws. The words lent for a chain were before, and are after.
-abbrev pub SolvesWith : ℕ → List ℤ → List ℕ → Outcome → List ℤ → List ℕ → Type 0
-SolvesWith n ws before outcome.Times times after = (solve_refusals n ws (length before)).Clear × GivesTimes n ws times × (after ≡ before)
-SolvesWith n ws before (outcome.Chain l) times after = (solve_refusals n ws (length before)).Clear × GivesChain n ws l before after × (times ≡ no_times)
-SolvesWith n ws before (outcome.Refused k p) times after = (solve_refusals n ws (length before)).Fault k p × (times ≡ no_times) × (after ≡ before)
+abbrev pub SolvesWith : ℕ → List ℤ → List ℕ → Result (Option ℕ) Refusal → List ℤ → List ℕ → Type 0
+SolvesWith n ws before (Ok None) times after = (solve_refusals n ws (length before)).Clear × GivesTimes n ws times × (after ≡ before)
+SolvesWith n ws before (Ok (Some l)) times after = (solve_refusals n ws (length before)).Clear × GivesChain n ws l before after × (times ≡ no_times)
+SolvesWith n ws before (Err e) times after = (solve_refusals n ws (length before)).Fault e.cause e.at × (times ≡ no_times) × (after ≡ before)
 
 abbrev pub Solves : ℕ → List ℤ → List ℕ → Solved → List ℕ → Type 0
 Solves n ws before s after = SolvesWith n ws before s.outcome s.times after

@@ -1,21 +1,26 @@
 -- What inner functions promise: the rounds and the walk, on the lists that the arrays hold.
-use Rattle.std.specs.Prelude.{ℕ, ◌+◌, ◌*◌, ◌-◌, ◌≤◌, ◌<◌, ◌≡◌, List, ℤ, length, get_or, replicate}
+use Rattle.std.specs.Prelude.{ℕ, ◌+◌, ◌*◌, ◌-◌, ◌≤◌, ◌<◌, ◌≡◌, List, ℤ, length, get_or, replicate, Option, Some, None, Result, Ok, Err}
+use Rattle.basics.specs.declared.Refusal.{Refusal}
+use Rattle.network.specs.declared.Network.{Network}
 use Rattle.network.specs.Network.{Chain}
 use Rattle.network.specs.Constraints.{max_events, max_constraints, times_of, numbers_of, network_of, constraint_count}
-use Rattle.solver.specs.Solving.{GivesTimes}
+use Rattle.solver.specs.Solving.{solve_refusals, GivesTimes}
 use Rattle.solver.specs.Rounds.{Kept}
 use Rattle.solver.specs.Walks.{Walked}
-use Rattle.solver.specs.declared.Step.{Step}
-use Rattle.solver.specs.declared.Step.TheVariants.{Stayed, Lowered}
+
+-- The network of what was given, where so many words are enough for a chain; or the refusal that is due.
+abbrev pub SolvableTold : ℕ → List ℤ → ℕ → Result Network Refusal → Type 0
+SolvableTold n ws room (Ok w) = (solve_refusals n ws room).Clear × (w.events ≡ n) × (w.constraints.now ≡ ws)
+SolvableTold n ws room (Err e) = (solve_refusals n ws room).Fault e.cause e.at
 
 -- The last tick there can be: every round looks at every constraint.
 abbrev pub max_ticks : ℕ
 max_ticks = max_events * max_constraints
 
 -- The last event lowered after tick b, if any.
-abbrev pub Last : Step → ℕ → ℕ → (ℕ → ℕ) → Type 0
-Last Stayed n b tick = (v : ℕ) → v < n → tick v ≤ b
-Last (Lowered v) n b tick = (v < n) × (b < tick v)
+abbrev pub Last : Option ℕ → ℕ → ℕ → (ℕ → ℕ) → Type 0
+Last None n b tick = (v : ℕ) → v < n → tick v ≤ b
+Last (Some v) n b tick = (v < n) × (b < tick v)
 
 -- The three arrays of the rounds.
 pub record Stands (n : ℕ) (ws : List ℤ) (b k : ℕ) (t : List ℤ) (tick by : List ℕ) : Type 0 where
@@ -32,9 +37,9 @@ pub record Restless (n : ℕ) (ws : List ℤ) (v : ℕ) (t : List ℤ) (tick by 
   pub late : n * constraint_count ws < numbers_of tick v + constraint_count ws
 
 -- The rounds end with the latest times, or with an event that was lowered in the last one.
-abbrev pub Ended : Step → ℕ → List ℤ → List ℤ → List ℕ → List ℕ → Type 0
-Ended Stayed n ws t tick by = GivesTimes n ws t
-Ended (Lowered v) n ws t tick by = Restless n ws v t tick by
+abbrev pub Ended : Option ℕ → ℕ → List ℤ → List ℤ → List ℕ → List ℕ → Type 0
+Ended None n ws t tick by = GivesTimes n ws t
+Ended (Some v) n ws t tick by = Restless n ws v t tick by
 
 -- k steps back from an event that was lowered in the last round, the walk stands at x; step a is written at 127 - a.
 pub record Walking (n : ℕ) (ws : List ℤ) (by : List ℕ) (k x : ℕ) (path seen : List ℕ) : Type 0 where
@@ -56,9 +61,3 @@ pub record Turned (n : ℕ) (ws : List ℤ) (path : List ℕ) (start len : ℕ) 
   pub short : len ≤ n
   pub within : start + len ≤ max_events
   pub long : length path ≡ max_events
-
--- The first k of the lent words are those of the path from start on, and the others as they were before.
-pub record Copied (path : List ℕ) (start k : ℕ) (before after : List ℕ) : Type 0 where
-  pub same : (a : ℕ) → a < k → numbers_of after a ≡ get_or path (start + a) 0
-  pub rest : (a : ℕ) → k ≤ a → numbers_of after a ≡ numbers_of before a
-  pub long : length after ≡ length before

@@ -1,27 +1,22 @@
 -- What is proved of solving a network.
-use Rattle.std.specs.Prelude.{ℕ, ◌≤◌, ◌≡◌, List, ◌⊎◌, ℤ, length, take}
+use Rattle.std.specs.Prelude.{ℕ, ◌≤◌, ◌≡◌, List, ◌⊎◌, ℤ, length, take, Bool, true, Option, Some, None, Result, Ok}
+use Rattle.basics.specs.declared.Refusal.{Refusal}
 use Rattle.network.specs.Network.{Times, Keeps}
 use Rattle.network.specs.Constraints.{numbers_of, network_of}
 use Rattle.claims.specs.Claims.{TestsTimes, TestsChain}
-use Rattle.claims.specs.declared.TimesTest.{TimesTest}
-use Rattle.claims.specs.declared.TimesTest.TheVariants as times
-use Rattle.claims.specs.declared.ChainTest.{ChainTest}
-use Rattle.claims.specs.declared.ChainTest.TheVariants as chains
 use Rattle.solver.specs.Solving.{solve_refusals, Solves}
-use Rattle.solver.specs.declared.Outcome.{Outcome}
-use Rattle.solver.specs.declared.Outcome.TheVariants as outcome
 use Rattle.solver.specs.declared.Solved.{Solved}
 
 -- A chain was given.
-abbrev pub GaveChain : Outcome → Type 0
-GaveChain o = (l : ℕ) × (o ≡ outcome.Chain l)
+abbrev pub GaveChain : Result (Option ℕ) Refusal → Type 0
+GaveChain o = (l : ℕ) × (o ≡ Ok (Some l))
 
 -- Both gave a chain, and every lent word past both of them is the same.
-pub record BothChains (o p : Outcome) (after after' : List ℕ) : Type 0 where
+pub record BothChains (o p : Result (Option ℕ) Refusal) (after after' : List ℕ) : Type 0 where
   pub one : ℕ
   pub other : ℕ
-  pub first : o ≡ outcome.Chain one
-  pub second : p ≡ outcome.Chain other
+  pub first : o ≡ Ok (Some one)
+  pub second : p ≡ Ok (Some other)
   pub past : (a : ℕ) → one ≤ a → other ≤ a → numbers_of after a ≡ numbers_of after' a
   pub long : length after ≡ length after'
 
@@ -40,7 +35,7 @@ pub record ChainsExactlyWithoutTimes : Type 0 where
 
 -- What is given passes the tests: the times as they are, and the first words as a chain.
 pub record SolvedPassesTheTests : Type 0 where
-  pub kept : (n : ℕ) (ws : List ℤ) (before : List ℕ) (a : Solved) (after : List ℕ) (r : TimesTest)
-      → Solves n ws before a after → a.outcome ≡ outcome.Times → TestsTimes n ws a.times r → r ≡ times.Kept
-  pub chain : (n : ℕ) (ws : List ℤ) (before : List ℕ) (a : Solved) (after : List ℕ) (l : ℕ) (r : ChainTest)
-      → Solves n ws before a after → a.outcome ≡ outcome.Chain l → TestsChain n ws (take l after) r → r ≡ chains.Chain
+  pub kept : (n : ℕ) (ws : List ℤ) (before : List ℕ) (a : Solved) (after : List ℕ) (r : Result (Option ℕ) Refusal)
+      → Solves n ws before a after → a.outcome ≡ Ok None → TestsTimes n ws a.times r → r ≡ Ok None
+  pub chain : (n : ℕ) (ws : List ℤ) (before : List ℕ) (a : Solved) (after : List ℕ) (l : ℕ) (r : Result Bool Refusal)
+      → Solves n ws before a after → a.outcome ≡ Ok (Some l) → TestsChain n ws (take l after) r → r ≡ Ok true

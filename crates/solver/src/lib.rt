@@ -1,82 +1,66 @@
-// Solves simple temporal networks: the latest times, or a closed chain of constraints with a negative sum.
+//! Solves simple temporal networks: the latest times, or a closed chain of constraints with a negative sum.
 #![tactic(auto)]
 
 ghost use Rattle.std.specs.Prelude.{◌≤◌, length};
-ghost use Rattle.network.specs.Constraints.{NetworkInRange};
 ghost use Rattle.solver.specs.Solving.{Solves};
+ghost use Rattle.solver.specs.Steps.{SolvableTold};
 
-use basics::Checked;
+use basics::{Cause, Refusal};
+use network::Network;
 
 pub mod rounds;
 pub mod walk;
 
-// Internal: the last event that was lowered, if any.
-#[derive(Clone, Copy)]
-pub enum Step {
-    Stayed,
-    Lowered(usize),
-}
-
-// Times; a chain of so many constraints; or a refusal's number and position.
-#[derive(Clone, Copy)]
-pub enum Outcome {
-    Times,
-    Chain(usize),
-    Refused(u32, usize),
-}
-
-// What solving gives. The times are 0 where there is a chain, where it is refused, and for events that there are not.
+/// What solving gives: `None` where there are times, the length of a chain, or a refusal.
+/// The times are 0 where there is a chain, where it is refused, and for events that there are not.
 #[derive(Clone, Copy)]
 pub struct Solved {
-    pub outcome: Outcome,
+    pub outcome: Result<Option<usize>, Refusal>,
     pub times: [i64; network::MAX_EVENTS],
 }
 
 // The latest times, or a chain.
-fn times_or_chain(events: usize, constraints: &[i64], chain: &mut [u32]) -> Solved
-    requires network_in_range { NetworkInRange events constraints.now }
-    requires events_in_bounds { events ≤ length chain.old }
-    ensures { Solves events constraints.now chain.old result chain.new }
+fn times_or_chain(network: &Network, chain: &mut [u32]) -> Solved
+    requires { network.now.events ≤ length chain.old }
+    ensures { Solves network.now.events network.now.constraints.now chain.old result chain.new }
 {
     let mut times = [0i64; network::MAX_EVENTS];
     let mut ticks = [0usize; network::MAX_EVENTS];
     let mut by = [0u32; network::MAX_EVENTS];
-    let step = rounds::rounds(events, constraints, &mut times, &mut ticks, &mut by);
-    match step {
-        Step::Stayed => Solved {
-            outcome: Outcome::Times,
+    match rounds::rounds(network, &mut times, &mut ticks, &mut by) {
+        None => Solved {
+            outcome: Ok(None),
             times,
         },
-        Step::Lowered(v) => {
-            let length = walk::chain_from(events, constraints, &by, v, chain);
-            Solved {
-                outcome: Outcome::Chain(length),
-                times: [0i64; network::MAX_EVENTS],
-            }
-        }
+        Some(v) => Solved {
+            outcome: Ok(Some(walk::chain_from(network, &by, v, chain))),
+            times: [0i64; network::MAX_EVENTS],
+        },
     }
 }
 
-// Solves a network: events 0 to events - 1, and three words for each constraint, from, to and most: the time of event `to` minus the time of event `from` is at most
-// `most`. The times are the latest that keep every constraint with none above zero. Where no times do, the first words of `chain` get the numbers of constraints
-// that show it. Refused: 27, 16, 15.
+// The network, where so many words are enough for a chain; or the refusal that is due.
+fn solvable<'a>(events: usize, constraints: &'a [i64], room: usize) -> Result<Network<'a>, Refusal>
+    ensures { SolvableTold events constraints.now room result }
+{
+    let network = Network::judge(events, constraints)?;
+    if room < events {
+        return Err(Cause::NoRoom.at(0));
+    }
+    Ok(network)
+}
+
+/// Solves a network: events 0 to events - 1, and three words for each constraint, from, to and most: the time of event `to` minus the time of event `from` is at
+/// most `most`. The times are the latest that keep every constraint with none above zero. Where no times do, the first words of `chain` get the numbers of
+/// constraints that show it. Refuses with 27, 16 or 15.
 pub fn solve(events: usize, constraints: &[i64], chain: &mut [u32]) -> Solved
     ensures { Solves events constraints.now chain.old result chain.new }
 {
-    let told = network::judged_network(events, constraints);
-    match told {
-        Checked::Refused(number, at) => Solved {
-            outcome: Outcome::Refused(number, at),
+    match solvable(events, constraints, chain.len()) {
+        Ok(network) => times_or_chain(&network, chain),
+        Err(refusal) => Solved {
+            outcome: Err(refusal),
             times: [0i64; network::MAX_EVENTS],
         },
-        Checked::Clear => {
-            if chain.len() < events {
-                return Solved {
-                    outcome: Outcome::Refused(numbers::NO_ROOM, 0),
-                    times: [0i64; network::MAX_EVENTS],
-                };
-            }
-            times_or_chain(events, constraints, chain)
-        }
     }
 }

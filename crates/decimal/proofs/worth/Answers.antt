@@ -3,11 +3,11 @@
 use Rattle.decimal.proofs.Laws.{turn_large, turn_more, turn_ends}
 use Rattle.decimal.proofs.worth.Goals as goal
 
-pub returns-then-value-gt-MAX_WORD : goal.returns-then-value-gt-MAX_WORD
-returns-then-value-gt-MAX_WORD c = (search, search turn_large)
+pub returns-then-value : goal.returns-then-value
+returns-then-value c = (search, search turn_large)
 
-pub loop-i-preserved : goal.loop-i-preserved
-loop-i-preserved c = search turn_more
+pub loop-byte-preserved : goal.loop-byte-preserved
+loop-byte-preserved c = search turn_more
 
 pub returns : goal.returns
 returns c = (search, search turn_ends, search)

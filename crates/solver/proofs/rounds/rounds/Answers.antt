@@ -1,9 +1,9 @@
 -- `solver::rounds::rounds` meets its contract. Assumes nothing.
-use Rattle.solver.proofs.Turns.{rests, nothing_to_do}
+use Rattle.solver.proofs.Turns.{rests, goes_on}
 use Rattle.solver.proofs.rounds.rounds.Goals as goal
 
-pub returns-in-Stayed : goal.returns-in-Stayed
-returns-in-Stayed c = rests c.loop-r.invariant c.round-step.ensures.stands_2 c.round-step.result c.round-step.ensures.last (search)
+pub returns-in_err-round : goal.returns-in_err-round
+returns-in_err-round c = rw c.from_residual.ensures (rests c.args.network.now.in_range c.loop-r.invariant (rw c.size.ensures at c.round.ensures.stands_2) (rw c.size.ensures at c.in_err-round.ensures.last))
 
-pub returns-then-r-eq0 : goal.returns-then-r-eq0
-returns-then-r-eq0 c = search (nothing_to_do c.loop-r.invariant)
+pub loop-r-preserved : goal.loop-r-preserved
+loop-r-preserved c = goes_on c.args.network.now.in_range c.loop-r.invariant (rw c.size.ensures at c.round.ensures.stands_2) (rw c.size.ensures at c.in_ok-round.ensures.last) c.loop-r-test.true

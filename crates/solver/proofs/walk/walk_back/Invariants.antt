@@ -4,7 +4,7 @@ use Rattle.solver.specs.Steps.{Walking}
 use Rattle.solver.proofs.walk.walk_back.Given as goal
 
 abbrev pub invariant-loop-seen : goal.invariant-loop-seen
-invariant-loop-seen l = Walking l.events l.constraints l.by l.k l.x l.path l.seen
+invariant-loop-seen l = Walking l.network.events l.network.constraints.now l.by l.k l.x l.path l.seen
 
 abbrev pub decreases-loop-seen : goal.decreases-loop-seen
-decreases-loop-seen l = l.events - l.k
+decreases-loop-seen l = l.network.events - l.k
