@@ -1,26 +1,21 @@
 -- A slice on its way: the places passed hold, and the budget used is their number. Assumes nothing.
-use Prim.Native.Nat.{ℕ, ◌+◌, ◌-◌, ◌≤◌, ◌<◌}
-use mathlib.Core.Path.{◌≡◌, refl, ap, subst}
+use Rattle.std.specs.Prelude.{ℕ, ◌+◌, ◌-◌, ◌≤◌, ◌<◌, min}
+use mathlib.Core.Path.{◌≡◌, refl, ap}
 use mathlib.Core.List.{List}
 use mathlib.Core.Logic.{inl, inr, ⊎_elim}
 use native.Mathlib.Omega.{arith}
-use mir.Syntax.{w32}
-use mir.Val.{Fits}
 use Rattle.basics.proofs.Splits.{lt_or_ge}
 use Rattle.table.specs.Layout.{leg_count}
 use Rattle.files.specs.declared.Cursor.{Cursor}
 use Rattle.rules.specs.Places.{places_of}
-use Rattle.rules.specs.Steps.{LegIn}
 use Rattle.rules.specs.declared.Rule.{Rule}
 use Rattle.places.specs.Order.{places_below, rank, IsPlace, IsEnd, PlaceOrEnd, HoldFrom}
-use Rattle.places.specs.Told.{LegHolds, FirstBroken, ToldOfLeg, IsLesser}
-use Rattle.places.specs.declared.LegTold.{LegTold}
-use Rattle.places.specs.declared.LegTold.TheVariants.{Broken, Kept}
+use Rattle.places.specs.Told.{LegHolds, FirstBroken}
 use Rattle.places.proofs.Ranks.{below_mono, leg_below, held_on, held_none, next_leg}
 use Rattle.checker.specs.Cursors.{cursor_rank, CursorRight}
 use Rattle.checker.specs.Slices.{Violates, Ends, Pauses}
 use Rattle.checker.specs.Moves.{AtTheLesser}
-use Rattle.checker.specs.Steps.{PulledBack, Looked}
+use Rattle.checker.specs.Steps.{PulledBack}
 
 -- A slice from c stands at (a,p) with so much of its budget left.
 pub record Looking (t : List ℕ) (c : Cursor) (budget a p left : ℕ) : Type 0 where
@@ -113,102 +108,44 @@ module _ {t : List ℕ} {c : Cursor} (right : CursorRight t c) where
         }
 
 -- A turn of the loop over the legs: all that it knows, so that no proof needs anything from before the loop.
-pub record Turn (t first next : List ℕ) (c : Cursor) (budget legs a p left : ℕ) : Type 0 where
+pub record Turn (t : List ℕ) (c : Cursor) (budget legs a p left : ℕ) : Type 0 where
   pub right : CursorRight t c
-  pub looked : Looked t first next
-  pub word : Fits w32 budget
   pub legs_are : legs ≡ leg_count t
   pub leg : a ≤ leg_count t
   pub place : p ≤ places_of a
   pub looking : Looking t c budget a p left
 
-module _ {t first next : List ℕ} {c : Cursor} {budget legs a p left : ℕ} where
-  turn_at : CursorRight t c → Looked t first next → Fits w32 budget → legs ≡ leg_count t → Looking t c budget a p left → Turn t first next c budget legs a p left
-  turn_at right looked word e i = record {
-    right = right;
-    looked = looked;
-    word = word;
-    legs_are = e;
-    leg = no_leg_past i.stands;
-    place = ⊎_elim (λ (h : IsPlace t a p). omega (arith, h.place)) (λ (h : IsEnd t a p). omega (arith, h.place)) i.stands;
-    looking = i;
-  }
-
-  pub turn_starts : CursorRight t c → Looked t first next → Fits w32 budget → legs ≡ leg_count t → a ≡ c.leg → p ≡ c.place → left ≡ budget
-      → Turn t first next c budget legs a p left
-  turn_starts right looked word e f g h = turn_at right looked word e (looking_start right _ _ _ _ f g h)
-
-  pub turn_ends : {w : ℕ} → Turn t first next c budget legs a p left → legs ≤ a → w ≡ budget → Ends t c budget (record { revision = c.revision; leg = a; place = 0 }) (w - left)
-  turn_ends i h e = rw e (looking_ended i.right i.looking (omega (arith, i.legs_are)))
-
-  pub turn_leg : Turn t first next c budget legs a p left → a < legs → LegIn t a
-  turn_leg i h = record { table = i.looked.table; leg = omega (arith, i.legs_are) }
-
--- A turn at leg a, once the places from p on and step further are told.
-pub record AtLeg : Type 0 where
-  pub t : List ℕ
-  pub first : List ℕ
-  pub next : List ℕ
-  pub c : Cursor
-  pub budget : ℕ
-  pub legs : ℕ
-  pub a : ℕ
-  pub p : ℕ
-  pub left : ℕ
-  pub end : ℕ
-  pub step : ℕ
-  pub told : LegTold
-  pub i : Turn t first next c budget legs a p left
-  pub below : a < legs
-  pub e : end ≡ places_of a
-  pub l : IsLesser left (end - p) step
-  pub m : ToldOfLeg t a p (p + step) told
-
-abbrev pub at_leg : (told : LegTold) {t first next : List ℕ} {c : Cursor} {budget legs a p left end step : ℕ} → Turn t first next c budget legs a p left → a < legs
-    → end ≡ places_of a → IsLesser left (end - p) step → ToldOfLeg t a p (p + step) told → AtLeg
-at_leg told i below e l m = record {
-  t = _;
-  first = _;
-  next = _;
-  c = _;
-  budget = _;
-  legs = _;
-  a = _;
-  p = _;
-  left = _;
-  end = _;
-  step = _;
-  told = told;
-  i = i;
-  below = below;
-  e = e;
-  l = l;
-  m = m;
+turn_at : {t : List ℕ} {c : Cursor} {budget legs a p left : ℕ} → CursorRight t c → legs ≡ leg_count t → Looking t c budget a p left → Turn t c budget legs a p left
+turn_at {t} {a = a} {p = p} right e i = record {
+  right = right;
+  legs_are = e;
+  leg = no_leg_past i.stands;
+  place = ⊎_elim (λ (h : IsPlace t a p). omega (arith, h.place)) (λ (h : IsEnd t a p). omega (arith, h.place)) i.stands;
+  looking = i;
 }
 
-module _ (s : AtLeg) where
-  open s use {t, first, next, c, budget, legs, a, p, left, end, step, told, i, below, e, l, m}
+module _ {t : List ℕ} {c : Cursor} {budget legs a p left : ℕ} where
+  pub turn_starts : CursorRight t c → legs ≡ leg_count t → a ≡ c.leg → p ≡ c.place → left ≡ budget → Turn t c budget legs a p left
+  turn_starts right e f g h = turn_at right e (looking_start right _ _ _ _ f g h)
 
-  pub turn_violates : {q w : ℕ} {r : Rule} → told ≡ Broken q r → w ≡ budget
-      → Violates t c budget (record { revision = c.revision; leg = a; place = q }) (w - left + (q - p) + 1) r
-  turn_violates {q} {w} {r} is f =
-      let b : FirstBroken t a p (p + step) q r = subst (ToldOfLeg t a p (p + step)) is m in
-      rw f (looking_broken i.right i.looking (p + step) q r (turn_leg i below).leg (omega (arith, l.right, i.place)) (omega (arith, l.left)) b)
+  module _ (i : Turn t c budget legs a p left) where
+    pub turn_ends : legs ≤ a → Ends t c budget (record { revision = c.revision; leg = legs; place = 0 }) (budget - left)
+    turn_ends h = let e : legs ≡ a = omega (arith, i.legs_are, i.leg) in rw e (looking_ended i.right i.looking (omega (arith, i.legs_are)))
 
-  pub turn_pauses : told ≡ Kept → p + step < end → Pauses t c budget (record { revision = c.revision; leg = a; place = p + step }) budget
-  turn_pauses is h =
-      let all : p + step ≡ p + left
-      = ⊎_elim (λ (k : left < end - p). omega (arith, l.is_left (omega arith))) (λ (k : end - p ≤ left). absurd (omega (arith, l.is_right k, i.place))) (lt_or_ge left (end - p)) in
-      looking_paused i.right i.looking (p + step) (turn_leg i below).leg all (omega arith) (subst (ToldOfLeg t a p (p + step)) is m)
+    -- At leg a, once the places from p on and step further are told.
+    module _ (below : a < legs) {end step : ℕ} (e : end ≡ places_of a) (l : step ≡ min left (end - p)) where
+      pub turn_violates : {q : ℕ} {r : Rule} → FirstBroken t a p (p + step) q r
+          → Violates t c budget (record { revision = c.revision; leg = a; place = q }) (budget - left + (q - p) + 1) r
+      turn_violates {q} {r} b =
+          looking_broken i.right i.looking (p + step) q r (omega (arith, i.legs_are)) (omega (arith, i.place)) (omega arith) b
 
-  pub turn_goes_on : told ≡ Kept → end ≤ p + step → Turn t first next c budget legs (a + 1) 0 (left - step)
-  turn_goes_on is h =
-      turn_at i.right i.looked i.word i.legs_are
-      (looking_next i.right i.looking step (turn_leg i below).leg (omega (arith, l.right, i.place)) l.left (subst (ToldOfLeg t a p (p + step)) is m))
+      pub turn_pauses : LegHolds t a p (p + step) → p + step < end → Pauses t c budget (record { revision = c.revision; leg = a; place = p + step }) budget
+      turn_pauses held h = looking_paused i.right i.looking (p + step) (omega (arith, i.legs_are)) (omega (arith, i.place)) (omega arith) held
 
-  -- A place that is told is one of those looked at.
-  abbrev pub turn_found : {q : ℕ} {r : Rule} → told ≡ Broken q r → FoundWithin
-  turn_found {q} {r} is = let b : FirstBroken t a p (p + step) q r = subst (ToldOfLeg t a p (p + step)) is m in record { from = p; limit = p + step; at = q; not_before = b.first.above; below = b.first.inside }
+      pub turn_goes_on : LegHolds t a p (p + step) → end ≤ p + step → Turn t c budget legs (a + 1) 0 (left - step)
+      turn_goes_on held h =
+          turn_at i.right i.legs_are
+          (looking_next i.right i.looking step (omega (arith, i.legs_are)) (omega (arith, i.place)) (omega arith) held)
 
 -- A cursor pulled back to a leg of the table is at the lesser of its place and the leg's first.
 pub pulled_to_lesser : {t : List ℕ} {c d : Cursor} {rev leg : ℕ} → PlaceOrEnd t c.leg c.place → leg < leg_count t → PulledBack c rev leg d → AtTheLesser c leg d

@@ -6,47 +6,59 @@ use mathlib.Core.List.{List}
 use mathlib.Core.Logic.{inl, inr, ⊎_elim}
 use native.Mathlib.Nat.{eq-or-lt_of_le}
 use native.Mathlib.Omega.{arith}
+use Rattle.std.specs.Prelude.{Ok, Err}
 use Rattle.basics.specs.Refusals.{OneFault}
+use Rattle.basics.specs.declared.Cause.{Cause}
+use Rattle.basics.specs.declared.Cause.TheVariants as cause
+use Rattle.basics.specs.declared.Refusal.{Refusal}
 use Rattle.basics.proofs.Refusals.{unless_one, then_one, called_one}
 use Rattle.basics.proofs.Splits.{lt_or_ge}
 use Rattle.table.specs.Layout.{leg_count}
 use Rattle.table.specs.declared.Move.{Move}
 use Rattle.files.specs.declared.Cursor.{Cursor}
+use Rattle.files.specs.declared.Returned.{Returned}
 use Rattle.shape.proofs.OneShape.{shape_one, well_no_fault}
 use Rattle.rules.specs.Places.{rule_at}
 use Rattle.rules.specs.declared.Rule.{Rule}
 use Rattle.places.specs.Order.{places_below, PlaceOrEnd}
 use Rattle.places.proofs.Ranks.{end_rank, place_rank, rank_is_one}
-use Rattle.checker.specs.Cursors.{cursor_rank, stale_cursor, no_place, CursorRight, CursorFault, cursor_refusals}
+use Rattle.checker.specs.Cursors.{cursor_rank, CursorRight, CursorFault, cursor_refusals}
 use Rattle.checker.specs.Slices.{Went, Violates, Ends, Pauses}
-use Rattle.checker.specs.Moves.{no_leg, cannot_rise, too_late, AtTheLesser, MoveAllowed, MoveFault, move_refusals}
+use Rattle.checker.specs.Moves.{AtTheLesser, MoveAllowed, MoveFault, move_refusals}
 use Rattle.checker.specs.Theorems.{StartOneAnswer, SliceOneAnswer, MoveOneAnswer}
-use Rattle.checker.specs.declared.Grant.TheVariants.{Granted, Refused}
 use Rattle.checker.specs.declared.SliceAnswer.TheVariants as answer
 
 -- Each refusal speaks where those before it are clear.
 pub cursor_one : (t : List ℕ) (c : Cursor) → OneFault (cursor_refusals t c)
 cursor_one t c =
     called_one
-    (then_one (shape_one t) (then_one (unless_one stale_cursor _) (unless_one no_place _)))
+    (then_one (shape_one t) (then_one (unless_one cause.StaleCursor _) (unless_one cause.NoPlace _)))
     (λ r. (r.shape, (r.revision, r.stands)))
 
 pub move_one : (t : List ℕ) (c : Cursor) (mv : Move) → OneFault (move_refusals t c mv)
 move_one t c mv =
     called_one
-    (then_one (cursor_one t c) (then_one (unless_one no_leg _) (then_one (unless_one cannot_rise _) (unless_one too_late _))))
+    (then_one (cursor_one t c) (then_one (unless_one cause.NoLeg _) (then_one (unless_one cause.CannotRise _) (unless_one cause.TooLate _))))
     (λ m. (m.cursor, (m.can.below, (m.can.rises, m.can.periods))))
 
+-- Two refusals of the same cause at the same position, and what is returned with them.
+same_refusal : {d e : Refusal} → d.cause ≡ e.cause → d.at ≡ e.at → d ≡ e
+same_refusal {d} {e} c a =
+    let x : ◌≡◌ {A = Refusal} (record { cause = d.cause; at = d.at }) (record { cause = e.cause; at = e.at }) = cc in
+    x
+
+same_returned : {d e : Returned} → d.refusal ≡ e.refusal → d.cursor ≡ e.cursor → d ≡ e
+same_returned {d} {e} r c =
+    let x : ◌≡◌ {A = Returned} (record { refusal = d.refusal; cursor = d.cursor }) (record { refusal = e.refusal; cursor = e.cursor }) = cc in
+    x
+
 pub start_one_answer : StartOneAnswer
-start_one_answer t (Granted d) (Granted e) p q = ap Granted (p.1 ∙ sym q.1)
-start_one_answer t (Granted d) (Refused k p e) w f = absurd (well_no_fault w.0 f.0)
-start_one_answer t (Refused k p d) (Granted e) f w = absurd (well_no_fault w.0 f.0)
-start_one_answer t (Refused k p d) (Refused l q e) f g =
+start_one_answer t (Ok d) (Ok e) p q = ap Ok (p.1 ∙ sym q.1)
+start_one_answer t (Ok d) (Err e) w f = absurd (well_no_fault w.0 f.0)
+start_one_answer t (Err d) (Ok e) f w = absurd (well_no_fault w.0 f.0)
+start_one_answer t (Err d) (Err e) f g =
     let x = (shape_one t).one f.0 g.0 in
-    let x0 = x.0 in
-    let x1 = x.1 in
-    let y = f.1 ∙ sym g.1 in
-    cc
+    ap Err (same_returned (same_refusal x.0 x.1) (f.1 ∙ sym g.1))
 
 -- Two cursors of the same numbers.
 same_numbers : (d e : Cursor) → d.revision ≡ e.revision → d.leg ≡ e.leg → d.place ≡ e.place → d ≡ e
@@ -69,7 +81,7 @@ not_greater a b =
     b.one
 
 module _ {t : List ℕ} {c : Cursor} where
-  pub right_no_fault : {k p : ℕ} → CursorRight t c → CursorFault t c k p → ⊥
+  pub right_no_fault : {k : Cause} {p : ℕ} → CursorRight t c → CursorFault t c k p → ⊥
   right_no_fault r f = (cursor_one t c).none r f
 
   -- No answer passes a violated place.
@@ -111,7 +123,7 @@ slice_one_answer t c b (answer.Violated d m r) (answer.Violated e n s) v w =
     cc
 slice_one_answer t c b (answer.Violated d m r) (answer.NothingViolated e n) v w = absurd (violated_not_ended v.1 w.1)
 slice_one_answer t c b (answer.Violated d m r) (answer.Paused e n) v w = absurd (violated_not_paused v.1 w.1)
-slice_one_answer t c b (answer.Violated d m r) (answer.Refused l q e) v f = absurd (right_no_fault v.0 f.0)
+slice_one_answer t c b (answer.Violated d m r) (answer.Refused l e) v f = absurd (right_no_fault v.0 f.0)
 slice_one_answer t c b (answer.NothingViolated d m) (answer.Violated e n s) v w = absurd (violated_not_ended w.1 v.1)
 slice_one_answer t c b (answer.NothingViolated d m) (answer.NothingViolated e n) v w =
     let x = one_went v.1.went w.1.went (inr v.1.end) (inr w.1.end) (omega (arith, end_rank v.1.end, end_rank w.1.end)) in
@@ -119,7 +131,7 @@ slice_one_answer t c b (answer.NothingViolated d m) (answer.NothingViolated e n)
     let x1 = x.1 in
     cc
 slice_one_answer t c b (answer.NothingViolated d m) (answer.Paused e n) v w = absurd (ended_not_paused v.1 w.1)
-slice_one_answer t c b (answer.NothingViolated d m) (answer.Refused l q e) v f = absurd (right_no_fault v.0 f.0)
+slice_one_answer t c b (answer.NothingViolated d m) (answer.Refused l e) v f = absurd (right_no_fault v.0 f.0)
 slice_one_answer t c b (answer.Paused d m) (answer.Violated e n s) v w = absurd (violated_not_paused w.1 v.1)
 slice_one_answer t c b (answer.Paused d m) (answer.NothingViolated e n) v w = absurd (ended_not_paused w.1 v.1)
 slice_one_answer t c b (answer.Paused d m) (answer.Paused e n) v w =
@@ -128,14 +140,13 @@ slice_one_answer t c b (answer.Paused d m) (answer.Paused e n) v w =
     let x0 = x.0 in
     let x1 = x.1 in
     cc
-slice_one_answer t c b (answer.Paused d m) (answer.Refused l q e) v f = absurd (right_no_fault v.0 f.0)
-slice_one_answer t c b (answer.Refused k p d) (answer.Violated e n s) f w = absurd (right_no_fault w.0 f.0)
-slice_one_answer t c b (answer.Refused k p d) (answer.NothingViolated e n) f w = absurd (right_no_fault w.0 f.0)
-slice_one_answer t c b (answer.Refused k p d) (answer.Paused e n) f w = absurd (right_no_fault w.0 f.0)
-slice_one_answer t c b (answer.Refused k p d) (answer.Refused l q e) f g =
+slice_one_answer t c b (answer.Paused d m) (answer.Refused l e) v f = absurd (right_no_fault v.0 f.0)
+slice_one_answer t c b (answer.Refused k d) (answer.Violated e n s) f w = absurd (right_no_fault w.0 f.0)
+slice_one_answer t c b (answer.Refused k d) (answer.NothingViolated e n) f w = absurd (right_no_fault w.0 f.0)
+slice_one_answer t c b (answer.Refused k d) (answer.Paused e n) f w = absurd (right_no_fault w.0 f.0)
+slice_one_answer t c b (answer.Refused k d) (answer.Refused l e) f g =
     let x = (cursor_one t c).one f.0 g.0 in
-    let x0 = x.0 in
-    let x1 = x.1 in
+    let x0 : k ≡ l = same_refusal x.0 x.1 in
     let y = f.1 ∙ sym g.1 in
     cc
 
@@ -152,19 +163,16 @@ module _ {t : List ℕ} {c : Cursor} {leg : ℕ} where
   moved_cursor_one {d} {e} r h q a b =
       one_cursor q (lesser_stands r h a) (lesser_stands r h b) (omega (arith, not_greater a b, not_greater b a))
 
-pub move_no_fault : {t : List ℕ} {c : Cursor} {mv : Move} {k p : ℕ} → MoveAllowed t c mv → MoveFault t c mv k p → ⊥
+pub move_no_fault : {t : List ℕ} {c : Cursor} {mv : Move} {k : Cause} {p : ℕ} → MoveAllowed t c mv → MoveFault t c mv k p → ⊥
 move_no_fault {t} {c} {mv} m f = (move_one t c mv).none m f
 
 pub move_one_answer : MoveOneAnswer
-move_one_answer t c mv (Granted d) (Granted e) u v p q = (
-  ap Granted (moved_cursor_one p.allowed.cursor p.allowed.can.below (p.revision ∙ sym q.revision) p.lesser q.lesser),
+move_one_answer t c mv (Ok d) (Ok e) u v p q = (
+  ap Ok (moved_cursor_one p.allowed.cursor p.allowed.can.below (p.revision ∙ sym q.revision) p.lesser q.lesser),
   p.table ∙ sym q.table,
 )
-move_one_answer t c mv (Granted d) (Refused l q e) u v m f = absurd (move_no_fault m.allowed f.0)
-move_one_answer t c mv (Refused k p d) (Granted e) u v f m = absurd (move_no_fault m.allowed f.0)
-move_one_answer t c mv (Refused k p d) (Refused l q e) u v f g =
+move_one_answer t c mv (Ok d) (Err e) u v m f = absurd (move_no_fault m.allowed f.0)
+move_one_answer t c mv (Err d) (Ok e) u v f m = absurd (move_no_fault m.allowed f.0)
+move_one_answer t c mv (Err d) (Err e) u v f g =
     let x = (move_one t c mv).one f.0 g.0 in
-    let x0 = x.0 in
-    let x1 = x.1 in
-    let y = f.1 ∙ sym g.1 in
-    (cc, f.2 ∙ sym g.2)
+    (ap Err (same_returned (same_refusal x.0 x.1) (f.1 ∙ sym g.1)), f.2 ∙ sym g.2)

@@ -3,6 +3,7 @@ use Prim.Native.Nat.{ℕ, ◌≤◌, ◌<◌}
 use mathlib.Core.Path.{◌≡◌, refl}
 use mathlib.Core.Logic.{inl, inr}
 use native.Mathlib.Omega.{arith}
+use Rattle.basics.specs.declared.Cause.TheVariants as cause
 use Rattle.table.specs.PlanA.{plan_a_of}
 use Rattle.rules.specs.Places.{places_of}
 use Rattle.places.specs.Order.{PlaceOrEnd}
@@ -16,10 +17,10 @@ use Rattle.checker.proofs.LookLaws.{not_standing}
 well_formed : (revision : ℕ) → WellFormedTable (plan_a_of revision)
 well_formed revision = plans_are_well_formed _ (plan_a_in_range revision 0 1176 0)
 
-stale : (revision other leg place : ℕ) → (other ≡ revision → ⊥) → CursorFault (plan_a_of revision) (cursor_at other leg place) 8 0
+stale : (revision other leg place : ℕ) → (other ≡ revision → ⊥) → CursorFault (plan_a_of revision) (cursor_at other leg place) cause.StaleCursor 0
 stale revision other leg place h = inr (well_formed revision, inl (refl, refl, h))
 
-lost : (revision leg place : ℕ) → (leg < 3 → places_of leg ≤ place) → (leg ≡ 3 → 0 < place) → CursorFault (plan_a_of revision) (cursor_at revision leg place) 9 0
+lost : (revision leg place : ℕ) → (leg < 3 → places_of leg ≤ place) → (leg ≡ 3 → 0 < place) → CursorFault (plan_a_of revision) (cursor_at revision leg place) cause.NoPlace 0
 lost revision leg place f g = inr (well_formed revision, inr (refl, (refl, refl, not_standing (plan_a_of revision) leg place f g)))
 
 right : (revision leg place : ℕ) → PlaceOrEnd (plan_a_of revision) leg place → CursorRight (plan_a_of revision) (cursor_at revision leg place)

@@ -6,7 +6,3 @@ use Rattle.rules.specs.Rules.{RulesHold}
 pub record Accepted (t : List ℕ) : Type 0 where
   pub shape : WellFormedTable t
   pub rules : RulesHold t
-
--- 19: a call that asks for an accepted table is given another.
-abbrev pub not_accepted : ℕ
-not_accepted = 19

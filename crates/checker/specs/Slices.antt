@@ -1,14 +1,13 @@
 -- What a start and a slice promise, by the cases of their answers (document 01, "Places and slices").
-use Rattle.std.specs.Prelude.{ℕ, ◌+◌, ◌≤◌, ◌≡◌, List}
+use Rattle.std.specs.Prelude.{ℕ, ◌+◌, ◌≤◌, ◌≡◌, List, Result, Ok, Err}
 use Rattle.table.specs.Layout.{revision_of}
 use Rattle.shape.specs.Shape.{WellFormedTable, ShapeFault}
 use Rattle.files.specs.declared.Cursor.{Cursor}
+use Rattle.files.specs.declared.Returned.{Returned}
 use Rattle.rules.specs.Places.{rule_at, PlaceHolds}
 use Rattle.rules.specs.declared.Rule.{Rule}
 use Rattle.places.specs.Order.{IsPlace, IsEnd, HoldFrom}
 use Rattle.checker.specs.Cursors.{cursor_rank, CursorRight, CursorFault}
-use Rattle.checker.specs.declared.Grant.{Grant}
-use Rattle.checker.specs.declared.Grant.TheVariants as grant
 use Rattle.checker.specs.declared.SliceAnswer.{SliceAnswer}
 use Rattle.checker.specs.declared.SliceAnswer.TheVariants as answer
 
@@ -19,9 +18,9 @@ start_cursor t = record { revision = revision_of t; leg = 0; place = 0 }
 abbrev pub no_cursor : Cursor
 no_cursor = record { revision = 0; leg = 0; place = 0 }
 
-abbrev pub Starts : List ℕ → Grant → Type 0
-Starts t (grant.Granted d) = WellFormedTable t × (d ≡ start_cursor t)
-Starts t (grant.Refused k p d) = ShapeFault t k p × (d ≡ no_cursor)
+abbrev pub Starts : List ℕ → Result Cursor Returned → Type 0
+Starts t (Ok d) = WellFormedTable t × (d ≡ start_cursor t)
+Starts t (Err e) = ShapeFault t e.refusal.cause e.refusal.at × (e.cursor ≡ no_cursor)
 
 -- The steps between two cursors: so many places lie from c on and before d.
 abbrev pub StepsBetween : Cursor → Cursor → ℕ → Type 0
@@ -60,4 +59,4 @@ abbrev pub Slices : List ℕ → Cursor → ℕ → SliceAnswer → Type 0
 Slices t c budget (answer.Violated d n r) = CursorRight t c × Violates t c budget d n r
 Slices t c budget (answer.NothingViolated d n) = CursorRight t c × Ends t c budget d n
 Slices t c budget (answer.Paused d n) = CursorRight t c × Pauses t c budget d n
-Slices t c budget (answer.Refused k p d) = CursorFault t c k p × (d ≡ c)
+Slices t c budget (answer.Refused e d) = CursorFault t c e.cause e.at × (d ≡ c)

@@ -1,102 +1,77 @@
 // Cursors, judged and pulled back.
-ghost use Rattle.basics.specs.Tells.{Tells};
-ghost use Rattle.table.specs.Layout.{Sized};
+ghost use Rattle.std.specs.Prelude.{Result, IsTrue, ◌↔◌};
 ghost use Rattle.shape.specs.Shape.{WellFormedTable};
 ghost use Rattle.places.specs.Order.{PlaceOrEnd};
 ghost use Rattle.checker.specs.Cursors.{CursorRight};
 ghost use Rattle.checker.specs.Steps.{CursorTold, MoveTold, PulledBack};
 
-use basics::{Checked, Holds};
+use basics::{Cause, Refusal};
 use files::Cursor;
+use shape::plan::Plan;
 use table::Move;
-
-pub const STALE_CURSOR: u32 = 8;
-
-pub const NO_PLACE: u32 = 9;
-
-pub const NO_LEG: u32 = 10;
-
-pub const CANNOT_RISE: u32 = 11;
-
-pub const TOO_LATE: u32 = 17;
 
 pub const MAX_REVISION: u32 = 4294967295;
 
-// Whether (a,p) is a place of the table, or the end.
-fn place_or_end_told(t: &[u32], a: u32, p: u32) -> Holds
-    requires { Sized t.now }
-    ensures { Tells (PlaceOrEnd t.now a p) result }
+/// Whether (a,p) is a place of the table, or the end.
+fn is_place_or_end(plan: &Plan, a: u32, p: u32) -> bool
+    ensures { IsTrue result ↔ PlaceOrEnd plan.now a p }
 {
-    if a < t[table::LEGS_AT] {
-        if table::wide(p) < places::places_of(table::wide(a)) {
-            return Holds::Yes;
-        }
-        return Holds::No;
+    let a = a as usize;
+    let legs = plan.legs();
+    if a < legs {
+        return (p as usize) < places::places_of(a);
     }
-    if t[table::LEGS_AT] < a {
-        return Holds::No;
-    }
-    if 0 < p {
-        return Holds::No;
-    }
-    Holds::Yes
+    a == legs && p == 0
 }
 
-// The refusals 8 and 9, or none, of a well-formed table.
-fn placed_told(t: &[u32], c: Cursor) -> Checked
-    requires { WellFormedTable t.now }
+/// The refusals 8 and 9 of a cursor of a well-formed plan.
+fn placed(plan: &Plan, c: Cursor) -> Result<(), Refusal>
+    requires { WellFormedTable plan.now }
+    ensures { CursorTold plan.now c result }
+{
+    if c.revision != plan.revision() {
+        return Err(Cause::StaleCursor.at(0));
+    }
+    if !is_place_or_end(plan, c.leg, c.place) {
+        return Err(Cause::NoPlace.at(0));
+    }
+    Ok(())
+}
+
+/// Internal: the first of the refusals 1 to 9 of a table and a cursor.
+pub fn judged_cursor(t: &[u32], c: Cursor) -> Result<(), Refusal>
     ensures { CursorTold t.now c result }
 {
-    if c.revision != t[table::REVISION_AT] {
-        return Checked::Refused(STALE_CURSOR, 0);
-    }
-    let told = place_or_end_told(t, c.leg, c.place);
-    match told {
-        Holds::Yes => Checked::Clear,
-        Holds::No => Checked::Refused(NO_PLACE, 0),
-    }
+    let plan = Plan::judge(t)?;
+    placed(&plan, c)
 }
 
-// Internal: the first of the refusals 1 to 9 that is due, or none.
-pub fn judged_cursor(t: &[u32], c: Cursor) -> Checked
-    ensures { CursorTold t.now c result }
-{
-    let told = shape::judged_shape(t);
-    match told {
-        Checked::Refused(number, at) => Checked::Refused(number, at),
-        Checked::Clear => placed_told(t, c),
-    }
-}
-
-// The refusals 10, 11 and 17, or none, of a right cursor.
-fn allowed_told(t: &[u32], c: Cursor, mv: Move) -> Checked
+/// The refusals 10, 11 and 17 of a move, whose cursor is right.
+fn allowed(t: &[u32], c: Cursor, mv: Move) -> Result<(), Refusal>
     requires { CursorRight t.now c }
     ensures { MoveTold t.now c mv result }
 {
     if t[table::LEGS_AT] <= mv.leg {
-        return Checked::Refused(NO_LEG, 0);
+        return Err(Cause::NoLeg.at(0));
     }
     if t[table::REVISION_AT] == MAX_REVISION {
-        return Checked::Refused(CANNOT_RISE, 0);
+        return Err(Cause::CannotRise.at(0));
     }
     if shape::streams::MAX_PERIODS < mv.periods {
-        return Checked::Refused(TOO_LATE, 0);
+        return Err(Cause::TooLate.at(0));
     }
-    Checked::Clear
+    Ok(())
 }
 
-// Internal: the first of the refusals 1 to 11 and 17 that is due, or none.
-pub fn judged_move(t: &[u32], c: Cursor, mv: Move) -> Checked
+/// Internal: the first of the refusals 1 to 11 and 17 of a move.
+pub fn judged_move(t: &[u32], c: Cursor, mv: Move) -> Result<(), Refusal>
     ensures { MoveTold t.now c mv result }
 {
-    let told = judged_cursor(t, c);
-    match told {
-        Checked::Refused(number, at) => Checked::Refused(number, at),
-        Checked::Clear => allowed_told(t, c, mv),
-    }
+    judged_cursor(t, c)?;
+    allowed(t, c, mv)
 }
 
-// Internal: the lesser of the cursor's place and (leg,0), at a revision.
+/// Internal: the lesser of the cursor's place and (leg,0), at a revision.
 pub fn pulled_back(c: Cursor, revision: u32, leg: u32) -> Cursor
     ensures { PulledBack c revision leg result }
 {

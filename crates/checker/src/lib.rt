@@ -1,81 +1,72 @@
-// The check: start, slice and move.
+//! The check: start, slice and move.
 #![tactic(auto)]
 
+ghost use Rattle.std.specs.Prelude.{Result};
 ghost use Rattle.checker.specs.Slices.{Starts, Slices};
 ghost use Rattle.checker.specs.Moves.{Moves};
 
-use basics::Checked;
-use files::Cursor;
+use basics::Refusal;
+use files::{Cursor, Returned};
 use rules::Rule;
+use shape::plan::Plan;
 use table::Move;
 
 pub mod accepted;
 pub mod cursors;
 pub mod look;
 
-// What a start or a move gives: a cursor, or a refusal's number and position and the cursor as it was given (a start, which is given none: 0, 0, 0).
-#[derive(Clone, Copy)]
-pub enum Grant {
-    Granted(Cursor),
-    Refused(u32, usize, Cursor),
-}
-
-// What a slice gives: violated, with the cursor of that place, the steps and the rule; nothing violated from here on, with the end cursor and the
-// steps; paused, with the cursor of the first place not looked at and the steps; or a refusal's number and position, and the cursor as it was given.
-#[derive(Clone, Copy)]
+/// The answer of a slice: violated, with the cursor of that place, the steps and the rule; nothing violated from here on, with the end cursor and the steps; paused, with the
+/// cursor of the first place not looked at and the steps; or a refusal, and the cursor as it was given.
+#[derive(Clone, Copy, Debug, PartialEq, Eq)]
 pub enum SliceAnswer {
     Violated(Cursor, u32, Rule),
     NothingViolated(Cursor, u32),
     Paused(Cursor, u32),
-    Refused(u32, usize, Cursor),
+    Refused(Refusal, Cursor),
 }
 
-// Starts a check of a table.
-pub fn start(t: &[u32]) -> Grant
+/// Starts a check of a table: returns the cursor of its first place. A refusal returns 0, 0, 0 with it.
+pub fn start(t: &[u32]) -> Result<Cursor, Returned>
     ensures { Starts t.now result }
 {
-    let told = shape::judged_shape(t);
-    match told {
-        Checked::Refused(number, at) => Grant::Refused(
-            number,
-            at,
-            Cursor {
+    match Plan::judge(t) {
+        Ok(plan) => Ok(Cursor {
+            revision: plan.revision(),
+            leg: 0,
+            place: 0,
+        }),
+        Err(refusal) => Err(Returned {
+            refusal,
+            cursor: Cursor {
                 revision: 0,
                 leg: 0,
                 place: 0,
             },
-        ),
-        Checked::Clear => Grant::Granted(Cursor {
-            revision: t[table::REVISION_AT],
-            leg: 0,
-            place: 0,
         }),
     }
 }
 
-// Looks at places in order from a cursor on, as many as the budget says, and stops sooner only at a violated place or at the end.
+/// Looks at places in order from a cursor on, as many as the budget says, and stops sooner only at a violated place or at the end.
 pub fn slice(t: &[u32], cursor: Cursor, budget: u32) -> SliceAnswer
     ensures { Slices t.now cursor budget result }
 {
-    let told = cursors::judged_cursor(t, cursor);
-    match told {
-        Checked::Refused(number, at) => SliceAnswer::Refused(number, at, cursor),
-        Checked::Clear => look::looked(t, cursor, budget),
+    match cursors::judged_cursor(t, cursor) {
+        Ok(()) => look::looked(t, cursor, budget),
+        Err(refusal) => SliceAnswer::Refused(refusal, cursor),
     }
 }
 
-// Sets the offset and the period word of one leg and raises the revision by one. The cursor is of the new revision, and where it stood past the start of that leg it goes
-// back to it.
-pub fn move_leg(t: &mut [u32], cursor: Cursor, mv: Move) -> Grant
+/// Sets the offset and the period word of one leg and raises the revision by one. Returns a cursor of the new revision: the one given, or the first place of that leg if it was
+/// past it. A refusal leaves the table as it is and returns the cursor as it was given.
+pub fn move_leg(t: &mut [u32], cursor: Cursor, mv: Move) -> Result<Cursor, Returned>
     ensures { Moves t.old cursor mv result t.new }
 {
-    let told = cursors::judged_move(t, cursor, mv);
-    match told {
-        Checked::Refused(number, at) => Grant::Refused(number, at, cursor),
-        Checked::Clear => {
+    match cursors::judged_move(t, cursor, mv) {
+        Ok(()) => {
             let revision = t[table::REVISION_AT] + 1;
             table::parts::make_move(t, mv, revision);
-            Grant::Granted(cursors::pulled_back(cursor, revision, mv.leg))
+            Ok(cursors::pulled_back(cursor, revision, mv.leg))
         }
+        Err(refusal) => Err(Returned { refusal, cursor }),
     }
 }

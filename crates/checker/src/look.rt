@@ -1,91 +1,66 @@
 // The places from a cursor on, looked at in order.
-ghost use Rattle.std.specs.Prelude.{length, ◌≤◌};
-ghost use Rattle.table.specs.Layout.{max_legs};
-ghost use Rattle.places.specs.Chains.{Unbegun};
 ghost use Rattle.checker.specs.Cursors.{CursorRight};
 ghost use Rattle.checker.specs.Slices.{Slices};
-ghost use Rattle.checker.specs.Steps.{Looked};
 
 use crate::SliceAnswer;
 use files::Cursor;
-use places::LegTold;
+use places::chains::{Chains, NO_CHAIN};
+use shape::plan::Plan;
 
-// Leg by leg, with the chains of all legs: the slice stands at (a,p), and left is what is left of its budget.
-fn look_on(t: &[u32], first: &[usize], next: &[usize], cursor: Cursor, budget: u32) -> SliceAnswer
-    requires cursor_right { CursorRight t.now cursor }
-    requires looked { Looked t.now first.now next.now }
-    ensures { Slices t.now cursor budget result }
+/// Looks on leg by leg, with the chains of all legs: the slice stands at (a,p), and `left` is what is left of its budget.
+fn look_on(chains: &Chains, cursor: Cursor, budget: u32) -> SliceAnswer
+    requires { CursorRight chains.now.plan.now cursor }
+    ensures { Slices chains.now.plan.now cursor budget result }
 {
-    let legs = table::wide(t[table::LEGS_AT]);
-    let mut a = table::wide(cursor.leg);
-    let mut p = table::wide(cursor.place);
-    let mut left = table::wide(budget);
-    while a < legs {
-        let end = places::places_of(a);
-        let step = places::lesser(left, end - p);
+    let legs = chains.plan.legs() as u32;
+    let mut p = cursor.place as usize;
+    let mut left = budget as usize;
+    for a in cursor.leg..legs {
+        let end = places::places_of(a as usize);
+        let step = left.min(end - p);
         let limit = p + step;
-        let told = places::leg::judged_leg(t, first, next, a, p, limit);
-        match told {
-            LegTold::Broken(q, rule) => {
-                return SliceAnswer::Violated(
-                    Cursor {
-                        revision: cursor.revision,
-                        leg: a as u32,
-                        place: q as u32,
-                    },
-                    (table::wide(budget) - left + (q - p) + 1) as u32,
-                    rule,
-                );
-            }
-            LegTold::Kept => {}
+        if let Some(broken) = places::leg::judged_leg(chains, a as usize, p, limit) {
+            return SliceAnswer::Violated(
+                Cursor {
+                    revision: cursor.revision,
+                    leg: a,
+                    place: broken.place as u32,
+                },
+                (budget as usize - left + (broken.place - p) + 1) as u32,
+                broken.rule,
+            );
         }
         if limit < end {
             return SliceAnswer::Paused(
                 Cursor {
                     revision: cursor.revision,
-                    leg: a as u32,
+                    leg: a,
                     place: limit as u32,
                 },
                 budget,
             );
         }
-        left = left - step;
-        a = a + 1;
+        left -= step;
         p = 0;
     }
     SliceAnswer::NothingViolated(
         Cursor {
             revision: cursor.revision,
-            leg: a as u32,
+            leg: legs,
             place: 0,
         },
-        (table::wide(budget) - left) as u32,
+        (budget as usize - left) as u32,
     )
 }
 
-// The same with lent memory for the chains.
-fn look_in(
-    t: &[u32],
-    first: &mut [usize],
-    next: &mut [usize],
-    cursor: Cursor,
-    budget: u32,
-) -> SliceAnswer
-    requires cursor_right { CursorRight t.now cursor }
-    requires unbegun { Unbegun first.old }
-    requires max_legs_in_bounds { max_legs ≤ length next.old }
-    ensures { Slices t.now cursor budget result }
-{
-    places::chains::chain(t, first, next);
-    look_on(t, first, next, cursor, budget)
-}
-
-// Internal: a slice from a right cursor.
+/// Internal: a slice from a right cursor.
 pub fn looked(t: &[u32], cursor: Cursor, budget: u32) -> SliceAnswer
     requires { CursorRight t.now cursor }
     ensures { Slices t.now cursor budget result }
 {
-    let mut first = [places::chains::NO_CHAIN; table::MAX_LINKS];
-    let mut next = [places::chains::NO_CHAIN; table::MAX_LEGS];
-    look_in(t, &mut first, &mut next, cursor, budget)
+    let mut first = [NO_CHAIN; table::MAX_LINKS];
+    let mut next = [NO_CHAIN; table::MAX_LEGS];
+    let plan = Plan::of(t);
+    let chains = places::chains::chain(&plan, &mut first, &mut next);
+    look_on(&chains, cursor, budget)
 }

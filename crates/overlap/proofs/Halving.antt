@@ -1,9 +1,9 @@
 -- Halving and subtraction keep the greatest common divisor: an odd number shares no power of two with any other, and what divides two numbers
 -- divides their difference. Assumes nothing.
-use Prim.Native.Nat.{ℕ, zero, suc, ◌+◌, ◌*◌, ◌/◌, ◌%◌, ◌^◌, ◌∣◌, ◌≤◌, ◌<◌}
+use Prim.Native.Nat.{ℕ, zero, suc, ◌+◌, ◌*◌, ◌/◌, ◌%◌, ◌^◌, ◌∣◌, ◌≤◌, ◌<◌, min}
 use mathlib.Core.Path.{◌≡◌, refl, ◌∙◌, sym, ap, subst}
 use mathlib.Core.Logic.{◌⊎◌, inl, inr, ⊎_elim}
-use native.Mathlib.Nat.{dvd-add, dvd_trans, dvd-add_iff_right, dvd-mul_left, dvd-mul_left_of_dvd, dvd-mul_right_of_dvd, dvd_of_mod-eq-zero, mod-eq-zero_of_dvd, mul-dvd-mul_left, dvd_of_mul-dvd-mul_left, mul-one, mul-suc, mul_comm, mul_left_comm, pow-succ', div-one, div-div-eq-div-mul, mod-eq_of_lt, not-suc-le-zero, zero-lt-suc, le_of_suc-le-suc, mul-le-mul_left}
+use native.Mathlib.Nat.{dvd-add, dvd_trans, dvd-add_iff_right, dvd-mul_left, dvd-mul_left_of_dvd, dvd-mul_right_of_dvd, dvd_of_mod-eq-zero, mod-eq-zero_of_dvd, mul-dvd-mul_left, dvd_of_mul-dvd-mul_left, mul-one, mul-suc, mul_comm, mul_left_comm, pow-succ', div-one, div-div-eq-div-mul, mod-eq_of_lt, min-eq_left, min-eq_right, not-suc-le-zero, zero-lt-suc, le_of_suc-le-suc, mul-le-mul_left}
 use native.Mathlib.Omega.{arith}
 use lib.Count.{count_trailing_zeros, under}
 use lib.Pow.{pow_pos}
@@ -204,8 +204,15 @@ less_often {p} {q} {g} {h} {k} u v w l pos f =
     rw (mod-eq_of_lt small) d
 
 module _ {a b g : ℕ} {x y : Halved} (first : HalvedFrom a x) (second : HalvedFrom b y) (e : IsGcd x.odd y.odd g) where
-  pub first_less : x.times < y.times → 0 < a → Fits w64 a → IsGcd a b ((g * 2 ^ x.times) % 2 ^ 64)
+  first_less : x.times < y.times → 0 < a → Fits w64 a → IsGcd a b ((g * 2 ^ x.times) % 2 ^ 64)
   first_less l pos f = less_often first second e (omega arith) pos f
 
-  pub second_less : y.times ≤ x.times → 0 < b → Fits w64 b → IsGcd a b ((g * 2 ^ y.times) % 2 ^ 64)
+  second_less : y.times ≤ x.times → 0 < b → Fits w64 b → IsGcd a b ((g * 2 ^ y.times) % 2 ^ 64)
   second_less l pos f = swap_gcd _ _ _ (less_often second first (swap_gcd _ _ _ e) l pos f)
+
+  pub fewer : 0 < a → 0 < b → Fits w64 a → Fits w64 b → IsGcd a b ((g * 2 ^ min x.times y.times) % 2 ^ 64)
+  fewer u v fa fb =
+      ⊎_elim
+      (λ (l : x.times < y.times). let le : x.times ≤ y.times = omega arith in rw (min-eq_left le) (first_less l u fa))
+      (λ (l : y.times ≤ x.times). rw (min-eq_right l) (second_less l v fb))
+      (lt_or_ge x.times y.times)

@@ -4,14 +4,14 @@ ghost use Rattle.overlap.specs.Divisor.{IsGcd};
 ghost use Rattle.overlap.specs.Halving.{Odd, HalvedFrom, PartedFrom};
 
 // A number halved for as long as it is even: what is left, and how often it was halved.
-#[derive(Clone, Copy)]
+#[derive(Clone, Copy, Debug, PartialEq, Eq)]
 pub struct Halved {
     pub odd: u64,
     pub times: u32,
 }
 
 // The lesser of two numbers, and their difference.
-#[derive(Clone, Copy)]
+#[derive(Clone, Copy, Debug, PartialEq, Eq)]
 pub struct Parted {
     pub lesser: u64,
     pub difference: u64,

@@ -1,6 +1,6 @@
 -- The chains of the links: a leg put in front of its link's chain is the lowest on it. Assumes nothing.
-use Prim.Native.Nat.{ℕ, ◌+◌, ◌*◌, ◌-◌, ◌≤◌, ◌<◌}
-use mathlib.Core.Path.{◌≡◌, refl, ◌∙◌, ap, sym, subst}
+use Prim.Native.Nat.{ℕ, ◌+◌, ◌-◌, ◌≤◌, ◌<◌}
+use mathlib.Core.Path.{◌≡◌, ◌∙◌, ap, sym, subst}
 use mathlib.Core.List.{List}
 use mathlib.Core.Logic.{⊎_elim}
 use lib.ListN.{length, get_or, set, replicate, length-set, length-replicate, get_or-replicate}
@@ -8,30 +8,11 @@ use lib.Seq.{get_or-set_same, get_or-set_other}
 use native.Mathlib.Nat.{eq-or-lt_of_le}
 use native.Mathlib.Omega.{arith}
 use Rattle.basics.proofs.Splits.{eq_or_ne}
-use Rattle.table.specs.Layout.{leg_words, max_links, max_legs, link_count, leg_count}
-use Rattle.table.specs.Records.{leg_part, leg_in, leg_at}
+use Rattle.table.specs.Layout.{max_links, max_legs, link_count, leg_count}
+use Rattle.table.specs.Records.{leg_at}
 use Rattle.table.specs.declared.Leg.{Leg}
-use Rattle.table.proofs.PartLaws.{leg_inside, leg_of_part}
 use Rattle.shape.specs.Guarantees.{Guarantees}
 use Rattle.places.specs.Chains.{NextOn, Begun, Chained, Unbegun}
-
--- No leg of the link is skipped where fewer are asked for.
-next_from : {t : List ℕ} {l n b : ℕ} (m : ℕ) → NextOn t l n b → n ≤ m → NextOn t l m b
-next_from m x h = record { on = x.on; none = λ c from below inside. x.none c (omega arith) below inside }
-
--- Before the first leg is put anywhere.
-begun_none : {t first : List ℕ} (n : ℕ) → n ≡ leg_count t → link_count t ≤ max_links → leg_count t ≤ max_legs → Unbegun first → Begun t first n
-begun_none n e links legs u = record {
-  room = u.room;
-  from = λ l h. omega (arith, u.empty l (omega arith));
-  lowest = λ l h. record {
-    on = λ inside. absurd (omega (arith, u.empty l (omega arith)));
-    none = λ c from below inside. absurd (omega arith);
-  };
-}
-
-chained_none : {t next : List ℕ} (n : ℕ) → n ≡ leg_count t → max_legs ≤ length next → Chained t next n
-chained_none n e room = record { room = room; later = λ b from inside. absurd (omega arith); onward = λ b from inside. absurd (omega arith) }
 
 -- Leg b is put in front of the chain of its link l.
 module _ {t first next : List ℕ} {n : ℕ} (b l : ℕ) (e : n ≡ b + 1) (is : l ≡ (leg_at t b).link) (begun : Begun t first n) (chained : Chained t next n)
@@ -81,68 +62,37 @@ module _ {t first next : List ℕ} {n : ℕ} (b l : ℕ) (e : n ≡ b + 1) (is :
       }
 
 -- Each turn: the legs from n on are in the chains.
-pub record Turn (t first₀ next₀ legs first next : List ℕ) (n : ℕ) : Type 0 where
-  pub table : Guarantees t
-  pub legs_are : legs ≡ leg_part t
-  pub left : n ≤ leg_count t
+pub record Turn (t first₀ next₀ first next : List ℕ) (n : ℕ) : Type 0 where
   pub begun : Begun t first n
   pub chained : Chained t next n
   pub first_long : length first ≡ length first₀
   pub next_long : length next ≡ length next₀
 
-pub turn_starts : {t legs first next : List ℕ} {n : ℕ} → Guarantees t → Unbegun first → max_legs ≤ length next → legs ≡ leg_part t → n ≡ leg_count t
-    → Turn t first next legs first next n
-turn_starts {n = n} g u room is e = record {
-  table = g;
-  legs_are = is;
-  left = omega arith;
-  begun = begun_none n e g.sized.limits.links g.sized.limits.legs u;
-  chained = chained_none n e room;
-  first_long = refl;
-  next_long = refl;
-}
-
-module _ {t first₀ next₀ legs first next : List ℕ} {n : ℕ} (i : Turn t first₀ next₀ legs first next n) where
-  pub all_begun : n ≤ 0 → Begun t first 0
-  all_begun h = let z : n ≡ 0 = omega arith in subst (Begun t first) z i.begun
-
-  pub all_chained : n ≤ 0 → Chained t next 0
-  all_chained h = let z : n ≡ 0 = omega arith in subst (Chained t next) z i.chained
-
+module _ {t first₀ next₀ first next : List ℕ} {n : ℕ} (i : Turn t first₀ next₀ first next n) (table : Guarantees t) (left : n ≤ leg_count t) where
   -- The leg in front of the last that was put into its chain.
-  module _ (h : 0 < n) where
+  module _ (h : 0 < n) {leg : Leg} (is : leg ≡ leg_at t (n - 1)) where
     turn_leg : n - 1 < leg_count t
-    turn_leg = omega (arith, i.left)
+    turn_leg = omega arith
 
-    pub turn_leg_lies : leg_words * (n - 1) + leg_words ≤ length legs
-    turn_leg_lies = rw i.legs_are (leg_inside t i.table.sized (n - 1) turn_leg)
+    turn_link : leg.link ≡ (leg_at t (n - 1)).link
+    turn_link = ap (λ (x : Leg). x.link) is
 
-    pub turn_leg_room : n - 1 < length next
-    turn_leg_room = omega (arith, turn_leg, i.table.sized.limits.legs, i.chained.room)
+    turn_link_inside : leg.link < link_count t
+    turn_link_inside = omega (arith, turn_link, (table.leg (n - 1) turn_leg).link)
 
-    module _ {leg : Leg} {l : ℕ} (is : leg ≡ leg_in legs (n - 1)) (names : l ≡ leg.link) where
-      turn_link : l ≡ (leg_at t (n - 1)).link
-      turn_link = let e : leg ≡ leg_at t (n - 1) = is ∙ rw i.legs_are (leg_of_part t (n - 1)) in names ∙ ap (λ (x : Leg). x.link) e
+    pub turn_link_room : leg.link < length first
+    turn_link_room = omega (arith, turn_link_inside, table.sized.limits.links, i.begun.room)
 
-      turn_link_inside : l < link_count t
-      turn_link_inside = omega (arith, turn_link, (i.table.leg (n - 1) turn_leg).link)
-
-      pub turn_link_room : l < length first
-      turn_link_room = omega (arith, turn_link_inside, i.table.sized.limits.links, i.begun.room)
-
-      pub turn_more : Turn t first₀ next₀ legs (set first l (n - 1)) (set next (n - 1) (get_or first l 0)) (n - 1)
-      turn_more =
-          let e : n ≡ n - 1 + 1 = omega arith in
-          let limits = i.table.sized.limits in
-          record {
-            table = i.table;
-            legs_are = i.legs_are;
-            left = omega (arith, i.left);
-            begun = begun_more (n - 1) l e turn_link i.begun i.chained turn_link_inside limits.links turn_leg limits.legs;
-            chained = chained_more (n - 1) l e turn_link i.begun i.chained turn_link_inside limits.links turn_leg limits.legs;
-            first_long = simp length-set i.first_long;
-            next_long = simp length-set i.next_long;
-          }
+    pub turn_more : Turn t first₀ next₀ (set first leg.link (n - 1)) (set next (n - 1) (get_or first leg.link 0)) (n - 1)
+    turn_more =
+        let e : n ≡ n - 1 + 1 = omega arith in
+        let limits = table.sized.limits in
+        record {
+          begun = begun_more (n - 1) leg.link e turn_link i.begun i.chained turn_link_inside limits.links turn_leg limits.legs;
+          chained = chained_more (n - 1) leg.link e turn_link i.begun i.chained turn_link_inside limits.links turn_leg limits.legs;
+          first_long = simp length-set i.first_long;
+          next_long = simp length-set i.next_long;
+        }
 
 -- Along the chain of link l for the lowest leg that is not below n.
 pub record Seeking (t next : List ℕ) (l n b : ℕ) : Type 0 where
@@ -150,23 +100,6 @@ pub record Seeking (t next : List ℕ) (l n b : ℕ) : Type 0 where
   pub inside : n ≤ leg_count t
   pub small : leg_count t ≤ max_legs
   pub at : NextOn t l n b
-
-module _ {t next : List ℕ} {l n : ℕ} where
-  pub seeking_starts : {start : ℕ} → Chained t next 0 → n ≤ leg_count t → leg_count t ≤ max_legs → NextOn t l 0 start → Seeking t next l n start
-  seeking_starts chained inside small x = record { chained = chained; inside = inside; small = small; at = next_from n x (omega arith) }
-
-  module _ {b : ℕ} (i : Seeking t next l n b) (h : b < n) where
-    seeking_leg : b < leg_count t
-    seeking_leg = omega (arith, i.inside)
-
-    pub seeking_less : n - get_or next b 0 < n - b
-    seeking_less = omega (arith, i.chained.onward b (omega arith) seeking_leg)
-
-    pub seeking_on : Seeking t next l n (get_or next b 0)
-    seeking_on =
-        let x = i.chained.later b (omega arith) seeking_leg in
-        let y = subst (λ (k : ℕ). NextOn t k (b + 1) (get_or next b 0)) (i.at.on seeking_leg) x in
-        record { chained = i.chained; inside = i.inside; small = i.small; at = next_from n y (omega arith) }
 
 -- Two arrays as a check begins with them.
 pub none_begun : Unbegun (replicate max_links max_legs)

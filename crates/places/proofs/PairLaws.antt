@@ -1,15 +1,11 @@
 -- Along the chain of a leg's link: each leg passed over is on another link, and with each looked at all holds. Assumes nothing.
-use Prim.Native.Nat.{ℕ, ◌-◌, ◌≤◌, ◌<◌}
+use Prim.Native.Nat.{ℕ, ◌≤◌, ◌<◌}
 use mathlib.Core.Path.{◌≡◌, ◌∙◌, sym, subst}
 use mathlib.Core.List.{List}
 use mathlib.Core.Logic.{⊎_elim}
 use lib.ListN.{length, get_or}
 use native.Mathlib.Nat.{eq-or-lt_of_le}
 use native.Mathlib.Omega.{arith}
-use Rattle.basics.specs.Tells.{Tells}
-use Rattle.basics.specs.declared.Holds.{Holds}
-use Rattle.basics.specs.declared.Holds.TheVariants.{Yes, No}
-use Rattle.basics.specs.Lowest.{AllFrom, Lowest}
 use Rattle.basics.proofs.Splits.{lt_or_ge}
 use Rattle.table.specs.Layout.{link_count, leg_count}
 use Rattle.table.specs.Records.{leg_at}
@@ -17,12 +13,11 @@ use Rattle.overlap.specs.Divisor.{IsGcd}
 use Rattle.overlap.specs.declared.Known.{Known}
 use Rattle.overlap.proofs.Euclid.{gcd_same}
 use Rattle.rules.specs.Places.{PairHolds}
-use Rattle.rules.specs.Steps.{LegIn, SharerOf}
+use Rattle.rules.specs.Steps.{LegIn, FrameOf, SharerOf}
 use Rattle.rules.specs.declared.Frame.{Frame}
 use Rattle.rules.specs.declared.Sharer.{Sharer}
 use Rattle.rules.proofs.Pairs.{other_pairs}
 use Rattle.places.specs.Chains.{NextOn, Begun, Chained}
-use Rattle.places.specs.Told.{LegLooked}
 
 -- Leg b is the next of the link of leg a, and leg a is clear of all from n on that come before b.
 pub record Along (t : List ℕ) (a n b : ℕ) : Type 0 where
@@ -52,16 +47,16 @@ along_next {t} {next} {a} {n} {b} w h l o =
     }
 
 -- The chain of the link of leg a, and its lowest leg.
-module _ {t next : List ℕ} {a l : ℕ} {f : Frame} (looked : LegLooked t next a f) (is : l ≡ f.link) where
+module _ {t : List ℕ} {a l : ℕ} {f : Frame} (leg : LegIn t a) (frame : FrameOf t a f) (is : l ≡ f.link) where
   pub its_link : l ≡ (leg_at t a).link
-  its_link = is ∙ looked.frame.link
+  its_link = is ∙ frame.link
 
   pub its_link_inside : l < link_count t
-  its_link_inside = omega (arith, its_link, (looked.leg.table.leg a looked.leg.leg).link)
+  its_link_inside = omega (arith, its_link, (leg.table.leg a leg.leg).link)
 
   module _ {first : List ℕ} (begun : Begun t first 0) where
     pub its_link_room : l < length first
-    its_link_room = omega (arith, its_link_inside, looked.leg.table.sized.limits.links, begun.room)
+    its_link_room = omega (arith, its_link_inside, leg.table.sized.limits.links, begun.room)
 
     pub its_lowest : NextOn t l 0 (get_or first l 0)
     its_lowest = begun.lowest l its_link_inside
@@ -77,14 +72,11 @@ pub record Turn (t next : List ℕ) (a n m : ℕ) (mine : Sharer) (known : Known
   pub gcd : IsGcd mine.slot.period known.period known.divisor
   pub along : Along t a n b
 
-pub turn_starts : {t next : List ℕ} {a n m b : ℕ} {f : Frame} {mine : Sharer} → LegLooked t next a f → m ≤ a → n ≤ b → NextOn t (leg_at t a).link n b
+pub turn_starts : {t next : List ℕ} {a n m b : ℕ} {mine : Sharer} → Chained t next 0 → m ≤ a → n ≤ b → NextOn t (leg_at t a).link n b
     → SharerOf t a mine → Turn t next a n m mine (record { period = mine.slot.period; divisor = mine.slot.period }) b
-turn_starts looked h from x sharer = record { limit = h; chained = looked.chained; sharer = sharer; gcd = gcd_same _; along = along_start from x }
+turn_starts chained h from x sharer = record { limit = h; chained = chained; sharer = sharer; gcd = gcd_same _; along = along_start from x }
 
 module _ {t next : List ℕ} {a n m b : ℕ} {mine : Sharer} {known : Known} (i : Turn t next a n m mine known b) where
-  pub turn_ends : m ≤ b → AllFrom (PairHolds t a) n m
-  turn_ends h d from below = i.along.clear d from (omega arith) (omega (arith, i.limit, i.sharer.leg.leg))
-
   module _ (h : b < m) where
     pub turn_leg : LegIn t b
     turn_leg = record { table = i.sharer.leg.table; leg = omega (arith, i.limit, i.sharer.leg.leg) }
@@ -95,24 +87,12 @@ module _ {t next : List ℕ} {a n m b : ℕ} {mine : Sharer} {known : Known} (i 
     pub turn_room : b < length next
     turn_room = omega (arith, turn_leg.leg, turn_leg.table.sized.limits.legs, i.chained.room)
 
-    pub turn_less : m - get_or next b 0 < m - b
-    turn_less = omega (arith, i.chained.onward b (omega arith) turn_leg.leg)
-
-    module _ {told : Holds} where
-      pub turn_breaks : told ≡ No → Tells (PairHolds t a b) told → Lowest (PairHolds t a) n m b
-      turn_breaks e x = record {
-        above = i.along.from;
-        inside = h;
-        bad = subst (Tells (PairHolds t a b)) e x;
-        before = λ d from below. i.along.clear d from below (omega (arith, turn_leg.leg));
-      }
-
-      pub turn_on : {next_known : Known} {other : Sharer} → SharerOf t b other → told ≡ Yes → Tells (PairHolds t a b) told → next_known.period ≡ other.slot.period
-          → IsGcd mine.slot.period other.slot.period next_known.divisor → Turn t next a n m mine next_known (get_or next b 0)
-      turn_on so e x same g = record {
-        limit = i.limit;
-        chained = i.chained;
-        sharer = i.sharer;
-        gcd = rw same g;
-        along = along_next i.along i.chained turn_leg.leg (subst (Tells (PairHolds t a b)) e x);
-      }
+    pub turn_on : {next_known : Known} {other : Sharer} → SharerOf t b other → PairHolds t a b → next_known.period ≡ other.slot.period
+        → IsGcd mine.slot.period other.slot.period next_known.divisor → Turn t next a n m mine next_known (get_or next b 0)
+    turn_on so holds same g = record {
+      limit = i.limit;
+      chained = i.chained;
+      sharer = i.sharer;
+      gcd = rw same g;
+      along = along_next i.along i.chained turn_leg.leg holds;
+    }

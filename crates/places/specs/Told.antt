@@ -1,14 +1,9 @@
 -- What is told of the places of one leg.
-use Rattle.std.specs.Prelude.{ℕ, ◌≤◌, ◌<◌, ◌≡◌, List}
+use Rattle.std.specs.Prelude.{ℕ, ◌≤◌, ◌<◌, ◌≡◌, List, Option, Some, None}
 use Rattle.basics.specs.Lowest.{AllFrom, Lowest, Finds}
-use Rattle.basics.specs.declared.Found.{Found}
 use Rattle.rules.specs.Places.{rule_at, pair_place, PlaceHolds, PairHolds}
-use Rattle.rules.specs.Steps.{LegIn, FrameOf}
-use Rattle.rules.specs.declared.Frame.{Frame}
 use Rattle.rules.specs.declared.Rule.{Rule}
-use Rattle.places.specs.Chains.{Chained}
-use Rattle.places.specs.declared.LegTold.{LegTold}
-use Rattle.places.specs.declared.LegTold.TheVariants.{Broken, Kept}
+use Rattle.places.specs.declared.Broken.{Broken}
 
 -- The places of leg a from p on and below q hold.
 abbrev pub LegHolds : List ℕ → ℕ → ℕ → ℕ → Type 0
@@ -20,12 +15,12 @@ pub record FirstBroken (t : List ℕ) (a p limit q : ℕ) (r : Rule) : Type 0 wh
   pub rule : r ≡ rule_at q
 
 -- What is told of the places of leg a from p on and below the limit.
-abbrev pub ToldOfLeg : List ℕ → ℕ → ℕ → ℕ → LegTold → Type 0
-ToldOfLeg t a p limit (Broken q r) = FirstBroken t a p limit q r
-ToldOfLeg t a p limit Kept = LegHolds t a p limit
+abbrev pub ToldOfLeg : List ℕ → ℕ → ℕ → ℕ → Option Broken → Type 0
+ToldOfLeg t a p limit (Some b) = FirstBroken t a p limit b.place b.rule
+ToldOfLeg t a p limit None = LegHolds t a p limit
 
 -- Of the legs from n on and below m the lowest with which leg a breaks a rule, or that there is none of them.
-abbrev pub ToldOfPairs : List ℕ → ℕ → ℕ → ℕ → Found → Type 0
+abbrev pub ToldOfPairs : List ℕ → ℕ → ℕ → ℕ → Option ℕ → Type 0
 ToldOfPairs t a n m r = Finds (PairHolds t a) n m r
 
 -- The same, with m for none.
@@ -44,16 +39,3 @@ pub record WholeFrom (p b : ℕ) : Type 0 where
 pub record NextPlace (t : List ℕ) (a q s : ℕ) : Type 0 where
   pub from : q ≤ s
   pub held : LegHolds t a q s
-
--- Leg a of a table, its frame, and the chains of all legs.
-pub record LegLooked (t next : List ℕ) (a : ℕ) (f : Frame) : Type 0 where
-  pub leg : LegIn t a
-  pub frame : FrameOf t a f
-  pub chained : Chained t next 0
-
--- The lesser of two numbers.
-pub record IsLesser (x y r : ℕ) : Type 0 where
-  pub left : r ≤ x
-  pub right : r ≤ y
-  pub is_left : x ≤ y → r ≡ x
-  pub is_right : y ≤ x → r ≡ y

@@ -1,27 +1,37 @@
 // The legs of each link, lowest first: a link knows its lowest leg, and a leg the next on its link.
-ghost use Rattle.std.specs.Prelude.{length, ◌≤◌};
+ghost use Rattle.std.specs.Prelude.{length, ◌≤◌, ◌≡◌};
 ghost use Rattle.table.specs.Layout.{max_legs};
-ghost use Rattle.shape.specs.Guarantees.{Guarantees};
 ghost use Rattle.places.specs.Chains.{Begun, Chained, Unbegun};
 
-// What stands for a link that has no leg.
+use shape::plan::Plan;
+
+/// The lowest leg of a link that no leg uses, and the leg after the last one of a link.
 pub const NO_CHAIN: usize = table::MAX_LEGS;
 
-// Internal: puts every leg into the chain of its link.
-pub fn chain(t: &[u32], first: &mut [usize], next: &mut [usize])
-    requires guarantees { Guarantees t.now }
+/// A plan and the chains of its links: `first` has each link's lowest leg, `next` each leg's successor on its link.
+#[derive(Clone, Copy)]
+pub struct Chains<'c, 'a> {
+    pub plan: &'c Plan<'a>,
+    pub first: &'c [usize],
+    pub next: &'c [usize],
+    pub ghost begun: { Begun plan.now first.now 0 },
+    pub ghost chained: { Chained plan.now next.now 0 },
+}
+
+/// Internal: puts every leg into the chain of its link.
+pub fn chain<'c, 'a>(
+    plan: &'c Plan<'a>,
+    first: &'c mut [usize],
+    next: &'c mut [usize],
+) -> Chains<'c, 'a>
     requires unbegun { Unbegun first.old }
     requires max_legs_in_bounds { max_legs ≤ length next.old }
-    ensures { Begun t.now first.new 0 × Chained t.now next.new 0 }
+    ensures { result.plan.now ≡ plan.now }
 {
-    let legs = table::parts::leg_part(t);
-    let mut n = table::wide(t[table::LEGS_AT]);
-    while 0 < n {
-        let b = n - 1;
-        let leg = table::parts::leg_in(legs, b);
-        let l = table::wide(leg.link);
+    for b in (0..plan.legs()).rev() {
+        let l = plan.leg(b).link as usize;
         next[b] = first[l];
         first[l] = b;
-        n = b;
     }
+    Chains { plan, first, next }
 }

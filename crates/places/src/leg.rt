@@ -1,92 +1,88 @@
 // The first broken place of a leg.
-ghost use Rattle.std.specs.Prelude.{◌<◌, ◌≤◌};
+ghost use Rattle.std.specs.Prelude.{◌<◌, ◌≤◌, Option};
 ghost use Rattle.table.specs.Layout.{max_legs, leg_count};
 ghost use Rattle.table.specs.Records.{leg_at};
 ghost use Rattle.rules.specs.Places.{places_of};
-ghost use Rattle.rules.specs.Steps.{LegIn, FrameOf};
-ghost use Rattle.places.specs.Chains.{NextOn, Begun, Chained};
-ghost use Rattle.places.specs.Told.{ToldOfLeg, ToldOfPairs, BrokenFrom, WholeFrom, NextPlace, LegLooked};
+ghost use Rattle.places.specs.Chains.{Begun, Chained, NextOn};
+ghost use Rattle.places.specs.Told.{ToldOfLeg, ToldOfPairs, BrokenFrom, WholeFrom, NextPlace};
 
-use crate::LegTold;
-use basics::{Found, Holds};
+use crate::Broken;
+use crate::chains::Chains;
 use overlap::Known;
-use rules::{Frame, Judged};
+use rules::leg::TimedLeg;
 
-// Along the chain of link l from leg start on, the lowest leg that is not below n.
-fn chain_from(t: &[u32], next: &[usize], l: usize, start: usize, n: usize) -> usize
-    requires chained { Chained t.now next.now 0 }
-    requires next_on { NextOn t.now l 0 start }
-    requires n_bound { (n ≤ leg_count t.now) × (leg_count t.now ≤ max_legs) }
-    ensures { (n ≤ result) × NextOn t.now l n result }
-{
-    let mut b = start;
-    while b < n {
-        b = next[b];
-    }
-    b
+/// A leg of a plan, with the chains of its links.
+#[derive(Clone, Copy)]
+struct ChainedLeg<'c, 'a> {
+    leg: TimedLeg<'c, 'a>,
+    first: &'c [usize],
+    next: &'c [usize],
+    ghost begun: { Begun leg.plan.now first.now 0 },
+    ghost chained: { Chained leg.plan.now next.now 0 },
 }
 
-// The lowest leg from n on and below m with which leg a breaks a rule. Only the legs of its link are looked at, the lowest of which from n on is start.
-fn lowest_broken(
-    t: &[u32],
-    next: &[usize],
-    a: usize,
-    f: Frame,
-    start: usize,
-    n: usize,
-    m: usize,
-) -> Found
-    requires leg_looked { LegLooked t.now next.now a f }
-    requires n_le_start { (n ≤ start) × NextOn t.now (leg_at t.now a).link n start }
-    requires m_le_a { m ≤ a }
-    ensures { ToldOfPairs t.now a n m result }
-{
-    let mine = rules::judge::sharer(t, a, f);
-    let mut known = Known {
-        period: mine.slot.period,
-        divisor: mine.slot.period,
-    };
-    let mut b = start;
-    while b < m {
-        let other = rules::judge::sharer_at(t, b);
-        known = overlap::known_with(known, mine.slot.period, other.slot.period);
-        let told = rules::judge::pair_told(t, a, mine, b, other, known.divisor);
-        match told {
-            Holds::No => {
-                return Found::At(b);
-            }
-            Holds::Yes => {}
+impl<'c, 'a> ChainedLeg<'c, 'a> {
+    /// Returns the lowest leg of its link that is not below n.
+    fn chain_from(&self, n: usize) -> usize
+        requires { n ≤ leg_count self.now.leg.plan.now }
+        ensures { (n ≤ result) × NextOn self.now.leg.plan.now (leg_at self.now.leg.plan.now self.now.leg.at).link n result }
+    {
+        let mut b = self.first[self.leg.frame.link as usize];
+        while b < n {
+            b = self.next[b];
         }
-        b = next[b];
+        b
     }
-    Found::Nowhere
+
+    /// Returns the lowest leg from n on and below m with which it breaks a rule. Looks only at the legs of its link, of which `start` is the lowest from n on.
+    fn lowest_broken(&self, start: usize, n: usize, m: usize) -> Option<usize>
+        requires n_le_start { (n ≤ start) × NextOn self.now.leg.plan.now (leg_at self.now.leg.plan.now self.now.leg.at).link n start }
+        requires m_le_a { m ≤ self.now.leg.at }
+        ensures { ToldOfPairs self.now.leg.plan.now self.now.leg.at n m result }
+    {
+        let t = self.leg.plan.words();
+        let mine = self.leg.sharer();
+        let mut known = Known {
+            period: mine.slot.period,
+            divisor: mine.slot.period,
+        };
+        let mut b = start;
+        while b < m {
+            let other = TimedLeg::of(self.leg.plan, b).sharer();
+            known = overlap::known_with(known, mine.slot.period, other.slot.period);
+            if !rules::judge::pair_told(t, self.leg.at, mine, b, other, known.divisor) {
+                return Some(b);
+            }
+            b = self.next[b];
+        }
+        None
+    }
+
+    /// The same, or m where there is none.
+    fn broken_from(&self, n: usize, m: usize) -> usize
+        requires { (n ≤ m) × (m ≤ self.now.leg.at) }
+        ensures { BrokenFrom self.now.leg.plan.now self.now.leg.at n m result }
+    {
+        let start = self.chain_from(n);
+        self.lowest_broken(start, n, m).unwrap_or(m)
+    }
+
+    /// Returns its next place to look at, from q on. It is q, unless q is the first place with leg n: then it is the first place with the lowest leg from n on
+    /// with which a rule is broken, or with the first leg that has places past the limit.
+    fn next_place(&self, n: usize, q: usize, limit: usize) -> usize
+        requires n_le_max_legs { n ≤ max_legs }
+        requires q_lt_limit { (q < limit) × (limit ≤ places_of self.now.leg.at) }
+        ensures { NextPlace self.now.leg.plan.now self.now.leg.at q result }
+    {
+        if q != rules::place::pair_place(n) {
+            return q;
+        }
+        let b = self.broken_from(n, rules::place::pair_of(limit));
+        rules::place::pair_place(b)
+    }
 }
 
-// The lowest leg from n on and below m with which leg a breaks a rule, or m where there is none.
-fn broken_from(
-    t: &[u32],
-    first: &[usize],
-    next: &[usize],
-    a: usize,
-    f: Frame,
-    n: usize,
-    m: usize,
-) -> usize
-    requires leg_looked { LegLooked t.now next.now a f }
-    requires begun { Begun t.now first.now 0 }
-    requires n_le_m { (n ≤ m) × (m ≤ a) }
-    ensures { BrokenFrom t.now a n m result }
-{
-    let l = table::wide(f.link);
-    let start = chain_from(t, next, l, first[l], n);
-    let found = lowest_broken(t, next, a, f, start, n, m);
-    match found {
-        Found::At(b) => b,
-        Found::Nowhere => m,
-    }
-}
-
-// The lowest leg such that the first place with it is p or comes after p.
+/// Returns the lowest leg such that the first place with it is p or comes after p.
 fn whole_from(p: usize) -> usize
     ensures { WholeFrom p result }
 {
@@ -96,61 +92,29 @@ fn whole_from(p: usize) -> usize
     rules::place::pair_of(p - 1) + 1
 }
 
-// The next place of leg a to be looked at, from q on. It is q, except where q is the first place with leg n: then it is the first place with the lowest leg from n
-// on with which a rule is broken, or with the first leg that has places past the limit.
-fn next_place(
-    t: &[u32],
-    first: &[usize],
-    next: &[usize],
-    a: usize,
-    f: Frame,
-    n: usize,
-    q: usize,
-    limit: usize,
-) -> usize
-    requires leg_looked { LegLooked t.now next.now a f }
-    requires begun { Begun t.now first.now 0 }
-    requires n_le_max_legs { n ≤ max_legs }
-    requires q_lt_limit { (q < limit) × (limit ≤ places_of a) }
-    ensures { NextPlace t.now a q result }
-{
-    if q != rules::place::pair_place(n) {
-        return q;
-    }
-    let b = broken_from(t, first, next, a, f, n, rules::place::pair_of(limit));
-    rules::place::pair_place(b)
-}
-
-// Internal: the first broken place of leg a from p on and below the limit. Of the legs whose places all lie between these, only those on its link are looked at.
-pub fn judged_leg(
-    t: &[u32],
-    first: &[usize],
-    next: &[usize],
-    a: usize,
-    p: usize,
-    limit: usize,
-) -> LegTold
-    requires leg_in { LegIn t.now a }
-    requires begun { Begun t.now first.now 0 × Chained t.now next.now 0 }
+/// Internal: returns the first broken place of leg a from p on and below the limit. Of the legs whose places all lie between these, it looks only at those on its link.
+pub fn judged_leg(chains: &Chains, a: usize, p: usize, limit: usize) -> Option<Broken>
+    requires a_bound { a < leg_count chains.now.plan.now }
     requires p_le_limit { (p ≤ limit) × (limit ≤ places_of a) }
-    ensures { ToldOfLeg t.now a p limit result }
+    ensures { ToldOfLeg chains.now.plan.now a p limit result }
 {
-    let f = rules::times::frame(t, a);
+    let leg = TimedLeg::of(chains.plan, a);
+    let chained = ChainedLeg {
+        leg,
+        first: chains.first,
+        next: chains.next,
+    };
     let n = whole_from(p);
     let mut q = p;
     while q < limit {
-        let s = next_place(t, first, next, a, f, n, q, limit);
+        let s = chained.next_place(n, q, limit);
         if limit <= s {
-            return LegTold::Kept;
+            return None;
         }
-        let told = rules::place::judged_place(t, a, f, s);
-        match told {
-            Judged::Broken(rule) => {
-                return LegTold::Broken(s, rule);
-            }
-            Judged::Kept => {}
+        if let Some(rule) = leg.broken_at(s) {
+            return Some(Broken { place: s, rule });
         }
         q = s + 1;
     }
-    LegTold::Kept
+    None
 }

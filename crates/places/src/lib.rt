@@ -1,11 +1,10 @@
-// The places of a leg, looked at in order.
+//! The places of a leg, looked at in order.
 #![tactic(auto)]
 
 ghost use Rattle.std.specs.Prelude.{◌≡◌, ◌≤◌};
 ghost use Rattle.table.specs.Layout.{max_legs};
 ghost use Rattle.rules.specs.Places.{places_of};
 ghost use Rattle.places.specs.Order.{places_below, pairs_of};
-ghost use Rattle.places.specs.Told.{IsLesser};
 
 use rules::Rule;
 use rules::place::{OWN_PLACES, PAIR_PLACES};
@@ -13,14 +12,14 @@ use rules::place::{OWN_PLACES, PAIR_PLACES};
 pub mod chains;
 pub mod leg;
 
-// What is told of some places of a leg: the first that is broken and its rule, or that all are kept.
-#[derive(Clone, Copy)]
-pub enum LegTold {
-    Broken(usize, Rule),
-    Kept,
+/// A broken place of a leg, and its rule.
+#[derive(Clone, Copy, Debug, PartialEq, Eq)]
+pub struct Broken {
+    pub place: usize,
+    pub rule: Rule,
 }
 
-// Internal: how many places leg a has.
+/// Internal: how many places leg a has.
 pub fn places_of(a: usize) -> usize
     requires { a ≤ max_legs }
     ensures { result ≡ places_of a }
@@ -28,7 +27,7 @@ pub fn places_of(a: usize) -> usize
     OWN_PLACES + PAIR_PLACES * a
 }
 
-// Internal: how many places so many legs have.
+/// Internal: how many places so many legs have.
 pub fn place_count(legs: usize) -> usize
     requires { legs ≤ max_legs }
     ensures { result ≡ places_below legs }
@@ -36,23 +35,10 @@ pub fn place_count(legs: usize) -> usize
     OWN_PLACES * legs + PAIR_PLACES * pairs(legs)
 }
 
-// How many pairs so many legs make.
+/// How many pairs so many legs make.
 fn pairs(legs: usize) -> usize
     requires { legs ≤ max_legs }
     ensures { result ≡ pairs_of legs }
 {
-    if legs == 0 {
-        return 0;
-    }
-    legs * (legs - 1) / 2
-}
-
-// Internal: the lesser of two numbers.
-pub fn lesser(x: usize, y: usize) -> usize
-    ensures { IsLesser x y result }
-{
-    if x < y {
-        return x;
-    }
-    y
+    legs * legs.saturating_sub(1) / 2
 }

@@ -3,7 +3,6 @@ use Prim.Native.Nat.{ℕ, ◌+◌, ◌≤◌, ◌<◌}
 use mathlib.Core.Path.{◌≡◌, refl, sym, ap}
 use mathlib.Core.List.{List}
 use native.Mathlib.Omega.{arith}
-use Rattle.basics.specs.declared.Holds.TheVariants.{Yes, No}
 use Rattle.numbers.specs.Number.{max_word}
 use Rattle.table.specs.Layout.{precision_of, max_precision}
 use Rattle.table.specs.Records.{leg_at}
@@ -24,7 +23,7 @@ use Rattle.rules.specs.Times.{start_time, wire_time, hold_time, lasting, max_tim
 use Rattle.rules.specs.Rules.{Window, Hop, Deadline, Overlap}
 use Rattle.rules.specs.Steps.{Timed, StartsAt, FrameOf, ReadyOf, SlotOf}
 use Rattle.rules.specs.declared.Frame.{Frame}
-use Rattle.rules.proofs.Judging.{window_kept, window_broken, first_has_no_hop, hop_kept, hop_broken, not_last_has_no_deadline, deadline_kept, late_last_leg, other_links_never_meet, same_link_told}
+use Rattle.rules.proofs.Judging.{window_kept, window_broken, first_has_no_hop, hop_kept, hop_broken, not_last_has_no_deadline, deadline_kept, late_last_leg, other_links_never_meet, overlap_says_of}
 
 -- The frame of a leg whose record, stream and link are known, which starts at b, and whose frame is on the wire for w and holds its link for h.
 abbrev pub frame_with : Leg → Stream → Link → ℕ → ℕ → ℕ → Frame
@@ -285,10 +284,13 @@ module _ (n : PlanNumbers) where
     pub overlap_20 : NeverMeet slot_0 slot_2 → Overlap plan 2 0
     unfolding f0 f2
     overlap_20 m =
-        same_link_told plan 2 0 0 f2 _ _ is_2 is_0.link refl (slot_of plan 2 f2 is_2) (slot_of plan 0 f0 is_0) Yes (meeting_is_symmetric slot_0 slot_2 m)
+        (overlap_says_of plan 2 0 0 f2 _ _ is_2 is_0.link refl (slot_of plan 2 f2 is_2) (slot_of plan 0 f0 is_0)).0 (meeting_is_symmetric slot_0 slot_2 m)
 
     pub overlap_20_broken : (NeverMeet slot_0 slot_2 → ⊥) → Overlap plan 2 0 → ⊥
     unfolding f0 f2
-    overlap_20_broken m =
-        same_link_told plan 2 0 0 f2 _ _ is_2 is_0.link refl (slot_of plan 2 f2 is_2) (slot_of plan 0 f0 is_0) No
-        (λ k. m (meeting_is_symmetric slot_2 slot_0 k))
+    overlap_20_broken m o =
+        m
+        (meeting_is_symmetric
+        slot_2
+        slot_0
+        ((overlap_says_of plan 2 0 0 f2 _ _ is_2 is_0.link refl (slot_of plan 2 f2 is_2) (slot_of plan 0 f0 is_0)).1 o))

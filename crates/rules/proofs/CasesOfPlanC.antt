@@ -4,7 +4,6 @@ use mathlib.Core.Path.{◌≡◌, refl, ap}
 use mathlib.Core.List.{List}
 use mathlib.Core.Logic.{inl, inr, ⊎_elim}
 use native.Mathlib.Omega.{arith}
-use Rattle.basics.specs.declared.Holds.TheVariants.{No}
 use Rattle.table.specs.PlanC.{PlanCNumbers, plan_c, deadlines_c, offsets_c}
 use Rattle.table.specs.declared.Stream.{Stream}
 use Rattle.shape.specs.Legs.{first_of, end_of}
@@ -15,7 +14,7 @@ use Rattle.rules.specs.Times.{start_time, wire_time, hold_time, lasting}
 use Rattle.rules.specs.Rules.{Overlap}
 use Rattle.rules.specs.Places.{asked_at}
 use Rattle.rules.specs.CasesOfPlanC.{CasesOfPlanC, ReadsOfPlanC, CasesOfPlanCArePlans}
-use Rattle.rules.proofs.Judging.{not_last_has_no_deadline, same_link_told}
+use Rattle.rules.proofs.Judging.{not_last_has_no_deadline, overlap_says_of}
 use Rattle.rules.proofs.CasePlans.{slot_of}
 use Rattle.rules.proofs.Computed.{Near, frame, hop, no_hop, in_time, late, apart}
 
@@ -32,10 +31,18 @@ module _ (n : PlanCNumbers) (small : n.deadline_1 + n.deadline_2 + n.offset_2 + 
 
   meet_on_link_4 : Overlap (plan_c n) 5 4 → ⊥
   unfolding hold_time lasting
-  meet_on_link_4 =
-      same_link_told (plan_c n) 5 4 4 _ _ _ (frame (plan_c n) (omega arith) near 5 (omega arith)) (frame (plan_c n) (omega arith) near 4 (omega arith)).link refl
-      (slot_of (plan_c n) 5 _ (frame (plan_c n) (omega arith) near 5 (omega arith))) (slot_of (plan_c n) 4 _ (frame (plan_c n) (omega arith) near 4 (omega arith))) No
-      (shared_instant _ _ 0 0 1300 (record { begun = omega arith; not_ended = omega arith }) (record { begun = omega arith; not_ended = omega arith }))
+  meet_on_link_4 o =
+      shared_instant
+      _
+      _
+      0
+      0
+      1300
+      (record { begun = omega arith; not_ended = omega arith })
+      (record { begun = omega arith; not_ended = omega arith })
+      ((overlap_says_of (plan_c n) 5 4 4 _ _ _ (frame (plan_c n) (omega arith) near 5 (omega arith)) (frame (plan_c n) (omega arith) near 4 (omega arith)).link refl
+      (slot_of (plan_c n) 5 _ (frame (plan_c n) (omega arith) near 5 (omega arith))) (slot_of (plan_c n) 4 _ (frame (plan_c n) (omega arith) near 4 (omega arith)))).1
+      o)
 
 pub cases_of_plan_c : CasesOfPlanC
 unfolding start_time wire_time lasting

@@ -2,7 +2,6 @@
 use Prim.Native.Nat.{ℕ, zero, suc, ◌+◌, ◌≤◌, ◌<◌}
 use mathlib.Core.Path.{◌≡◌, refl}
 use native.Mathlib.Omega.{arith}
-use Rattle.basics.specs.declared.Holds.TheVariants.{Yes, No}
 use Rattle.table.specs.PlanD.{PlanDNumbers, plan_d, route_d, late_d}
 use Rattle.shape.specs.Theorems.{PeriodsInRangeD}
 use Rattle.shape.specs.Shape.{WellFormedTable}
@@ -15,7 +14,7 @@ use Rattle.overlap.proofs.Law.{divisor_law, shared_instant, meeting_is_symmetric
 use Rattle.rules.specs.Times.{start_time, wire_time, hold_time, lasting}
 use Rattle.rules.specs.Rules.{Window, Hop, Deadline, Overlap, RulesHold}
 use Rattle.rules.specs.CasesOfPlanD.{CasesOfPlanD}
-use Rattle.rules.proofs.Judging.{window_kept, window_broken, first_has_no_hop, not_last_has_no_deadline, same_link_told}
+use Rattle.rules.proofs.Judging.{window_kept, window_broken, first_has_no_hop, not_last_has_no_deadline, overlap_says_of}
 use Rattle.rules.proofs.CasePlans.{slot_of}
 use Rattle.rules.proofs.Computed.{Near, frame, hop, no_hop, in_time, late, apart}
 
@@ -56,21 +55,22 @@ module _ (n : PlanDNumbers) (late-words : PeriodsInRangeD n) (small : n.deadline
   overlap_10 : NeverMeet slot_1 (slot_0 n.offset_0) → Overlap (plan_d n) 1 0
   unfolding hold_time lasting
   overlap_10 m =
-      same_link_told (plan_d n) 1 0 0 _ _ _ (frame (plan_d n) (omega arith) near 1 (omega arith)) (frame (plan_d n) (omega arith) near 0 (omega arith)).link refl
-      (slot_of (plan_d n) 1 _ (frame (plan_d n) (omega arith) near 1 (omega arith))) (slot_of (plan_d n) 0 _ (frame (plan_d n) (omega arith) near 0 (omega arith))) Yes m
+      (overlap_says_of (plan_d n) 1 0 0 _ _ _ (frame (plan_d n) (omega arith) near 1 (omega arith)) (frame (plan_d n) (omega arith) near 0 (omega arith)).link refl
+      (slot_of (plan_d n) 1 _ (frame (plan_d n) (omega arith) near 1 (omega arith))) (slot_of (plan_d n) 0 _ (frame (plan_d n) (omega arith) near 0 (omega arith)))).0 m
 
   overlap_01 : NeverMeet slot_1 (slot_0 n.offset_0) → Overlap (plan_d n) 0 1
   unfolding hold_time lasting
   overlap_01 m =
-      same_link_told (plan_d n) 0 1 0 _ _ _ (frame (plan_d n) (omega arith) near 0 (omega arith)) (frame (plan_d n) (omega arith) near 1 (omega arith)).link refl
-      (slot_of (plan_d n) 0 _ (frame (plan_d n) (omega arith) near 0 (omega arith))) (slot_of (plan_d n) 1 _ (frame (plan_d n) (omega arith) near 1 (omega arith))) Yes
+      (overlap_says_of (plan_d n) 0 1 0 _ _ _ (frame (plan_d n) (omega arith) near 0 (omega arith)) (frame (plan_d n) (omega arith) near 1 (omega arith)).link refl
+      (slot_of (plan_d n) 0 _ (frame (plan_d n) (omega arith) near 0 (omega arith))) (slot_of (plan_d n) 1 _ (frame (plan_d n) (omega arith) near 1 (omega arith)))).0
       (meeting_is_symmetric slot_1 (slot_0 n.offset_0) m)
 
   no_overlap_10 : (NeverMeet slot_1 (slot_0 n.offset_0) → ⊥) → Overlap (plan_d n) 1 0 → ⊥
   unfolding hold_time lasting
-  no_overlap_10 m =
-      same_link_told (plan_d n) 1 0 0 _ _ _ (frame (plan_d n) (omega arith) near 1 (omega arith)) (frame (plan_d n) (omega arith) near 0 (omega arith)).link refl
-      (slot_of (plan_d n) 1 _ (frame (plan_d n) (omega arith) near 1 (omega arith))) (slot_of (plan_d n) 0 _ (frame (plan_d n) (omega arith) near 0 (omega arith))) No m
+  no_overlap_10 m o =
+      m
+      ((overlap_says_of (plan_d n) 1 0 0 _ _ _ (frame (plan_d n) (omega arith) near 1 (omega arith)) (frame (plan_d n) (omega arith) near 0 (omega arith)).link refl
+      (slot_of (plan_d n) 1 _ (frame (plan_d n) (omega arith) near 1 (omega arith))) (slot_of (plan_d n) 0 _ (frame (plan_d n) (omega arith) near 0 (omega arith)))).1 o)
 
 -- Plan D with the words p, p + 1 and p + 2 of its route.
 module _ (p : ℕ) (most : p ≤ 5) where

@@ -30,23 +30,14 @@ module _ {t legs : List ℕ} {a : ℕ} (here : LegIn t a) (of : legs ≡ leg_par
     leg_link = ap (λ (l : Leg). l.link) leg_is
 
     -- So do the records of its stream and of its link.
-    module _ {streams : List ℕ} {s : ℕ} (of-streams : streams ≡ stream_part t) (names : s ≡ leg.stream) where
-      pub stream_named : s ≡ (leg_at t a).stream
-      stream_named = names ∙ ap (λ (l : Leg). l.stream) leg_is
+    pub leg_stream : leg.stream ≡ (leg_at t a).stream
+    leg_stream = ap (λ (l : Leg). l.stream) leg_is
 
-      pub stream_lies : stream_words * s + stream_words ≤ length streams
-      stream_lies = rw (of-streams, stream_named) (stream_inside t here.table.sized _ (here.table.leg a here.leg).stream)
+    pub stream_lies : {streams : List ℕ} → streams ≡ stream_part t → stream_words * leg.stream + stream_words ≤ length streams
+    stream_lies of-streams = rw (of-streams, leg_stream) (stream_inside t here.table.sized _ (here.table.leg a here.leg).stream)
 
-    module _ {links : List ℕ} {l : ℕ} (of-links : links ≡ link_part t) (names : l ≡ leg.link) where
-      pub link_named : l ≡ (leg_at t a).link
-      link_named = names ∙ leg_link
-
-      pub link_lies : link_words * l + link_words ≤ length links
-      link_lies = rw (of-links, link_named) (link_inside t here.table.sized _ (here.table.leg a here.leg).link)
-
--- A word in more bits.
-abbrev Word : ℕ → ℕ → Type 0
-Word x r = (r ≡ x) × (r ≤ max_word)
+    pub link_lies : {links : List ℕ} → links ≡ link_part t → link_words * leg.link + link_words ≤ length links
+    link_lies of-links = rw (of-links, leg_link) (link_inside t here.table.sized _ (here.table.leg a here.leg).link)
 
 -- All that is read of leg a.
 pub record Reading : Type 0 where
@@ -64,12 +55,12 @@ pub record Reading : Type 0 where
   pub legs : stream.first + stream.count ≤ max_legs
   pub small : LinkSmall link
 
-abbrev pub reading : {t legs streams links : List ℕ} {a s l : ℕ} {leg : Leg} {stream : Stream} {link : Link} → LegIn t a → legs ≡ leg_part t → leg ≡ leg_in legs a
-    → streams ≡ stream_part t → s ≡ leg.stream → stream ≡ stream_in streams s → links ≡ link_part t → l ≡ leg.link → link ≡ link_in links l → Reading
-reading {t = t} {a = a} {leg = leg} {stream = stream} {link = link} here of is of-streams names_stream is-stream of-links names-link is-link =
+abbrev pub reading : {t legs streams links : List ℕ} {a : ℕ} {leg : Leg} {stream : Stream} {link : Link} → LegIn t a → legs ≡ leg_part t → leg ≡ leg_in legs a
+    → streams ≡ stream_part t → stream ≡ stream_in streams leg.stream → links ≡ link_part t → link ≡ link_in links leg.link → Reading
+reading {t = t} {a = a} {leg = leg} {stream = stream} {link = link} here of is of-streams is-stream of-links is-link =
     let p = here.table.leg a here.leg in
-    let n = stream_named here of is of-streams names_stream in
-    let m = link_named here of is of-links names-link in
+    let n = leg_stream here of is in
+    let m = leg_link here of is in
     let e : stream ≡ stream_of t a = is-stream ∙ rw (of-streams, n) (stream_of_part t _) in
     let k : link ≡ link_of t a = is-link ∙ rw (of-links, m) (link_of_part t _) in
     let placed : StreamPlaced t (leg_at t a).stream = here.table.stream _ p.stream in
@@ -90,36 +81,35 @@ reading {t = t} {a = a} {leg = leg} {stream = stream} {link = link} here of is o
     }
 
 -- The frame that is made of them is the leg's.
-pub frame_read : (r : Reading) {offset start wire hold propagation period deadline first count : ℕ} → Word r.leg.offset offset → StartsAt (start_time r.leg.offset r.leg.periods r.stream.period) start
-    → Timed (wire_time r.stream.octets r.link.rate) wire → Timed (hold_time r.stream.octets r.link.rate) hold → Word r.link.propagation propagation
-    → Word r.stream.period period → Word r.stream.deadline deadline → first ≡ r.stream.first → count ≡ r.stream.count
+pub frame_read : (r : Reading) {start wire hold : ℕ} → r.leg.offset ≤ max_word → r.stream.deadline ≤ max_word → StartsAt (start_time r.leg.offset r.leg.periods r.stream.period) start
+    → Timed (wire_time r.stream.octets r.link.rate) wire → Timed (hold_time r.stream.octets r.link.rate) hold
     → FrameOf r.t r.a (record {
-      offset = offset;
+      offset = r.leg.offset;
       start = start;
       wire = wire;
       hold = hold;
-      propagation = propagation;
+      propagation = r.link.propagation;
       link = r.leg.link;
-      period = period;
-      deadline = deadline;
-      first = first;
-      end = first + count;
+      period = r.stream.period;
+      deadline = r.stream.deadline;
+      first = r.stream.first;
+      end = r.stream.first + r.stream.count;
     })
 unfolding start_of
-frame_read r o s w h g p d f n = record {
-  offset = o.0 ∙ ap (λ (z : Leg). z.offset) r.leg_is;
+frame_read r near due s w h = record {
+  offset = ap (λ (z : Leg). z.offset) r.leg_is;
   start = rw (r.leg_is, r.stream_is) at s.same;
-  near = o.1;
+  near = near;
   small = s.small;
   wire = rw (r.stream_is, r.link_is) at w;
   hold = rw (r.stream_is, r.link_is) at h;
-  propagation = g.0 ∙ ap (λ (z : Link). z.propagation) r.link_is;
-  short = omega (arith, g.0, r.small.propagation);
+  propagation = ap (λ (z : Link). z.propagation) r.link_is;
+  short = r.small.propagation;
   link = ap (λ (z : Leg). z.link) r.leg_is;
-  period = p.0 ∙ ap (λ (z : Stream). z.period) r.stream_is;
-  deadline = d.0 ∙ ap (λ (z : Stream). z.deadline) r.stream_is;
-  first = f ∙ ap (λ (z : Stream). z.first) r.stream_is;
+  period = ap (λ (z : Stream). z.period) r.stream_is;
+  deadline = ap (λ (z : Stream). z.deadline) r.stream_is;
+  first = ap (λ (z : Stream). z.first) r.stream_is;
   end = omega (arith, ap (λ (z : Stream). z.first) r.stream_is, ap (λ (z : Stream). z.count) r.stream_is);
-  repeats = (omega (arith, p.0, r.period.0), p.1);
-  due = d.1;
+  repeats = (r.period.0, omega (arith, r.period.1));
+  due = due;
 }

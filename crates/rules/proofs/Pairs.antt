@@ -1,12 +1,9 @@
 -- What is asked of a leg with one leg below it, and the places where it stands. Assumes nothing.
-use Prim.Native.Nat.{ℕ, ◌-◌, ◌/◌}
-use mathlib.Core.Path.{◌≡◌, subst}
-use mathlib.Core.List.{List}
+use Rattle.std.specs.Prelude.{ℕ, ◌-◌, ◌/◌, ◌≡◌, List, Bool, IsTrue, ◌↔◌}
+use mathlib.Core.Path.{subst}
+use Rattle.shape.proofs.Tests.{told_as}
 use native.Mathlib.Omega.{arith}
 use Rattle.basics.specs.Lowest.{AllFrom}
-use Rattle.basics.specs.Tells.{Tells}
-use Rattle.basics.specs.declared.Holds.{Holds}
-use Rattle.basics.specs.declared.Holds.TheVariants.{Yes, No}
 use Rattle.table.specs.Records.{leg_at}
 use Rattle.overlap.specs.Meeting.{NeverMeet}
 use Rattle.rules.specs.Rules.{Overlap}
@@ -15,7 +12,7 @@ use Rattle.rules.specs.Steps.{SharerOf}
 use Rattle.rules.specs.declared.Asked.TheVariants as asked
 use Rattle.rules.specs.declared.Sharer.{Sharer}
 use Rattle.rules.proofs.Asking.{with_leg}
-use Rattle.rules.proofs.Judging.{other_links, slots_told}
+use Rattle.rules.proofs.Judging.{other_links, same_link}
 use Rattle.rules.proofs.Placing.{place_holds, asked_holds}
 
 -- With one leg an overlap is asked, and no more.
@@ -33,9 +30,10 @@ other_pairs t a b n = pair_kept t a b (other_links t a b n)
 
 -- And with a leg of the same link it is told by the two slots.
 module _ {t : List ℕ} {a b : ℕ} {mine other : Sharer} (is : SharerOf t a mine) (so : SharerOf t b other) (e : (leg_at t a).link ≡ (leg_at t b).link) where
-  pub slots_tell_pair : (r : Holds) → Tells (NeverMeet mine.slot other.slot) r → Tells (PairHolds t a b) r
-  slots_tell_pair Yes n = pair_kept t a b (slots_told t a b _ _ is.slot so.slot e Yes n)
-  slots_tell_pair No n = λ h. slots_told t a b _ _ is.slot so.slot e No n (overlap_kept t a b h)
+  pub slots_tell_pair : {r : Bool} → (IsTrue r ↔ NeverMeet mine.slot other.slot) → IsTrue r ↔ PairHolds t a b
+  slots_tell_pair h =
+      let says = same_link t a b _ _ is.slot so.slot e in
+      told_as (λ n. pair_kept t a b (says.0 n)) (λ p. says.1 (overlap_kept t a b p)) h
 
 -- The places with legs from n on and below m are those from the first with n on and below the first with m.
 pub pairs_hold : (t : List ℕ) (a n m : ℕ) → AllFrom (PairHolds t a) n m → AllFrom (PlaceHolds t a) (pair_place n) (pair_place m)

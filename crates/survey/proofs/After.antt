@@ -23,13 +23,6 @@ first_of_lem {t} {a} h = ⊎_elim
     (λ (g : leg_count t ≤ a). inr (record { leg = omega arith; place = refl }))
     (lt_or_ge a (leg_count t))
 
-pub within_leg : {t : List ℕ} {d : Cursor} → CursorRight t d → IsPlace t d.leg d.place → d.place + 1 < places_of d.leg
-    → CursorRight t (cursor d.revision d.leg (d.place + 1)) × RightAfter t d (cursor d.revision d.leg (d.place + 1))
-within_leg c i h = (
-  record { shape = c.shape; revision = c.revision; stands = inl (record { leg = i.leg; place = omega arith }) },
-  record { revision = refl; stands = inl (record { leg = i.leg; place = omega arith }); next = omega arith },
-)
-
 pub past_leg : {t : List ℕ} {d : Cursor} → CursorRight t d → IsPlace t d.leg d.place → places_of d.leg ≤ d.place + 1
     → CursorRight t (cursor d.revision (d.leg + 1) 0) × RightAfter t d (cursor d.revision (d.leg + 1) 0)
 past_leg {t} {d} c i h =

@@ -2,6 +2,7 @@
 use Prim.Native.Nat.{ℕ, ◌+◌, ◌≤◌, ◌<◌}
 use mathlib.Core.Path.{◌≡◌, refl, sym, subst}
 use mathlib.Core.List.{List, [], ◌∷◌}
+use Rattle.std.specs.Prelude.{Ok}
 use mathlib.Core.Logic.{inl, inr, ⊎_elim}
 use native.Mathlib.Omega.{arith}
 use Rattle.basics.proofs.Splits.{lt_or_ge}
@@ -12,7 +13,6 @@ use Rattle.places.specs.Order.{rank, IsPlace, HoldFrom, place_count}
 use Rattle.places.proofs.Ranks.{place_rank, end_rank, order_by_leg, rank_one}
 use Rattle.checker.specs.Cursors.{cursor_rank}
 use Rattle.checker.specs.Slices.{Starts}
-use Rattle.checker.specs.declared.Grant.TheVariants.{Granted}
 use Rattle.checker.specs.declared.SliceAnswer.{SliceAnswer}
 use Rattle.checker.specs.declared.SliceAnswer.TheVariants as answer
 use Rattle.checker.proofs.Whole.{start_rank, all_held, broken_rules}
@@ -98,12 +98,12 @@ module _ (t : List ℕ) where
   told_from c (answer.Paused d n ∷ rest) s =
       let v = s.0.answers.1 in
       earlier_from (omega (arith, v.went.steps)) v.went.held (told_from d rest s.1)
-  told_from c (answer.Refused k p d ∷ rest) s = absurd s
+  told_from c (answer.Refused e d ∷ rest) s = absurd s
 
   whole : {places : List Place} → From t 0 places → AllViolated t places
   whole f = record { places_is = f.places_is; violated = f.violated; all = λ a p i. f.all a p i (omega arith); in_order = f.in_order }
 
-from_start : (t : List ℕ) (c : Cursor) (answers : List SliceAnswer) → Starts t (Granted c) → Surveys t c answers → From t 0 (noted answers)
+from_start : (t : List ℕ) (c : Cursor) (answers : List SliceAnswer) → Starts t (Ok c) → Surveys t c answers → From t 0 (noted answers)
 from_start t c answers s v = subst (λ m. From t m (noted answers)) (start_rank s) (told_from t c answers v)
 
 pub surveys_tell_all : SurveysTellAll

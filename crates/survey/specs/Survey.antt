@@ -27,7 +27,7 @@ Surveys t c [] = ⊥
 Surveys t c (answer.Violated d n r ∷ rest) = SomeSlice t c (answer.Violated d n r) × ((e : Cursor) × RightAfter t d e × Surveys t e rest)
 Surveys t c (answer.NothingViolated d n ∷ rest) = SomeSlice t c (answer.NothingViolated d n) × (rest ≡ [])
 Surveys t c (answer.Paused d n ∷ rest) = SomeSlice t c (answer.Paused d n) × Surveys t d rest
-Surveys t c (answer.Refused k p d ∷ rest) = ⊥
+Surveys t c (answer.Refused e d ∷ rest) = ⊥
 
 -- The places that it notes.
 abbrev pub noted : List SliceAnswer → List Place
@@ -35,4 +35,4 @@ noted [] = []
 noted (answer.Violated d n r ∷ rest) = place_at d.leg d.place ∷ noted rest
 noted (answer.NothingViolated d n ∷ rest) = noted rest
 noted (answer.Paused d n ∷ rest) = noted rest
-noted (answer.Refused k p d ∷ rest) = noted rest
+noted (answer.Refused e d ∷ rest) = noted rest

@@ -1,11 +1,10 @@
 -- What is proved of surveys.
-use Rattle.std.specs.Prelude.{ℕ, ◌≡◌, List, []}
+use Rattle.std.specs.Prelude.{ℕ, ◌≡◌, List, [], Ok}
 use Rattle.files.specs.declared.Cursor.{Cursor}
 use Rattle.rules.specs.Rules.{RulesHold}
 use Rattle.rules.specs.Places.{PlaceHolds}
 use Rattle.places.specs.Order.{IsPlace}
 use Rattle.checker.specs.Slices.{Starts}
-use Rattle.checker.specs.declared.Grant.TheVariants.{Granted}
 use Rattle.checker.specs.declared.SliceAnswer.{SliceAnswer}
 use Rattle.recheck.specs.Listed.{place_at}
 use Rattle.recheck.specs.Theorems.{In, InOrder}
@@ -21,7 +20,7 @@ pub record AllViolated (t : List ℕ) (places : List Place) : Type 0 where
 
 -- A survey from the start on notes exactly the violated places.
 abbrev pub SurveysTellAll : Type 0
-SurveysTellAll = (t : List ℕ) (c : Cursor) (answers : List SliceAnswer) → Starts t (Granted c) → Surveys t c answers → AllViolated t (noted answers)
+SurveysTellAll = (t : List ℕ) (c : Cursor) (answers : List SliceAnswer) → Starts t (Ok c) → Surveys t c answers → AllViolated t (noted answers)
 
 -- There is one such list, so that however the budgets were chosen, every survey notes the same.
 abbrev pub OneListOfViolated : Type 0
@@ -29,9 +28,9 @@ OneListOfViolated = (t : List ℕ) (qs rs : List Place) → AllViolated t qs →
 
 abbrev pub SurveyOneAnswer : Type 0
 SurveyOneAnswer =
-    (t : List ℕ) (c d : Cursor) (one other : List SliceAnswer) → Starts t (Granted c) → Starts t (Granted d) → Surveys t c one → Surveys t d other → noted one ≡ noted other
+    (t : List ℕ) (c d : Cursor) (one other : List SliceAnswer) → Starts t (Ok c) → Starts t (Ok d) → Surveys t c one → Surveys t d other → noted one ≡ noted other
 
 -- It notes nothing exactly where the rules hold.
 pub record NothingNoted : Type 0 where
-  pub holds : (t : List ℕ) (c : Cursor) (answers : List SliceAnswer) → Starts t (Granted c) → Surveys t c answers → noted answers ≡ [] → RulesHold t
-  pub nothing : (t : List ℕ) (c : Cursor) (answers : List SliceAnswer) → Starts t (Granted c) → Surveys t c answers → RulesHold t → noted answers ≡ []
+  pub holds : (t : List ℕ) (c : Cursor) (answers : List SliceAnswer) → Starts t (Ok c) → Surveys t c answers → noted answers ≡ [] → RulesHold t
+  pub nothing : (t : List ℕ) (c : Cursor) (answers : List SliceAnswer) → Starts t (Ok c) → Surveys t c answers → RulesHold t → noted answers ≡ []

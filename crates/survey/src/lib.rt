@@ -1,4 +1,4 @@
-// A survey: every violated place of a table, in order, by slices that go on after each.
+//! A survey: every violated place of a table, in order, by slices that go on after each.
 #![tactic(auto)]
 
 ghost use Rattle.places.specs.Order.{IsPlace};
@@ -10,22 +10,22 @@ use checker::SliceAnswer;
 use files::Cursor;
 use rules::Rule;
 
-// What the next step of a survey finds: a violated place, how many places were looked at, its rule, and where the survey goes on; where it paused; or the end, since nothing is violated from here on. None of these is
-// a cursor for a check: before it there may be violated places.
-#[derive(Clone, Copy)]
+/// What the next step of a survey finds: a violated place, how many places were looked at, its rule, and where the survey goes on; where it paused; or the end, since nothing is violated
+/// from here on. None of these is a cursor for a check: before it there may be violated places.
+#[derive(Clone, Copy, Debug, PartialEq, Eq)]
 pub enum Found {
     Violated(Cursor, u32, Rule, Cursor),
     Paused(Cursor),
     Over(Cursor),
 }
 
-// Where a survey goes on after a violated place: at the next place, or at the end.
+/// Where a survey goes on after a violated place: at the next place, or at the end.
 fn place_after(t: &[u32], at: Cursor) -> Cursor
     requires cursor_right { CursorRight t.now at }
     requires place { IsPlace t.now at.leg at.place }
     ensures { CursorRight t.now result × RightAfter t.now at result }
 {
-    if table::wide(at.place) + 1 < places::places_of(table::wide(at.leg)) {
+    if (at.place as usize) + 1 < places::places_of(at.leg as usize) {
         return Cursor {
             revision: at.revision,
             leg: at.leg,
@@ -39,21 +39,20 @@ fn place_after(t: &[u32], at: Cursor) -> Cursor
     }
 }
 
-// Internal: the next step of a survey, which looks at as many places as the budget says.
+/// Internal: the next step of a survey, which looks at as many places as the budget says.
 pub fn step(t: &[u32], from: Cursor, budget: u32) -> Found
     requires { CursorRight t.now from }
     ensures { Finds t.now from budget result }
 {
-    let told = checker::look::looked(t, from, budget);
-    match told {
+    match checker::look::looked(t, from, budget) {
         SliceAnswer::Violated(at, steps, rule) => Found::Violated(
             at,
             steps,
             rule,
             place_after(t, at),
         ),
-        SliceAnswer::Paused(at, steps) => Found::Paused(at),
-        SliceAnswer::NothingViolated(end, steps) => Found::Over(end),
-        SliceAnswer::Refused(number, at, given) => Found::Over(given),
+        SliceAnswer::Paused(at, _) => Found::Paused(at),
+        SliceAnswer::NothingViolated(end, _) => Found::Over(end),
+        SliceAnswer::Refused(_, _) => unreachable!(),
     }
 }

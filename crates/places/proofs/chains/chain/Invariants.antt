@@ -2,8 +2,5 @@
 use Rattle.places.proofs.ChainLaws.{Turn}
 use Rattle.places.proofs.chains.chain.Given as goal
 
-abbrev pub invariant-loop-n : goal.invariant-loop-n
-invariant-loop-n l = Turn l.t l.initial.first l.initial.next l.legs l.first l.next l.n
-
-abbrev pub decreases-loop-n : goal.decreases-loop-n
-decreases-loop-n l = l.n
+abbrev pub invariant-loop-b : goal.invariant-loop-b
+invariant-loop-b l = Turn l.plan l.initial.first l.initial.next l.first l.next l.b

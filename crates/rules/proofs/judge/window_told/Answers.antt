@@ -1,9 +1,6 @@
 -- `rules::judge::window_told` meets its contract. Assumes nothing.
-use Rattle.rules.proofs.Judging.{window_kept, window_broken}
+use Rattle.rules.proofs.Judging.{told_le, window_kept, window_broken}
 use Rattle.rules.proofs.judge.window_told.Goals as goal
 
-pub returns-then-f : goal.returns-then-f
-returns-then-f c = search window_kept
-
 pub returns : goal.returns
-returns c = search window_broken
+returns c = told_le _ _ (window_kept _ _ _ c.requires) (window_broken _ _ _ c.requires)

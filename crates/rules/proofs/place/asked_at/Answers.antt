@@ -4,17 +4,17 @@ use Rattle.rules.specs.Places.{asked_at}
 use Rattle.rules.proofs.Asking.{past_own}
 use Rattle.rules.proofs.place.asked_at.Goals as goal
 
-pub returns-then-p-eq0 : goal.returns-then-p-eq0
+pub returns-in-0 : goal.returns-in-0
 unfolding asked_at
-returns-then-p-eq0 c = sym (ap asked_at c.if-p-eq0.true)
+returns-in-0 c = sym (ap asked_at c.in-0.is)
 
-pub returns-then-p-eq1 : goal.returns-then-p-eq1
+pub returns-in-1 : goal.returns-in-1
 unfolding asked_at
-returns-then-p-eq1 c = sym (ap asked_at c.if-p-eq1.true)
+returns-in-1 c = sym (ap asked_at c.in-1.is)
 
-pub returns-then-p-eq2 : goal.returns-then-p-eq2
+pub returns-in-2 : goal.returns-in-2
 unfolding asked_at
-returns-then-p-eq2 c = sym (ap asked_at c.if-p-eq2.true)
+returns-in-2 c = sym (ap asked_at c.in-2.is)
 
-pub returns : goal.returns
-returns c = past_own _ (omega arith)
+pub returns-in_default : goal.returns-in_default
+returns-in_default c = past_own _ (omega arith)

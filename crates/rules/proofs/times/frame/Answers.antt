@@ -39,4 +39,4 @@ pub hold_time-requires-clause-rate_le_max_rate : goal.hold_time-requires-clause-
 hold_time-requires-clause-rate_le_max_rate c = let r : Reading = read (goal.at.hold_time-requires-clause-rate_le_max_rate c).After-link_in-link in omega arith
 
 pub returns : goal.returns
-returns c = let r : Reading = read (goal.at.returns c).After-link_in-link in search (frame_read r)
+returns c = let r : Reading = read (goal.at.returns c).After-link_in-link in frame_read r (omega arith) (omega arith) c.start_time.ensures c.wire_time.ensures c.hold_time.ensures

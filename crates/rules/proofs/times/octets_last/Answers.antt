@@ -1,5 +1,5 @@
 -- `rules::times::octets_last` meets its contract: no more octets than the longest frame and those beside it, at the largest rate. Assumes nothing.
-use Rattle.std.proofs.Common.{ℕ, ◌+◌, ◌*◌, ◌≤◌, mul-le-mul, arith}
+use Rattle.std.proofs.Common.{ℕ, ◌+◌, ◌*◌, ◌≤◌, mul-le-mul, refl, arith}
 use Rattle.shape.specs.Guarantees.{max_rate}
 use Rattle.shape.specs.Streams.{max_octets}
 use Rattle.rules.specs.Times.{hold_octets, lasting, max_time}
@@ -15,7 +15,5 @@ product n r some few slow fast =
 pub returns : goal.returns
 unfolding lasting
 returns c =
-    let p = product (c.wide.result + c.args.beside) c.wide-2.result (omega arith) (omega arith) (omega arith) (omega arith) in
-    let o = c.wide.ensures.0 in
-    let r = c.wide-2.ensures.0 in
-    record { same = cc; from = omega arith; to = omega arith }
+    let p = product (c.args.octets + c.args.beside) c.args.rate (omega arith) (omega arith) (omega arith) (omega arith) in
+    record { same = refl; from = p.1; to = p.0 }

@@ -1,5 +1,5 @@
 -- `rules::times::start_time` meets its contract: no more periods than the most, and none longer than the longest. Assumes nothing.
-use Rattle.std.proofs.Common.{ℕ, ◌*◌, ◌≤◌, mul-le-mul, arith}
+use Rattle.std.proofs.Common.{ℕ, ◌*◌, ◌≤◌, mul-le-mul, refl, arith}
 use Rattle.shape.specs.Streams.{max_period, max_periods}
 use Rattle.rules.specs.Times.{start_time}
 use Rattle.rules.proofs.times.start_time.Goals as goal
@@ -11,8 +11,5 @@ latest n p few short = mul-le-mul few short
 pub returns : goal.returns
 unfolding start_time
 returns c =
-    let l = latest c.wide.result c.wide-2.result (omega arith) (omega arith) in
-    let n = c.wide.ensures.0 in
-    let p = c.wide-2.ensures.0 in
-    let o = c.wide-3.ensures.0 in
-    record { same = cc; small = omega arith }
+    let l = latest c.args.periods c.args.period (omega arith) (omega arith) in
+    record { same = refl; small = omega arith }
