@@ -1,4 +1,4 @@
--- The least common multiple by the greatest common divisor, the cycle of slots in words, and that masks repeat with it. Assumes nothing.
+-- The least common multiple by the greatest common divisor, the cycle of slots of a list, and that masks repeat with it. Assumes nothing.
 use Prim.Native.Nat.{ℕ, zero, suc, ◌+◌, ◌*◌, ◌-◌, ◌/◌, ◌∣◌, ◌≤◌, ◌<◌}
 use mathlib.Core.Path.{◌≡◌, refl, sym, ◌∙◌, ap, subst}
 use mathlib.Core.List.{List}
@@ -14,7 +14,8 @@ use Rattle.overlap.proofs.Euclid.{gcd_positive}
 use Rattle.gates.specs.Holding.{Held, Right, held, idle}
 use Rattle.gates.specs.Pairs.{mask_of, max_cycle}
 use Rattle.gates.specs.Cycle.{CommonMultiple, IsCycle}
-use Rattle.gates.specs.Steps.{Kept, slot_in, InWords, IsLcm}
+use Rattle.gates.specs.declared.slots.StoredSlot.{StoredSlot}
+use Rattle.gates.specs.Steps.{Kept, slot_in, InSlots, IsLcm}
 use Rattle.gates.specs.Theorems.{OneCycle, AllKept, CycleRepeats, RightForEver}
 
 module _ (a b g : ℕ) (pa : 1 ≤ a) (pb : 1 ≤ b) (d : IsGcd a b g) where
@@ -73,26 +74,26 @@ cycle_one_more S s Q w c m p q = record {
   least = λ k h. q.least k (p.least k (record { divides = λ r b. h.divides r (w.old r b) })) (h.divides s w.new);
 }
 
--- The cycle of the first slots in words.
-module _ (words : List ℕ) where
-  pub cycle_none : IsCycle (InWords words 0) 1
-  cycle_none = cycle_empty (InWords words 0) (λ s h. omega (arith, h.there))
+-- The cycle of the first slots of a list.
+module _ (slots : List StoredSlot) where
+  pub cycle_none : IsCycle (InSlots slots 0) 1
+  cycle_none = cycle_empty (InSlots slots 0) (λ s h. omega (arith, h.there))
 
-  one_more_word : (i : ℕ) → OneMore (InWords words i) (slot_in words i) (InWords words (i + 1))
-  one_more_word i = record {
+  one_more_slot : (i : ℕ) → OneMore (InSlots slots i) (slot_in slots i) (InSlots slots (i + 1))
+  one_more_slot i = record {
     old = λ r b. record { which = b.which; there = omega (arith, b.there); is = b.is };
     new = record { which = i; there = omega arith; is = refl };
     no_other = λ r h.
         ⊎_elim
         (λ (b : h.which < i). inr (record { which = h.which; there = b; is = h.is }))
-        (λ (b : i ≤ h.which). let e : h.which ≡ i = omega (arith, h.there) in inl (h.is ∙ ap (slot_in words) e))
+        (λ (b : i ≤ h.which). let e : h.which ≡ i = omega (arith, h.there) in inl (h.is ∙ ap (slot_in slots) e))
         (lt_or_ge h.which i);
   }
 
-  pub cycle_more : (i c r : ℕ) → IsCycle (InWords words i) c → IsLcm c (slot_in words i).period r → IsCycle (InWords words (i + 1)) r
-  cycle_more i c r p q = cycle_one_more (InWords words i) (slot_in words i) (InWords words (i + 1)) (one_more_word i) c r p q
+  pub cycle_more : (i c r : ℕ) → IsCycle (InSlots slots i) c → IsLcm c (slot_in slots i).period r → IsCycle (InSlots slots (i + 1)) r
+  cycle_more i c r p q = cycle_one_more (InSlots slots i) (slot_in slots i) (InSlots slots (i + 1)) (one_more_slot i) c r p q
 
-  pub cycle_past : (i n r : ℕ) → i < n → IsCycle (InWords words (i + 1)) r → max_cycle < r → (z : ℕ) → IsCycle (InWords words n) z → max_cycle < z
+  pub cycle_past : (i n r : ℕ) → i < n → IsCycle (InSlots slots (i + 1)) r → max_cycle < r → (z : ℕ) → IsCycle (InSlots slots n) z → max_cycle < z
   cycle_past i n r b p h z q =
       let d = p.least z (record { divides = λ s k. q.common.divides s (record { which = k.which; there = omega (arith, k.there); is = k.is }) }) in
       omega (arith, le_of_dvd q.positive d)

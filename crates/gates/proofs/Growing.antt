@@ -11,8 +11,7 @@ use Rattle.gates.specs.Pairs.{mask_of, duration_of, begin_of, ShowsAt, PairsRigh
 use Rattle.gates.specs.Steps.{Grows, longer, next, full, Room, RunTold, Unfinished}
 use Rattle.gates.specs.Theorems.{OneMask}
 use Rattle.gates.specs.declared.runs.Run.{Run}
-use Rattle.gates.specs.declared.pairs.Grown.{Grown}
-use Rattle.gates.specs.declared.pairs.Grown.TheVariants.{To, Full}
+use Rattle.std.specs.Prelude.{Option, Some, None}
 use Rattle.gates.proofs.Begins.{begin_none, begin_next}
 
 -- The first n pairs of two lists are the same.
@@ -133,9 +132,9 @@ pub record Writing (R : ℕ → ℕ → Type 0) (cycle : ℕ) (words : List ℕ)
   pub count : n ≤ max_pairs
   pub long : length words ≡ 2 * max_pairs
 
-abbrev pub Written : (ℕ → ℕ → Type 0) → ℕ → List ℕ → ℕ → Grown → Type 0
-Written R cycle words x (To n) = Writing R cycle words x n
-Written R cycle words x Full = Unfinished R cycle words max_pairs
+abbrev pub Written : (ℕ → ℕ → Type 0) → ℕ → List ℕ → ℕ → Option ℕ → Type 0
+Written R cycle words x (Some n) = Writing R cycle words x n
+Written R cycle words x None = Unfinished R cycle words max_pairs
 
 pub writing_start : (R : ℕ → ℕ → Type 0) (cycle : ℕ) (words : List ℕ) → length words ≡ 2 * max_pairs → Writing R cycle words 0 0
 writing_start R cycle words h = record {
@@ -154,7 +153,7 @@ writing_room R cycle words x n d w h b = record {
   fits = λ j e. let s = begin_next words j in let t = w.here in let u : begin_of words (j + 1) ≡ x = rw e at t in omega arith;
 }
 
-pub written : (R : ℕ → ℕ → Type 0) → OneMask R → (cycle : ℕ) (words : List ℕ) (x n : ℕ) (run : Run) (after : List ℕ) (r : Grown) → Writing R cycle words x n → RunTold R x cycle run
+pub written : (R : ℕ → ℕ → Type 0) → OneMask R → (cycle : ℕ) (words : List ℕ) (x n : ℕ) (run : Run) (after : List ℕ) (r : Option ℕ) → Writing R cycle words x n → RunTold R x cycle run
     → Grows words n run.mask (run.until - x) after r → Written R cycle after run.until r
 written R one cycle words x n run after r w t (longer j e m) =
     let k = grown_longer R words x run.until run.mask t.some t.right j (omega (arith, w.count, w.long)) (rw e at w.pairs) (rw e at w.here) m _ refl in
@@ -169,7 +168,7 @@ written R one cycle words x n run after r w t (full m b) =
 pub written_all : (R : ℕ → ℕ → Type 0) (cycle : ℕ) (words : List ℕ) (x n : ℕ) → Writing R cycle words x n → cycle ≤ x → ListRight R cycle words n × (n ≤ max_pairs)
 written_all R cycle words x n w h = (record { pairs = w.pairs; adds_up = omega (arith, w.here, w.to) }, w.count)
 
-pub grows_long : (words : List ℕ) (n m d : ℕ) (after : List ℕ) (r : Grown) → Grows words n m d after r → length after ≡ length words
+pub grows_long : (words : List ℕ) (n m d : ℕ) (after : List ℕ) (r : Option ℕ) → Grows words n m d after r → length after ≡ length words
 grows_long words n m d after r (longer j e q) = simp length-set
 grows_long words n m d after r (next q b) = simp length-set
 grows_long words n m d after r (full q b) = refl

@@ -1,5 +1,5 @@
 -- What one slot shows from an instant on, and what all of them show. Assumes nothing.
-use Prim.Native.Nat.{ℕ, ◌+◌, ◌*◌, ◌-◌, ◌%◌, ◌/◌, ◌≤◌, ◌<◌}
+use Prim.Native.Nat.{ℕ, ◌+◌, ◌*◌, ◌-◌, ◌%◌, ◌/◌, ◌≤◌, ◌<◌, min}
 use mathlib.Core.Path.{◌≡◌, refl, subst}
 use mathlib.Core.List.{List}
 use mathlib.Core.Logic.{⊎_elim}
@@ -9,7 +9,8 @@ use Rattle.basics.proofs.Splits.{lt_or_ge}
 use Rattle.overlap.specs.Meeting.{HoldsLink}
 use Rattle.overlap.specs.declared.Slot.{Slot}
 use Rattle.gates.specs.Holding.{Held}
-use Rattle.gates.specs.Steps.{slot_in, InWords, HeldBy, Stretch, Least, Looked}
+use Rattle.gates.specs.declared.slots.StoredSlot.{StoredSlot}
+use Rattle.gates.specs.Steps.{slot_in, InSlots, HeldBy, Stretch, Least, Looked}
 use Rattle.gates.specs.declared.runs.Look.{Look}
 
 -- Before its first repeat a slot holds nothing.
@@ -44,12 +45,12 @@ module _ (s : Slot) (x : ℕ) (begun : s.offset ≤ x) where
             (lt_or_ge k w.turn);
       }
 
-module _ (words : List ℕ) (n x limit : ℕ) where
-  -- A slot that holds the link is one in words.
-  held_by : (i y : ℕ) → i < n → HeldBy (slot_in words i) y → Held (InWords words n) y
-  held_by i y h w = record { slot = slot_in words i; on = record { which = i; there = h; is = refl }; turn = w.turn; holds = w.holds }
+module _ (slots : List StoredSlot) (n x limit : ℕ) where
+  -- A slot that holds the link is one of the list.
+  held_by : (i y : ℕ) → i < n → HeldBy (slot_in slots i) y → Held (InSlots slots n) y
+  held_by i y h w = record { slot = slot_in slots i; on = record { which = i; there = h; is = refl }; turn = w.turn; holds = w.holds }
 
-  pub looked_none : x < limit → Looked words n x limit 0 (record { end = x; until = limit })
+  pub looked_none : x < limit → Looked slots n x limit 0 (record { end = x; until = limit })
   looked_none h = record {
     to = omega arith;
     on = omega arith;
@@ -60,9 +61,9 @@ module _ (words : List ℕ) (n x limit : ℕ) where
     idle = λ e j y b. absurd (omega arith);
   }
 
-  module _ (i : ℕ) (look : Look) (l : Looked words n x limit i look) (h : i < n) where
+  module _ (i : ℕ) (look : Look) (l : Looked slots n x limit i look) (h : i < n) where
     -- Slot i holds the link from the look's end on.
-    pub looked_held : (s : Slot) (e r : ℕ) → s ≡ slot_in words i → Stretch (HeldBy s) look.end e → Least e limit r → Looked words n x limit (i + 1) (record { end = r; until = look.until })
+    pub looked_held : (s : Slot) (e r : ℕ) → s ≡ slot_in slots i → Stretch (HeldBy s) look.end e → Least e limit r → Looked slots n x limit (i + 1) (record { end = r; until = look.until })
     looked_held s e r is t m =
         let b : x < limit = omega (arith, l.some, l.within) in
         let t' = subst (λ (z : Slot). Stretch (HeldBy z) look.end e) is t in
@@ -82,8 +83,8 @@ module _ (words : List ℕ) (n x limit : ℕ) where
         }
 
     -- It does not, up to an instant.
-    pub looked_idle : (s : Slot) (e r : ℕ) → s ≡ slot_in words i → Stretch (λ (y : ℕ). HeldBy s y → ⊥) look.end e → Least e look.until r
-        → Looked words n x limit (i + 1) (record { end = look.end; until = r })
+    pub looked_idle : (s : Slot) (e r : ℕ) → s ≡ slot_in slots i → Stretch (λ (y : ℕ). HeldBy s y → ⊥) look.end e → Least e look.until r
+        → Looked slots n x limit (i + 1) (record { end = look.end; until = r })
     looked_idle s e r is t m =
         let t' = subst (λ (z : Slot). Stretch (λ (y : ℕ). HeldBy z y → ⊥) look.end e) is t in
         record {
@@ -100,14 +101,18 @@ module _ (words : List ℕ) (n x limit : ℕ) where
               (lt_or_ge j i);
         }
 
-  module _ (i : ℕ) (look : Look) (l : Looked words n x limit i look) (h : n ≤ i) where
-    pub seen_idle : look.end ≤ x → Stretch (λ (y : ℕ). Held (InWords words n) y → ⊥) x look.until × (look.until ≤ limit)
+  module _ (i : ℕ) (look : Look) (l : Looked slots n x limit i look) (h : n ≤ i) where
+    pub seen_idle : look.end ≤ x → Stretch (λ (y : ℕ). Held (InSlots slots n) y → ⊥) x look.until × (look.until ≤ limit)
     seen_idle b = (
       record {
         some = l.some;
         all = λ y from to w.
-            let q : HoldsLink (slot_in words w.on.which) w.turn y = subst (λ (s : Slot). HoldsLink s w.turn y) w.on.is w.holds in
+            let q : HoldsLink (slot_in slots w.on.which) w.turn y = subst (λ (s : Slot). HoldsLink s w.turn y) w.on.is w.holds in
             l.idle (omega (arith, l.on)) w.on.which y (omega (arith, w.on.there)) from to (record { turn = w.turn; holds = q });
       },
       l.within,
     )
+
+-- The lesser of two numbers.
+pub is_least : {a b r : ℕ} → r ≡ min a b → Least a b r
+is_least e = record { first = omega (arith, e); second = omega (arith, e); greatest = λ k h l. omega (arith, e) }

@@ -2,14 +2,9 @@
 ghost use Rattle.std.specs.Prelude.{◌≤◌};
 ghost use Rattle.numbers.specs.Number.{max_word};
 ghost use Rattle.gates.specs.Pairs.{max_cycle};
-ghost use Rattle.gates.specs.Steps.{CycleTold, InWords, IsLcm, Slots};
+ghost use Rattle.gates.specs.Steps.{AllSlots, AnySlot, CycleTold, IsLcm};
 
-// The cycle of a link, or that it passes the limit.
-#[derive(Clone, Copy)]
-pub enum Multiple {
-    Of(u64),
-    Past,
-}
+use crate::slots::StoredSlot;
 
 // The least common multiple of two numbers.
 fn lcm(a: u64, b: u64) -> u64
@@ -19,19 +14,17 @@ fn lcm(a: u64, b: u64) -> u64
     a / overlap::gcd(a, b) * b
 }
 
-// Internal: the cycle of a link's slots. It stops at the first slot with which the limit is passed.
-pub fn cycle_of(slots: &[u32], count: usize) -> Multiple
-    requires { Slots slots.now count }
-    ensures { CycleTold (InWords slots.now count) result }
+/// Internal: the cycle of a link's slots; None if it passes the limit. It stops at the first slot with which it does.
+pub fn cycle_of(slots: &[StoredSlot]) -> Option<u64>
+    requires { AllSlots slots.now }
+    ensures { CycleTold (AnySlot slots.now) result }
 {
     let mut cycle: u64 = 1;
-    let mut i: usize = 0;
-    while i < count {
-        cycle = lcm(cycle, crate::slots::slot_in(slots, i).period);
+    for s in slots {
+        cycle = lcm(cycle, s.period as u64);
         if crate::MAX_CYCLE < cycle {
-            return Multiple::Past;
+            return None;
         }
-        i = i + 1;
     }
-    Multiple::Of(cycle)
+    Some(cycle)
 }

@@ -17,6 +17,3 @@ pub const MAX_LIST_WORDS: usize = 2 * MAX_PAIRS;
 pub const HELD_MASK: u32 = 128;
 
 pub const IDLE_MASK: u32 = 127;
-
-// The words of a slot.
-pub const SLOT_WORDS: usize = 3;

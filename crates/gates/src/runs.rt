@@ -1,26 +1,27 @@
 // What a link shows from an instant on.
-ghost use Rattle.std.specs.Prelude.{◌+◌, ◌≤◌, ◌<◌};
+ghost use Rattle.std.specs.Prelude.{◌+◌, ◌≤◌, ◌<◌, length};
 ghost use Rattle.gates.specs.Holding.{Held, Right};
-ghost use Rattle.gates.specs.Steps.{HeldBy, InWords, Kept, Least, Looked, RunTold, Seen, Slots, max_instant, up_to};
+ghost use Rattle.gates.specs.Steps.{AllSlots, AnySlot, HeldBy, Kept, Looked, RunTold, Seen, max_instant, up_to};
 
+use crate::slots::StoredSlot;
 use overlap::Slot;
 
 // What is seen from an instant on: held at each instant up to but without the number, or at none.
-#[derive(Clone, Copy)]
+#[derive(Clone, Copy, Debug, PartialEq, Eq)]
 pub enum Sees {
     Held(u64),
     Idle(u64),
 }
 
 // A mask and the instant up to which it is right.
-#[derive(Clone, Copy)]
+#[derive(Clone, Copy, Debug, PartialEq, Eq)]
 pub struct Run {
     pub mask: u32,
     pub until: u64,
 }
 
 // How far some slots took it: up to where the link is held, and up to where none of them holds it if it is not held at all.
-#[derive(Clone, Copy)]
+#[derive(Clone, Copy, Debug, PartialEq, Eq)]
 pub struct Look {
     pub end: u64,
     pub until: u64,
@@ -42,52 +43,39 @@ fn slot_seen(s: Slot, x: u64) -> Sees
     Sees::Idle(x + (s.period - r))
 }
 
-// The lesser of two numbers.
-fn least(a: u64, b: u64) -> u64
-    ensures { Least a b result }
-{
-    if a < b {
-        return a;
-    }
-    b
-}
-
 // Asks slot i, after those below it.
-fn ask(slots: &[u32], count: usize, x: u64, limit: u64, i: usize, look: Look) -> Look
-    requires slots { Slots slots.now count × (i < count) }
+fn ask(slots: &[StoredSlot], x: u64, limit: u64, i: usize, look: Look) -> Look
+    requires slots { AllSlots slots.now × (i < length slots.now) }
     requires limit_le_max_instant { limit ≤ max_instant }
-    requires looked { Looked slots.now count x limit i look }
-    ensures { Looked slots.now count x limit (i + 1) result }
+    requires looked { Looked slots.now (length slots.now) x limit i look }
+    ensures { Looked slots.now (length slots.now) x limit (i + 1) result }
 {
-    let seen = slot_seen(crate::slots::slot_in(slots, i), look.end);
-    match seen {
+    match slot_seen(slots[i].widened(), look.end) {
         Sees::Held(on) => Look {
-            end: least(on, limit),
+            end: on.min(limit),
             until: look.until,
         },
         Sees::Idle(begin) => Look {
             end: look.end,
-            until: least(begin, look.until),
+            until: begin.min(look.until),
         },
     }
 }
 
 // What a link shows from instant x on, not beyond a limit. Where a hold is found, the slots after it are asked from its end on: in the order of their offsets many holds that follow each
 // other are passed in one go.
-fn link_seen(slots: &[u32], count: usize, x: u64, limit: u64) -> Sees
-    requires slots { Slots slots.now count }
+fn link_seen(slots: &[StoredSlot], x: u64, limit: u64) -> Sees
+    requires slots { AllSlots slots.now }
     requires x_lt_limit { x < limit }
     requires limit_le_max_instant { limit ≤ max_instant }
-    ensures { Seen (Held (InWords slots.now count)) x result × (up_to result ≤ limit) }
+    ensures { Seen (Held (AnySlot slots.now)) x result × (up_to result ≤ limit) }
 {
     let mut look = Look {
         end: x,
         until: limit,
     };
-    let mut i: usize = 0;
-    while i < count {
-        look = ask(slots, count, x, limit, i, look);
-        i = i + 1;
+    for i in 0..slots.len() {
+        look = ask(slots, x, limit, i, look);
     }
     if x < look.end {
         return Sees::Held(look.end);
@@ -95,15 +83,14 @@ fn link_seen(slots: &[u32], count: usize, x: u64, limit: u64) -> Sees
     Sees::Idle(look.until)
 }
 
-// Internal: the right mask at instant x, and up to when it is right without a change, not beyond a limit.
-pub fn run_from(slots: &[u32], count: usize, x: u64, limit: u64) -> Run
-    requires slots { Slots slots.now count }
+/// Internal: the right mask at instant x, and up to when it is right without a change, not beyond a limit.
+pub fn run_from(slots: &[StoredSlot], x: u64, limit: u64) -> Run
+    requires slots { AllSlots slots.now }
     requires x_lt_limit { x < limit }
     requires limit_le_max_instant { limit ≤ max_instant }
-    ensures { RunTold (Right (InWords slots.now count)) x limit result }
+    ensures { RunTold (Right (AnySlot slots.now)) x limit result }
 {
-    let seen = link_seen(slots, count, x, limit);
-    match seen {
+    match link_seen(slots, x, limit) {
         Sees::Held(until) => Run {
             mask: crate::HELD_MASK,
             until,

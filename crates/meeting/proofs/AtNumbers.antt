@@ -1,4 +1,5 @@
 -- First meetings in Plan A: its legs' slots compute from its words, and first meetings of slots are known at numbers. Assumes nothing.
+use Rattle.std.specs.Prelude.{Option, None}
 use Prim.Native.Nat.{ℕ, ◌<◌}
 use mathlib.Core.Path.{◌≡◌, refl, ◌∙◌, sym, ap, subst}
 use mathlib.Core.List.{List}
@@ -17,8 +18,7 @@ use Rattle.rules.proofs.Judging.{other_links}
 use Rattle.rules.proofs.Said.{overlap_says}
 use Rattle.repeats.specs.AtNumbers as slots
 use Rattle.repeats.specs.Meetings.{IsFirstMeeting, MeetsFirst}
-use Rattle.repeats.specs.declared.Met.{Met}
-use Rattle.repeats.specs.declared.Met.TheVariants as met
+use Rattle.repeats.specs.declared.Meeting.{Meeting}
 use Rattle.repeats.proofs.AtNumbers.{first_meetings_at_numbers}
 use Rattle.repeats.proofs.OneAnswer.{first_meeting_is_symmetric}
 use Rattle.meeting.specs.Meets.{CanMeet, Meets}
@@ -42,7 +42,7 @@ module _ (o : ℕ) where
   one_link : (leg_at (later_a o) 2).link ≡ (leg_at (later_a o) 0).link
   one_link = link_is (later_a o) 2 ∙ sym (link_is (later_a o) 0)
 
-  slots_tell : (w : Met) → MeetsFirst (in150000 o 672) (in100000 0 672) w → MeetsFirst (slot_of (later_a o) 2) (slot_of (later_a o) 0) w
+  slots_tell : (w : Option Meeting) → MeetsFirst (in150000 o 672) (in100000 0 672) w → MeetsFirst (slot_of (later_a o) 2) (slot_of (later_a o) 0) w
   slots_tell w told =
       subst (λ (s : Slot). MeetsFirst s (slot_of (later_a o) 0) w) (sym (slot_is (later_a o) 2 refl refl))
       (subst (λ (s : Slot). MeetsFirst (in150000 o 672) s w) (sym (slot_is (later_a o) 0 refl refl)) told)
@@ -65,7 +65,7 @@ meetings_at_numbers =
       at_0 = (can 0 2 0 (omega arith) (omega arith), record { one_link = one_link 0; meeting = slots_tell 0 (slots.met_at 0 0 0) (first_meeting_is_symmetric (in100000 0 672) (in150000 0 672) (slots.met_at 0 0 0) known.at_0) });
       at_50000 = later;
       the_other_first = meetings_exchange.met _ 2 0 _ later;
-      at_672 = (can 672 2 0 (omega arith) (omega arith), (overlap_says (later_a 672) 2 0).1 (λ e. slots_tell 672 met.Never (first_meeting_is_symmetric (in100000 0 672) (in150000 672 672) met.Never known.at_672)));
+      at_672 = (can 672 2 0 (omega arith) (omega arith), (overlap_says (later_a 672) 2 0).1 (λ e. slots_tell 672 None (first_meeting_is_symmetric (in100000 0 672) (in150000 672 672) None known.at_672)));
       other_links = (can 0 1 0 (omega arith) (omega arith), other_links (later_a 0) 1 0 (λ e. omega (arith, e, link_is (later_a 0) 0, link_is (later_a 0) 1)));
       itself = (
         can 0 1 1 (omega arith) (omega arith),

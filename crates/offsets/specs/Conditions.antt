@@ -1,16 +1,17 @@
 -- A condition on a first offset x, and a list of such conditions.
-use Rattle.std.specs.Prelude.{ℕ, ◌+◌, ◌*◌, ◌%◌, ◌≤◌, ◌<◌, ◌≡◌, List, length, get_or}
+use Rattle.std.specs.Prelude.{ℕ, ◌+◌, ◌%◌, ◌≤◌, ◌<◌, ◌≡◌, List, length, get_or}
 use Rattle.numbers.specs.Number.{max_word}
 use Rattle.overlap.specs.Meeting.{NeverMeet}
 use Rattle.overlap.specs.Divisor.{Apart}
 use Rattle.overlap.specs.declared.Slot.{Slot}
 use Rattle.offsets.specs.declared.Condition.{Condition}
+use Rattle.offsets.specs.declared.StoredCondition.{StoredCondition}
 
 -- (x + shift) mod modulus is at least before, and at least after away from the modulus.
 pub record Allows (q : Condition) (x : ℕ) : Type 0 where
   pub apart : Apart q.before q.after q.modulus ((x + q.shift) % q.modulus)
 
--- A condition that four words hold.
+-- A condition whose numbers are words.
 pub record Sound (q : Condition) : Type 0 where
   pub some : 1 ≤ q.modulus
   pub modulus : q.modulus ≤ max_word
@@ -53,27 +54,33 @@ pub record Starts (after period hold : ℕ) : Type 0 where
   pub hold_from : 1 ≤ hold
   pub hold_to : hold ≤ max_word
 
--- Condition i of a list: four words each.
-abbrev pub condition_at : List ℕ → ℕ → Condition
-condition_at s i = record { modulus = get_or s (4 * i) 0; shift = get_or s (4 * i + 1) 0; before = get_or s (4 * i + 2) 0; after = get_or s (4 * i + 3) 0 }
+-- A condition that a list keeps; no list has one behind its end.
+abbrev pub widened : StoredCondition → Condition
+widened q = record { modulus = q.modulus; shift = q.shift; before = q.before; after = q.after }
 
--- The list has n conditions, each of them sound.
-pub record AllSound (s : List ℕ) (n : ℕ) : Type 0 where
-  pub room : 4 * n ≤ length s
-  pub each : (i : ℕ) → i < n → Sound (condition_at s i)
+abbrev pub no_condition : StoredCondition
+no_condition = record { modulus = 0; shift = 0; before = 0; after = 0 }
 
--- The first n conditions allow x.
-pub record Allow (s : List ℕ) (n x : ℕ) : Type 0 where
-  pub each : (i : ℕ) → i < n → Allows (condition_at s i) x
+-- Condition i of a list.
+abbrev pub condition_at : List StoredCondition → ℕ → Condition
+condition_at s i = widened (get_or s i no_condition)
+
+-- Each condition of the list is sound.
+pub record AllSound (s : List StoredCondition) : Type 0 where
+  pub each : (i : ℕ) → i < length s → Sound (condition_at s i)
+
+-- All conditions of the list allow x.
+pub record Allow (s : List StoredCondition) (x : ℕ) : Type 0 where
+  pub each : (i : ℕ) → i < length s → Allows (condition_at s i) x
 
 -- The list has n conditions, and condition i says P i.
-pub record Holding (s : List ℕ) (n : ℕ) (P : ℕ → ℕ → Type 0) : Type 0 where
-  pub room : 4 * n ≤ length s
+pub record Holding (s : List StoredCondition) (n : ℕ) (P : ℕ → ℕ → Type 0) : Type 0 where
+  pub room : n ≤ length s
   pub each : (i : ℕ) → i < n → Says (P i) (condition_at s i)
 
 -- s' is s with q as condition i.
-pub record Keeps (s : List ℕ) (i : ℕ) (q : Condition) (s' : List ℕ) : Type 0 where
+pub record Keeps (s : List StoredCondition) (i : ℕ) (q : Condition) (s' : List StoredCondition) : Type 0 where
   pub size : length s' ≡ length s
-  pub room : 4 * i + 4 ≤ length s
+  pub room : i < length s
   pub there : condition_at s' i ≡ q
   pub others : (j : ℕ) → (j ≡ i → ⊥) → condition_at s' j ≡ condition_at s j

@@ -1,7 +1,5 @@
 -- The least number below a limit that has a property, where the search begins at a number `from`.
-use Rattle.std.specs.Prelude.{ℕ, ◌≤◌, ◌<◌}
-use Rattle.offsets.specs.declared.Searched.{Searched}
-use Rattle.offsets.specs.declared.Searched.TheVariants.{At, Nothing}
+use Rattle.std.specs.Prelude.{ℕ, ◌≤◌, ◌<◌, Option, Some, None}
 
 -- No number from `from` up to but without `to` has P.
 abbrev pub NoneFrom : (ℕ → Type 0) → ℕ → ℕ → Type 0
@@ -15,6 +13,6 @@ pub record LeastFrom (P : ℕ → Type 0) (limit from x : ℕ) : Type 0 where
   pub least : NoneFrom P from x
 
 -- The whole answer: the least number, or that there is none.
-abbrev pub Searches : (ℕ → Type 0) → ℕ → ℕ → Searched → Type 0
-Searches P limit from (At x) = LeastFrom P limit from x
-Searches P limit from Nothing = NoneFrom P from limit
+abbrev pub Searches : (ℕ → Type 0) → ℕ → ℕ → Option ℕ → Type 0
+Searches P limit from (Some x) = LeastFrom P limit from x
+Searches P limit from None = NoneFrom P from limit

@@ -1,21 +1,18 @@
 // Conditions on the first offset of a new stream, and lists of them.
 #![tactic(auto)]
 
-ghost use Rattle.std.specs.Prelude.{◌+◌, ◌*◌, ◌≤◌, length};
+ghost use Rattle.std.specs.Prelude.{◌≡◌, ◌≤◌, ◌<◌, length};
 ghost use Rattle.numbers.specs.Number.{max_word};
 ghost use Rattle.overlap.specs.Divisor.{IsGcd, Repeats};
-ghost use Rattle.offsets.specs.Conditions.{AllowsAll, ClearOf, EndsWithin, Keeps, Says, Sound, Starts};
+ghost use Rattle.offsets.specs.Conditions.{AllowsAll, ClearOf, EndsWithin, Keeps, Says, Sound, Starts, widened};
 
 use overlap::Slot;
 
 pub mod hints;
 pub mod search;
 
-// Internal: how many words a condition has.
-pub const CONDITION_WORDS: usize = 4;
-
-// (x + shift) mod modulus is at least before, and at least after away from the modulus.
-#[derive(Clone, Copy)]
+/// (x + shift) mod modulus is at least before, and at least after away from the modulus.
+#[derive(Clone, Copy, Debug, PartialEq, Eq)]
 pub struct Condition {
     pub modulus: u64,
     pub shift: u64,
@@ -23,14 +20,38 @@ pub struct Condition {
     pub after: u64,
 }
 
-// The least number that is allowed, or that there is none.
-#[derive(Clone, Copy)]
-pub enum Searched {
-    At(u64),
-    Nothing,
+/// A condition as a list keeps it.
+#[derive(Clone, Copy, Debug, PartialEq, Eq)]
+pub struct StoredCondition {
+    pub modulus: u32,
+    pub shift: u32,
+    pub before: u32,
+    pub after: u32,
 }
 
-// Internal: the condition that a leg which starts so long after the first offset ends within its period.
+/// Internal: allows every offset; for lists before they are filled.
+pub const FREE: StoredCondition = StoredCondition {
+    modulus: 1,
+    shift: 0,
+    before: 0,
+    after: 0,
+};
+
+impl StoredCondition {
+    /// The condition to compute with.
+    pub(crate) fn widened(self) -> Condition
+        ensures { result ≡ widened self }
+    {
+        Condition {
+            modulus: self.modulus as u64,
+            shift: self.shift as u64,
+            before: self.before as u64,
+            after: self.after as u64,
+        }
+    }
+}
+
+/// Internal: the condition that a leg which starts so long after the first offset ends within its period.
 pub fn window_condition(after: u64, period: u64, hold: u64) -> Condition
     requires { Starts after period hold }
     ensures { Says (EndsWithin after period hold) result }
@@ -43,7 +64,7 @@ pub fn window_condition(after: u64, period: u64, hold: u64) -> Condition
     }
 }
 
-// Internal: the condition that such a leg never meets another on its link, their periods having the greatest common divisor g.
+/// Internal: the condition that such a leg never meets another on its link, their periods having the greatest common divisor g.
 pub fn pair_condition(after: u64, period: u64, hold: u64, other: Slot, g: u64) -> Condition
     requires starts { Starts after period hold }
     requires repeats { Repeats other }
@@ -59,7 +80,7 @@ pub fn pair_condition(after: u64, period: u64, hold: u64, other: Slot, g: u64) -
     }
 }
 
-// Internal: the condition that allows every offset.
+/// Internal: the condition that allows every offset.
 pub fn free_condition() -> Condition
     ensures { AllowsAll result }
 {
@@ -71,15 +92,16 @@ pub fn free_condition() -> Condition
     }
 }
 
-// Internal: keeps condition i in four words.
-pub fn keep(words: &mut [u32], i: usize, q: Condition)
-    requires i_in_bounds { 4 * i + 4 ≤ length words.old }
+/// Internal: keeps a condition as condition i of a list.
+pub fn keep(conditions: &mut [StoredCondition], i: usize, q: Condition)
+    requires i_in_bounds { i < length conditions.old }
     requires sound { Sound q }
-    ensures { Keeps words.old i q words.new }
+    ensures { Keeps conditions.old i q conditions.new }
 {
-    let at = CONDITION_WORDS * i;
-    words[at] = q.modulus as u32;
-    words[at + 1] = q.shift as u32;
-    words[at + 2] = q.before as u32;
-    words[at + 3] = q.after as u32;
+    conditions[i] = StoredCondition {
+        modulus: q.modulus as u32,
+        shift: q.shift as u32,
+        before: q.before as u32,
+        after: q.after as u32,
+    };
 }

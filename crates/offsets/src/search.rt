@@ -1,46 +1,20 @@
 // The least number from one on and below a limit that all conditions of a list allow.
-ghost use Rattle.std.specs.Prelude.{◌≡◌, ◌+◌, ◌*◌, ◌%◌, ◌≤◌, ◌<◌, length};
+ghost use Rattle.std.specs.Prelude.{◌≡◌, ◌%◌, ◌≤◌, ◌<◌};
 ghost use Rattle.numbers.specs.Number.{max_word};
-ghost use Rattle.offsets.specs.Conditions.{Allow, Allows, AllSound, condition_at, Sound};
+ghost use Rattle.offsets.specs.Conditions.{Allow, Allows, AllSound, Sound};
 ghost use Rattle.offsets.specs.Search.{Searches};
 ghost use Rattle.offsets.specs.Steps.{Passes, Skips, Waits};
 
-use crate::{Condition, Searched};
+use crate::{Condition, StoredCondition};
 
 // Where the search is, and the last four hints that moved it. Nothing is promised of the hints.
-#[derive(Clone, Copy)]
+#[derive(Clone, Copy, Debug, PartialEq, Eq)]
 pub struct State {
     pub x: u64,
     pub first: u32,
     pub second: u32,
     pub third: u32,
     pub fourth: u32,
-}
-
-pub(crate) fn wide(word: u32) -> usize
-    ensures { result ≡ word }
-{
-    word as usize
-}
-
-fn long(word: u32) -> u64
-    ensures { result ≡ word }
-{
-    word as u64
-}
-
-// Condition i of a list.
-pub(crate) fn condition_in(words: &[u32], i: usize) -> Condition
-    requires { 4 * i + 4 ≤ length words.now }
-    ensures { result ≡ condition_at words.now i }
-{
-    let at = crate::CONDITION_WORDS * i;
-    Condition {
-        modulus: long(words[at]),
-        shift: long(words[at + 1]),
-        before: long(words[at + 2]),
-        after: long(words[at + 3]),
-    }
 }
 
 // The remainder of s by m. Where m is the period itself, s is below 2m, and no division is needed.
@@ -94,17 +68,16 @@ fn past(q: Condition, limit: u64, x: u64) -> u64
 }
 
 // Where it may go on by the condition that a hint names, if it names one.
-fn by_hint(words: &[u32], count: usize, hint: u32, limit: u64, x: u64) -> u64
-    requires all_sound { AllSound words.now count }
+fn by_hint(conditions: &[StoredCondition], hint: u32, limit: u64, x: u64) -> u64
+    requires all_sound { AllSound conditions.now }
     requires x_le_limit { x ≤ limit }
     requires limit_le_max_word { limit ≤ max_word }
-    ensures { Passes (Allow words.now count) limit x result }
+    ensures { Passes (Allow conditions.now) limit x result }
 {
-    let i = wide(hint);
-    if count <= i {
+    let Some(q) = conditions.get(hint as usize) else {
         return x;
-    }
-    past(condition_in(words, i), limit, x)
+    };
+    past(q.widened(), limit, x)
 }
 
 // The search at y, with the hint noted where it moved.
@@ -123,124 +96,89 @@ fn noted(s: State, hint: u32, y: u64) -> State
     }
 }
 
-// The search at y, with the same hints.
-fn further(s: State, y: u64) -> State
-    ensures { result.x ≡ y }
-{
-    State {
-        x: y,
-        first: s.first,
-        second: s.second,
-        third: s.third,
-        fourth: s.fourth,
-    }
-}
-
-// By the first n hints in their order, each taken from where the one before it led.
-fn hinted(words: &[u32], count: usize, order: &[u32], n: usize, limit: u64, s: State) -> State
-    requires all_sound { AllSound words.now count }
-    requires n_in_bounds { n ≤ length order.now }
+// By the hints in their order, each taken from where the one before it led.
+fn hinted(conditions: &[StoredCondition], hints: &[u32], limit: u64, s: State) -> State
+    requires all_sound { AllSound conditions.now }
     requires x_le_limit { s.x ≤ limit }
     requires limit_le_max_word { limit ≤ max_word }
-    ensures { Passes (Allow words.now count) limit s.x result.x }
+    ensures { Passes (Allow conditions.now) limit s.x result.x }
 {
     let mut t = s;
-    let mut k: usize = 0;
-    while k < n {
-        let hint = order[k];
-        t = noted(t, hint, by_hint(words, count, hint, limit, t.x));
-        k += 1;
+    for &hint in hints {
+        t = noted(t, hint, by_hint(conditions, hint, limit, t.x));
     }
     t
 }
 
 // By the four hints that moved it last, once.
-fn by_recent(words: &[u32], count: usize, limit: u64, s: State) -> u64
-    requires all_sound { AllSound words.now count }
+fn by_recent(conditions: &[StoredCondition], limit: u64, s: State) -> u64
+    requires all_sound { AllSound conditions.now }
     requires x_le_limit { s.x ≤ limit }
     requires limit_le_max_word { limit ≤ max_word }
-    ensures { Passes (Allow words.now count) limit s.x result }
+    ensures { Passes (Allow conditions.now) limit s.x result }
 {
-    let a = by_hint(words, count, s.first, limit, s.x);
-    let b = by_hint(words, count, s.second, limit, a);
-    let c = by_hint(words, count, s.third, limit, b);
-    by_hint(words, count, s.fourth, limit, c)
+    let a = by_hint(conditions, s.first, limit, s.x);
+    let b = by_hint(conditions, s.second, limit, a);
+    let c = by_hint(conditions, s.third, limit, b);
+    by_hint(conditions, s.fourth, limit, c)
 }
 
 // By these four until they leave the search where it is.
-fn settled(words: &[u32], count: usize, limit: u64, s: State) -> State
-    requires all_sound { AllSound words.now count }
+fn settled(conditions: &[StoredCondition], limit: u64, s: State) -> State
+    requires all_sound { AllSound conditions.now }
     requires x_le_limit { s.x ≤ limit }
     requires limit_le_max_word { limit ≤ max_word }
-    ensures { Passes (Allow words.now count) limit s.x result.x }
+    ensures { Passes (Allow conditions.now) limit s.x result.x }
 {
     let mut t = s;
     while t.x < limit {
-        let y = by_recent(words, count, limit, t);
+        let y = by_recent(conditions, limit, t);
         if y == t.x {
             return t;
         }
-        t = further(t, y);
+        t = State { x: y, ..t };
     }
     t
 }
 
 // By all conditions, each taken from where the one before it led.
-fn swept(words: &[u32], count: usize, limit: u64, x: u64) -> u64
-    requires all_sound { AllSound words.now count }
+fn swept(conditions: &[StoredCondition], limit: u64, x: u64) -> u64
+    requires all_sound { AllSound conditions.now }
     requires x_le_limit { x ≤ limit }
     requires limit_le_max_word { limit ≤ max_word }
-    ensures { Skips (Allow words.now count) limit x result }
+    ensures { Skips (Allow conditions.now) limit x result }
 {
     let mut y = x;
-    let mut i: usize = 0;
-    while i < count {
-        y = past(condition_in(words, i), limit, y);
-        i += 1;
+    for q in conditions {
+        y = past(q.widened(), limit, y);
     }
     y
 }
 
 // One step of the search: by the hints, or, where they leave it, by all conditions.
-fn step(words: &[u32], count: usize, order: &[u32], n: usize, limit: u64, s: State) -> State
-    requires all_sound { AllSound words.now count }
-    requires n_in_bounds { n ≤ length order.now }
+fn step(conditions: &[StoredCondition], hints: &[u32], limit: u64, s: State) -> State
+    requires all_sound { AllSound conditions.now }
     requires x_le_limit { s.x ≤ limit }
     requires limit_le_max_word { limit ≤ max_word }
-    ensures { Skips (Allow words.now count) limit s.x result.x }
+    ensures { Skips (Allow conditions.now) limit s.x result.x }
 {
     let x = s.x;
-    let t = hinted(words, count, order, n, limit, s);
+    let t = hinted(conditions, hints, limit, s);
     if t.x == x {
-        return further(t, swept(words, count, limit, x));
+        return State {
+            x: swept(conditions, limit, x),
+            ..t
+        };
     }
-    settled(words, count, limit, t)
+    settled(conditions, limit, t)
 }
 
-fn lesser(a: usize, b: usize) -> usize
-    ensures { result ≤ b }
-{
-    if a < b {
-        return a;
-    }
-    b
-}
-
-// Internal: the least number from `from` on and below the limit that all conditions allow. The search looks first where the first hints of `order`
-// say, whatever they say.
-pub fn searched(
-    words: &[u32],
-    count: usize,
-    order: &[u32],
-    hints: usize,
-    limit: u64,
-    from: u64,
-) -> Searched
-    requires all_sound { AllSound words.now count }
+/// Internal: the least number from `from` on and below the limit that all conditions allow. The search looks first where the hints say, whatever they say.
+pub fn searched(conditions: &[StoredCondition], hints: &[u32], limit: u64, from: u64) -> Option<u64>
+    requires all_sound { AllSound conditions.now }
     requires limit_le_max_word { limit ≤ max_word }
-    ensures { Searches (Allow words.now count) limit from result }
+    ensures { Searches (Allow conditions.now) limit from result }
 {
-    let n = lesser(hints, order.len());
     let mut s = State {
         x: from,
         first: 0,
@@ -250,12 +188,12 @@ pub fn searched(
     };
     while s.x < limit {
         let x = s.x;
-        let t = step(words, count, order, n, limit, s);
+        let t = step(conditions, hints, limit, s);
         let y = t.x;
         if y == x {
-            return Searched::At(x);
+            return Some(x);
         }
         s = t;
     }
-    Searched::Nothing
+    None
 }

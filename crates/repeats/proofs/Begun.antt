@@ -13,10 +13,8 @@ use Rattle.repeats.specs.Landings.{Lands, IsFirstLanding, LandsFirst, longest_pe
 use Rattle.repeats.specs.Steps.{Brief, Enters, IsFirstBeginning, BeginsFirst, beginning_of, many_repeats}
 use Rattle.repeats.specs.declared.Entry.{Entry}
 use Rattle.repeats.specs.declared.Meeting.{Meeting}
-use Rattle.repeats.specs.declared.Met.TheVariants as met
+use Rattle.std.specs.Prelude.{Option, Some, None}
 use Rattle.repeats.specs.declared.landing.Landing.{Landing}
-use Rattle.repeats.specs.declared.landing.Landed.{Landed}
-use Rattle.repeats.specs.declared.landing.Landed.TheVariants.{After, Never}
 use Rattle.repeats.proofs.Circle.{one_more}
 
 -- The beginning of repeat m of b, and the next repeat's.
@@ -111,19 +109,19 @@ module _ (a b : Slot) (e : Entry) (brief : Brief a) (brief' : Brief b) (enters :
 
 -- The laws as the function goes by them.
 module _ {a b : Slot} {e : Entry} (brief : Brief a) (brief' : Brief b) (enters : Enters a b e) where
-  pub at_once : {x : Meeting} → e.into < a.hold → x ≡ beginning_of b e.first e.second → BeginsFirst a b (met.At x)
+  pub at_once : {x : Meeting} → e.into < a.hold → x ≡ beginning_of b e.first e.second → BeginsFirst a b (Some x)
   at_once h is = subst (IsFirstBeginning a b) (sym is) (begins_at_once a b e brief brief' enters h)
 
   module _ (out : a.hold ≤ e.into) where
-    module _ {w : Landed} where
-      pub never_at_all : w ≡ Never → LandsFirst b.period a.period (a.period - e.into) (a.period - e.into + (a.hold - 1)) w → BeginsFirst a b met.Never
+    module _ {w : Option Landing} where
+      pub never_at_all : w ≡ None → LandsFirst b.period a.period (a.period - e.into) (a.period - e.into + (a.hold - 1)) w → BeginsFirst a b None
       never_at_all is told = never_begins a b e brief brief' enters out (subst (LandsFirst _ _ _ _) is told)
 
-      module _ {l : Landing} (is : w ≡ After l) (told : LandsFirst b.period a.period (a.period - e.into) (a.period - e.into + (a.hold - 1)) w) where
+      module _ {l : Landing} (is : w ≡ Some l) (told : LandsFirst b.period a.period (a.period - e.into) (a.period - e.into + (a.hold - 1)) w) where
         first : IsFirstLanding b.period a.period (a.period - e.into) (a.period - e.into + (a.hold - 1)) l.steps l.turns
         first = subst (LandsFirst _ _ _ _) is told
 
-        pub after_steps : {x : Meeting} → x ≡ beginning_of b (e.first + 1 + l.turns) (e.second + l.steps) → BeginsFirst a b (met.At x)
+        pub after_steps : {x : Meeting} → x ≡ beginning_of b (e.first + 1 + l.turns) (e.second + l.steps) → BeginsFirst a b (Some x)
         after_steps at = subst (IsFirstBeginning a b) (sym at) (begins_later a b e brief brief' enters out l.steps l.turns first)
 
         -- What leads there fits 64 bits.

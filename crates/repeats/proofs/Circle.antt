@@ -11,8 +11,7 @@ use mir.Val.{Fits}
 use Rattle.basics.proofs.Splits.{lt_or_ge}
 use Rattle.repeats.specs.Landings.{Lands, IsFirstLanding, LandsFirst, Nearest, Stretch}
 use Rattle.repeats.specs.declared.landing.Landing.{Landing}
-use Rattle.repeats.specs.declared.landing.Landed.{Landed}
-use Rattle.repeats.specs.declared.landing.Landed.TheVariants.{After, Never}
+use Rattle.std.specs.Prelude.{Option, Some, None}
 
 -- A number of steps more is a step more.
 pub one_more : (a n k : ℕ) → n < k → a * n + a ≤ a * k
@@ -147,22 +146,22 @@ module _ {a m l r : ℕ} (stretch : Stretch a m l r) where
             step_to = omega (arith, mod-lt m some, stretch.step_to);
           }
 
-      module _ {inner : Landed} where
-        pub never_lands : inner ≡ Never → LandsFirst (m % a) a (a * n - r) (a * n - l) inner → (k z : ℕ) → Lands a m l r k z → ⊥
+      module _ {inner : Option Landing} where
+        pub never_lands : inner ≡ None → LandsFirst (m % a) a (a * n - r) (a * n - l) inner → (k z : ℕ) → Lands a m l r k z → ⊥
         never_lands e told = never_outer a m l r n some near past stretch.ordered (subst (LandsFirst (m % a) a (a * n - r) (a * n - l)) e told)
 
-        pub lands_later : {x : Landing} → inner ≡ After x → LandsFirst (m % a) a (a * n - r) (a * n - l) inner
+        pub lands_later : {x : Landing} → inner ≡ Some x → LandsFirst (m % a) a (a * n - r) (a * n - l) inner
             → IsFirstLanding a m l r (m / a * x.steps + n + x.turns) x.steps
         lands_later {x} e told =
             first_outer a m l r n some near past stretch.ordered x.steps x.turns stretch.inside
             (subst (LandsFirst (m % a) a (a * n - r) (a * n - l)) e told)
 
         -- What leads to the steps fits 64 bits, as they do.
-        pub turned_fit : {x : Landing} → inner ≡ After x → LandsFirst (m % a) a (a * n - r) (a * n - l) inner → Fits w64 (m / a * x.steps)
+        pub turned_fit : {x : Landing} → inner ≡ Some x → LandsFirst (m % a) a (a * n - r) (a * n - l) inner → Fits w64 (m / a * x.steps)
         turned_fit e told = record { fits = omega (arith, (lands_later e told).few, stretch.around_to) }
 
-        pub turned_near_fit : {x : Landing} → inner ≡ After x → LandsFirst (m % a) a (a * n - r) (a * n - l) inner → Fits w64 (m / a * x.steps + n)
+        pub turned_near_fit : {x : Landing} → inner ≡ Some x → LandsFirst (m % a) a (a * n - r) (a * n - l) inner → Fits w64 (m / a * x.steps + n)
         turned_near_fit e told = record { fits = omega (arith, (lands_later e told).few, stretch.around_to) }
 
-        pub steps_fit : {x : Landing} → inner ≡ After x → LandsFirst (m % a) a (a * n - r) (a * n - l) inner → Fits w64 (m / a * x.steps + n + x.turns)
+        pub steps_fit : {x : Landing} → inner ≡ Some x → LandsFirst (m % a) a (a * n - r) (a * n - l) inner → Fits w64 (m / a * x.steps + n + x.turns)
         steps_fit e told = record { fits = omega (arith, (lands_later e told).few, stretch.around_to) }

@@ -10,8 +10,7 @@ use Rattle.overlap.specs.declared.Slot.{Slot}
 use Rattle.repeats.specs.Meetings.{IsFirstMeeting, MeetsFirst}
 use Rattle.repeats.specs.Steps.{Brief, IsFirstBeginning, BeginsFirst, exchanged_meeting, exchanged}
 use Rattle.repeats.specs.declared.Meeting.{Meeting}
-use Rattle.repeats.specs.declared.Met.{Met}
-use Rattle.repeats.specs.declared.Met.TheVariants.{At, Never}
+use Rattle.std.specs.Prelude.{Option, Some, None}
 
 -- A repeat's beginning.
 abbrev begin : Slot → ℕ → ℕ
@@ -29,7 +28,7 @@ later_began a b k m y p q =
     (λ (h : begin b m ≤ begin a k). inr (record { held = record { begun = omega arith; not_ended = omega (arith, p.begun, q.not_ended) }; by = p.begun }))
     (lt_or_ge (begin a k) (begin b m))
 
-pub never_meets : {a b : Slot} → BeginsFirst a b Never → BeginsFirst b a Never → NeverMeet a b
+pub never_meets : {a b : Slot} → BeginsFirst a b None → BeginsFirst b a None → NeverMeet a b
 unfolding NeverMeet
 never_meets {a} {b} none none' k m y p q = ⊎_elim (λ (l : BeganIn a b k m y). none k m l.held) (λ (l : BeganIn b a m k y). none' m k l.held) (later_began a b k m y p q)
 
@@ -61,7 +60,7 @@ exchanged_is f = record {
   earliest = λ k m y p q. f.earliest m k y q p;
 }
 
-pub alone : {a b : Slot} {x : Meeting} → Brief b → IsFirstBeginning a b x → BeginsFirst b a Never → IsFirstMeeting a b x
+pub alone : {a b : Slot} {x : Meeting} → Brief b → IsFirstBeginning a b x → BeginsFirst b a None → IsFirstMeeting a b x
 alone brief f none = first_is brief f (λ k m h. absurd (none m k h))
 
 -- Where both begin, the earlier is the first meeting.
@@ -69,20 +68,20 @@ pub not_later : {a b : Slot} {x y : Meeting} → Brief b → IsFirstBeginning a 
 not_later {a} {b} {x} {y} brief f g h = first_is brief f (λ k m l. omega (arith, g.begins, mul-le-mul_right a.period (g.earliest m k l)))
 
 -- What an answer of b and a tells, exchanged.
-abbrev pub AlsoBegins : Slot → Slot → Met → Type 0
-AlsoBegins a b (At y) = IsFirstBeginning b a (exchanged_meeting y)
-AlsoBegins a b Never = BeginsFirst b a Never
+abbrev pub AlsoBegins : Slot → Slot → Option Meeting → Type 0
+AlsoBegins a b (Some y) = IsFirstBeginning b a (exchanged_meeting y)
+AlsoBegins a b None = BeginsFirst b a None
 
-pub also_begins : (a b : Slot) (u : Met) → BeginsFirst b a u → AlsoBegins a b (exchanged u)
-also_begins a b (At v) told = told
-also_begins a b Never told = told
+pub also_begins : (a b : Slot) (u : Option Meeting) → BeginsFirst b a u → AlsoBegins a b (exchanged u)
+also_begins a b (Some v) told = told
+also_begins a b None told = told
 
 -- What is known where both answers are there.
 pub record Both : Type 0 where
   pub a : Slot
   pub b : Slot
-  pub later : Met
-  pub other : Met
+  pub later : Option Meeting
+  pub other : Option Meeting
   pub brief : Brief a
   pub brief' : Brief b
   pub told : BeginsFirst a b later
@@ -90,21 +89,21 @@ pub record Both : Type 0 where
 
 -- The laws as the function goes by them.
 module _ (p : Both) where
-  either : (w : Met) → BeginsFirst p.a p.b Never → AlsoBegins p.a p.b w → MeetsFirst p.a p.b w
-  either (At y) none begins = exchanged_is (alone p.brief begins none)
-  either Never none none' = never_meets none none'
+  either : (w : Option Meeting) → BeginsFirst p.a p.b None → AlsoBegins p.a p.b w → MeetsFirst p.a p.b w
+  either (Some y) none begins = exchanged_is (alone p.brief begins none)
+  either None none none' = never_meets none none'
 
-  pub only_other : p.later ≡ Never → MeetsFirst p.a p.b p.other
+  pub only_other : p.later ≡ None → MeetsFirst p.a p.b p.other
   only_other e = either p.other (subst (BeginsFirst p.a p.b) e p.told) p.also
 
-  module _ {x : Meeting} (is : p.later ≡ At x) where
+  module _ {x : Meeting} (is : p.later ≡ Some x) where
     begins : IsFirstBeginning p.a p.b x
     begins = subst (BeginsFirst p.a p.b) is p.told
 
-    pub only_later : p.other ≡ Never → IsFirstMeeting p.a p.b x
+    pub only_later : p.other ≡ None → IsFirstMeeting p.a p.b x
     only_later e = alone p.brief' begins (subst (AlsoBegins p.a p.b) e p.also)
 
-    module _ {y : Meeting} (is' : p.other ≡ At y) where
+    module _ {y : Meeting} (is' : p.other ≡ Some y) where
       begins' : IsFirstBeginning p.b p.a (exchanged_meeting y)
       begins' = subst (AlsoBegins p.a p.b) is' p.also
 

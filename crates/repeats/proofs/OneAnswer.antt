@@ -9,8 +9,7 @@ use Rattle.overlap.proofs.Law.{meeting_is_symmetric, shared_instant}
 use Rattle.repeats.specs.Meetings.{LastBegun, IsFirstMeeting, MeetsFirst}
 use Rattle.repeats.specs.Theorems.{FirstMeetingOneAnswer, FirstMeetingsShowMeetings, FirstMeetingIsSymmetric}
 use Rattle.repeats.specs.declared.Meeting.{Meeting}
-use Rattle.repeats.specs.declared.Met.{Met}
-use Rattle.repeats.specs.declared.Met.TheVariants.{At, Never}
+use Rattle.std.specs.Prelude.{Option, Some, None}
 use Rattle.repeats.proofs.Joining.{exchanged_is}
 
 no_later : (s : Slot) (k m x : ℕ) → LastBegun s k x → LastBegun s m x → k ≤ m
@@ -32,22 +31,22 @@ met_meets : (a b : Slot) (met : Meeting) → IsFirstMeeting a b met → NeverMee
 met_meets a b met p never = shared_instant a b met.first met.second met.instant p.first_holds p.second_holds never
 
 pub first_meeting_one_answer : FirstMeetingOneAnswer
-first_meeting_one_answer a b (At m) (At n) p q = let e = one_meeting a b m n p q in cc
-first_meeting_one_answer a b (At m) Never p q = absurd (met_meets a b m p q)
-first_meeting_one_answer a b Never (At n) p q = absurd (met_meets a b n q p)
-first_meeting_one_answer a b Never Never p q = refl
+first_meeting_one_answer a b (Some m) (Some n) p q = let e = one_meeting a b m n p q in cc
+first_meeting_one_answer a b (Some m) None p q = absurd (met_meets a b m p q)
+first_meeting_one_answer a b None (Some n) p q = absurd (met_meets a b n q p)
+first_meeting_one_answer a b None None p q = refl
 
 pub first_meetings_show_meetings : FirstMeetingsShowMeetings
 first_meetings_show_meetings = record {
   met = met_meets;
-  never = λ a b r told never. first_meeting_one_answer a b r Never told never;
+  never = λ a b r told never. first_meeting_one_answer a b r None told never;
   meets = meets;
 }
   where
-    meets : (a b : Slot) (r : Met) → MeetsFirst a b r → (NeverMeet a b → ⊥) → (met : Meeting) × (r ≡ At met)
-    meets a b (At met) told some = (met, refl)
-    meets a b Never told some = absurd (some told)
+    meets : (a b : Slot) (r : Option Meeting) → MeetsFirst a b r → (NeverMeet a b → ⊥) → (met : Meeting) × (r ≡ Some met)
+    meets a b (Some met) told some = (met, refl)
+    meets a b None told some = absurd (some told)
 
 pub first_meeting_is_symmetric : FirstMeetingIsSymmetric
-first_meeting_is_symmetric a b (At met) p = exchanged_is p
-first_meeting_is_symmetric a b Never p = meeting_is_symmetric a b p
+first_meeting_is_symmetric a b (Some met) p = exchanged_is p
+first_meeting_is_symmetric a b None p = meeting_is_symmetric a b p

@@ -1,18 +1,17 @@
 -- First meetings at numbers.
-use Rattle.std.specs.Prelude.{ℕ}
+use Rattle.std.specs.Prelude.{ℕ, Option, Some, None}
 use Rattle.overlap.specs.Theorems.{in100000, in150000, in10}
 use Rattle.overlap.specs.declared.Slot.{Slot}
+use Rattle.repeats.specs.declared.Meeting.{Meeting}
 use Rattle.repeats.specs.Meetings.{MeetsFirst}
-use Rattle.repeats.specs.declared.Met.{Met}
-use Rattle.repeats.specs.declared.Met.TheVariants.{At, Never}
 
 -- From offset o on, every t ns, for h ns.
 abbrev pub slot_for : ℕ → ℕ → ℕ → Slot
 slot_for o t h = record { offset = o; period = t; hold = h }
 
 -- They meet in repeat k of the first and repeat m of the second, at instant x.
-abbrev pub met_at : ℕ → ℕ → ℕ → Met
-met_at k m x = At (record { first = k; second = m; instant = x })
+abbrev pub met_at : ℕ → ℕ → ℕ → Option Meeting
+met_at k m x = Some (record { first = k; second = m; instant = x })
 
 pub record FirstMeetingsAtNumbers : Type 0 where
   -- Frames of 672 ns in periods of 100,000 and 150,000 ns. Both at 0; with the second at 50,000 their first frames lie far apart, and the third of the first leg meets the second of the other;
@@ -20,7 +19,7 @@ pub record FirstMeetingsAtNumbers : Type 0 where
   pub at_0 : MeetsFirst (in100000 0 672) (in150000 0 672) (met_at 0 0 0)
   pub at_50000 : MeetsFirst (in100000 0 672) (in150000 50000 672) (met_at 2 1 200000)
   pub at_671 : MeetsFirst (in100000 0 672) (in150000 671 672) (met_at 0 0 671)
-  pub at_672 : MeetsFirst (in100000 0 672) (in150000 672 672) Never
+  pub at_672 : MeetsFirst (in100000 0 672) (in150000 672 672) None
   -- The other way round.
   pub the_other_first : MeetsFirst (in150000 50000 672) (in100000 0 672) (met_at 1 2 200000)
   -- An offset beyond the period: nothing is held before it.

@@ -1,7 +1,6 @@
 -- Steps of one length round a circle, for the inner functions: when one first lands in a stretch of the circle.
-use Rattle.std.specs.Prelude.{ℕ, ◌+◌, ◌*◌, ◌≤◌, ◌<◌}
-use Rattle.repeats.specs.declared.landing.Landed.{Landed}
-use Rattle.repeats.specs.declared.landing.Landed.TheVariants.{After, Never}
+use Rattle.std.specs.Prelude.{ℕ, ◌+◌, ◌*◌, ◌≤◌, ◌<◌, Option, Some, None}
+use Rattle.repeats.specs.declared.landing.Landing.{Landing}
 
 -- The longest period that a slot may have for the code to compute with it: 1 s.
 abbrev pub longest_period : ℕ
@@ -19,9 +18,9 @@ pub record IsFirstLanding (step around from to n y : ℕ) : Type 0 where
   pub few : n < around
 
 -- The first landing, or that there is none.
-abbrev pub LandsFirst : ℕ → ℕ → ℕ → ℕ → Landed → Type 0
-LandsFirst step around from to (After l) = IsFirstLanding step around from to l.steps l.turns
-LandsFirst step around from to Never = (k z : ℕ) → Lands step around from to k z → ⊥
+abbrev pub LandsFirst : ℕ → ℕ → ℕ → ℕ → Option Landing → Type 0
+LandsFirst step around from to (Some l) = IsFirstLanding step around from to l.steps l.turns
+LandsFirst step around from to None = (k z : ℕ) → Lands step around from to k z → ⊥
 
 -- n steps reach the place `from`, and one step less does not.
 pub record Nearest (step from n : ℕ) : Type 0 where

@@ -1,11 +1,9 @@
 -- Where two legs on one link first meet: the earliest instant at which both hold the link, and the repeats of each to which it belongs. An instant is a whole nanosecond
 -- (crates/overlap/specs/Meeting.antt).
-use Rattle.std.specs.Prelude.{ℕ, ◌+◌, ◌*◌, ◌≤◌, ◌<◌}
+use Rattle.std.specs.Prelude.{ℕ, ◌+◌, ◌*◌, ◌≤◌, ◌<◌, Option, Some, None}
 use Rattle.overlap.specs.Meeting.{HoldsLink, NeverMeet}
 use Rattle.overlap.specs.declared.Slot.{Slot}
 use Rattle.repeats.specs.declared.Meeting.{Meeting}
-use Rattle.repeats.specs.declared.Met.{Met}
-use Rattle.repeats.specs.declared.Met.TheVariants.{At, Never}
 
 -- At instant x repeat k of the slot s is the last that has begun: it has, and the next has not. There is one such repeat, also where a leg holds its link longer than its period.
 pub record LastBegun (s : Slot) (k x : ℕ) : Type 0 where
@@ -21,6 +19,6 @@ pub record IsFirstMeeting (a b : Slot) (met : Meeting) : Type 0 where
   pub earliest : (k m y : ℕ) → HoldsLink a k y → HoldsLink b m y → met.instant ≤ y
 
 -- The whole answer: the first meeting, or that there is none.
-abbrev pub MeetsFirst : Slot → Slot → Met → Type 0
-MeetsFirst a b (At met) = IsFirstMeeting a b met
-MeetsFirst a b Never = NeverMeet a b
+abbrev pub MeetsFirst : Slot → Slot → Option Meeting → Type 0
+MeetsFirst a b (Some met) = IsFirstMeeting a b met
+MeetsFirst a b None = NeverMeet a b

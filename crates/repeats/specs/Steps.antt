@@ -1,5 +1,5 @@
 -- What the inner functions of this crate tell of two slots.
-use Rattle.std.specs.Prelude.{ℕ, ◌+◌, ◌*◌, ◌≤◌, ◌<◌, ◌≡◌}
+use Rattle.std.specs.Prelude.{ℕ, ◌+◌, ◌*◌, ◌≤◌, ◌<◌, ◌≡◌, Option, Some, None}
 use Rattle.numbers.specs.Number.{max_word}
 use Rattle.overlap.specs.Meeting.{HoldsLink}
 use Rattle.overlap.specs.declared.Slot.{Slot}
@@ -7,8 +7,6 @@ use Rattle.repeats.specs.Meetings.{LastBegun}
 use Rattle.repeats.specs.Landings.{longest_period}
 use Rattle.repeats.specs.declared.Entry.{Entry}
 use Rattle.repeats.specs.declared.Meeting.{Meeting}
-use Rattle.repeats.specs.declared.Met.{Met}
-use Rattle.repeats.specs.declared.Met.TheVariants.{At, Never}
 
 -- A slot whose first meeting can be told: a period of 1 ns to 1 s, a hold time of at least 1 ns, and an offset and a hold time that a word holds.
 pub record Brief (s : Slot) : Type 0 where
@@ -48,14 +46,14 @@ pub record IsFirstBeginning (a b : Slot) (met : Meeting) : Type 0 where
   pub earliest : (k m : ℕ) → HoldsLink a k (b.offset + m * b.period) → met.second ≤ m
 
 -- It, or that b never begins while a holds the link.
-abbrev pub BeginsFirst : Slot → Slot → Met → Type 0
-BeginsFirst a b (At met) = IsFirstBeginning a b met
-BeginsFirst a b Never = (k m : ℕ) → HoldsLink a k (b.offset + m * b.period) → ⊥
+abbrev pub BeginsFirst : Slot → Slot → Option Meeting → Type 0
+BeginsFirst a b (Some met) = IsFirstBeginning a b met
+BeginsFirst a b None = (k m : ℕ) → HoldsLink a k (b.offset + m * b.period) → ⊥
 
 -- The same meeting, told of b and a.
 abbrev pub exchanged_meeting : Meeting → Meeting
 exchanged_meeting met = record { first = met.second; second = met.first; instant = met.instant }
 
-abbrev pub exchanged : Met → Met
-exchanged (At met) = At (exchanged_meeting met)
-exchanged Never = Never
+abbrev pub exchanged : Option Meeting → Option Meeting
+exchanged (Some met) = Some (exchanged_meeting met)
+exchanged None = None

@@ -4,30 +4,35 @@
 ghost use Rattle.std.specs.Prelude.{◌≡◌, ◌≤◌};
 ghost use Rattle.numbers.specs.Number.{max_word};
 ghost use Rattle.repeats.specs.Meetings.{MeetsFirst};
-ghost use Rattle.repeats.specs.Steps.{BeginsFirst, Brief, Enters, FirstFrom, beginning_of, exchanged, many_repeats};
+ghost use Rattle.repeats.specs.Steps.{BeginsFirst, Brief, Enters, FirstFrom, beginning_of, exchanged, exchanged_meeting, many_repeats};
 
-use landing::Landed;
 use overlap::Slot;
 
 pub mod landing;
 
-// An instant at which two legs hold their link, and the last repeat of each that has begun then; instants in nanoseconds, repeats counted from 0.
-#[derive(Clone, Copy)]
+/// An instant at which two legs hold their link, and the last repeat of each that has begun then; instants in nanoseconds, repeats counted from 0.
+#[derive(Clone, Copy, Debug, PartialEq, Eq)]
 pub struct Meeting {
     pub first: u64,
     pub second: u64,
     pub instant: u64,
 }
 
-// The first meeting of two legs, or that they never meet.
-#[derive(Clone, Copy)]
-pub enum Met {
-    At(Meeting),
-    Never,
+impl Meeting {
+    /// The same meeting, told of the two legs in the other order.
+    fn exchanged(self) -> Meeting
+        ensures { result ≡ exchanged_meeting self }
+    {
+        Meeting {
+            first: self.second,
+            second: self.first,
+            instant: self.instant,
+        }
+    }
 }
 
-// A repeat `second` of one slot begins `into` ns into the period of repeat `first` of another.
-#[derive(Clone, Copy)]
+/// A repeat `second` of one slot begins `into` ns into the period of repeat `first` of another.
+#[derive(Clone, Copy, Debug, PartialEq, Eq)]
 pub struct Entry {
     pub first: u64,
     pub second: u64,
@@ -74,51 +79,41 @@ fn beginning(b: Slot, first: u64, second: u64) -> Meeting
     }
 }
 
-// The earliest repeat of b that begins while a holds the link. From one repeat of b to the next its beginning goes on by b's period, round a circle as long as a's.
-fn first_beginning(a: Slot, b: Slot) -> Met
+// The earliest repeat of b that begins while a holds the link, if one does. From one repeat of b to the next its beginning goes on by b's period, round a circle as long as a's.
+fn first_beginning(a: Slot, b: Slot) -> Option<Meeting>
     requires brief { Brief a }
     requires brief_2 { Brief b }
     ensures { BeginsFirst a b result }
 {
     let e = first_entry(a, b);
     if e.into < a.hold {
-        return Met::At(beginning(b, e.first, e.second));
+        return Some(beginning(b, e.first, e.second));
     }
     let rest = a.period - e.into;
-    let landed = landing::first_landing(b.period, a.period, rest, rest + (a.hold - 1));
-    match landed {
-        Landed::Never => Met::Never,
-        Landed::After(l) => Met::At(beginning(b, e.first + 1 + l.turns, e.second + l.steps)),
-    }
+    let landing = landing::first_landing(b.period, a.period, rest, rest + (a.hold - 1))?;
+    Some(beginning(b, e.first + 1 + landing.turns, e.second + landing.steps))
 }
 
 // The same answer, told of the two legs in the other order.
-fn exchange(met: Met) -> Met
+fn exchange(met: Option<Meeting>) -> Option<Meeting>
     ensures { result ≡ exchanged met }
 {
-    match met {
-        Met::Never => Met::Never,
-        Met::At(m) => Met::At(Meeting {
-            first: m.second,
-            second: m.first,
-            instant: m.instant,
-        }),
-    }
+    met.map(|m| m.exchanged())
 }
 
-// Internal: the first meeting of two legs on one link. It is the beginning of a repeat of one of them: the earlier of the first beginning of b while a holds the link, and the first
-// beginning of a while b does.
-pub fn first_meeting(a: Slot, b: Slot) -> Met
+/// Internal: the first meeting of two legs on one link; None if they never meet. It is the beginning of a repeat of one of them: the earlier of the first beginning of b while a holds the
+/// link, and the first beginning of a while b does.
+pub fn first_meeting(a: Slot, b: Slot) -> Option<Meeting>
     requires brief { Brief a }
     requires brief_2 { Brief b }
     ensures { MeetsFirst a b result }
 {
     let later = first_beginning(a, b);
     let other = exchange(first_beginning(b, a));
-    let Met::At(x) = later else {
+    let Some(x) = later else {
         return other;
     };
-    let Met::At(y) = other else {
+    let Some(y) = other else {
         return later;
     };
     if y.instant < x.instant {

@@ -2,8 +2,10 @@
 use Rattle.repeats.proofs.Begun.{never_at_all, after_steps}
 use Rattle.repeats.proofs.first_beginning.Goals as goal
 
-pub returns-in-Never : goal.returns-in-Never
-returns-in-Never c = search never_at_all
+pub returns-in_err-landing : goal.returns-in_err-landing
+returns-in_err-landing c =
+    rw c.from_residual.ensures (never_at_all c.requires.brief c.requires.brief_2 c.first_entry-e.ensures c.if-e-a.false c.in_err-landing.was c.first_landing.ensures)
 
-pub returns-in-After : goal.returns-in-After
-returns-in-After c = search after_steps
+pub returns : goal.returns
+returns c =
+    after_steps c.requires.brief c.requires.brief_2 c.first_entry-e.ensures c.if-e-a.false c.in_ok-landing.was c.first_landing.ensures c.beginning-2.ensures

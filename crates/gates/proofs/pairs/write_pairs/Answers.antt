@@ -7,14 +7,16 @@ use Rattle.gates.proofs.pairs.write_pairs.Goals as goal
 pub loop-x-init : goal.loop-x-init
 loop-x-init c = writing_start _ _ _ c.requires.out_len
 
-pub grow-grown-requires : goal.grow-grown-requires
-grow-grown-requires c =
+pub grow-requires : goal.grow-requires
+grow-requires c =
     writing_room _ c.args.cycle _ _ _ _ c.loop-x.invariant (omega (arith, c.run_from-run.ensures.some, c.run_from-run.ensures.within)) c.requires.cycle_le_max_cycle
 
-pub returns-in-Full : goal.returns-in-Full
-returns-in-Full c =
-    rw c.in-Full.is at (written _ (one_mask_is_right _) _ _ _ _ _ _ _ c.loop-x.invariant c.run_from-run.ensures c.grow-grown.ensures)
+pub returns-in_err-n : goal.returns-in_err-n
+returns-in_err-n c =
+    let full = c.in_err-n.was in
+    rw c.from_residual.ensures (rw full at (written _ (one_mask_is_right _) _ _ _ _ _ _ _ c.loop-x.invariant c.run_from-run.ensures c.grow.ensures))
 
 pub loop-x-preserved : goal.loop-x-preserved
 loop-x-preserved c =
-    rw c.in-To.is at (written _ (one_mask_is_right _) _ _ _ _ _ _ _ c.loop-x.invariant c.run_from-run.ensures c.grow-grown.ensures)
+    let more = c.in_ok-n.was in
+    rw more at (written _ (one_mask_is_right _) _ _ _ _ _ _ _ c.loop-x.invariant c.run_from-run.ensures c.grow.ensures)

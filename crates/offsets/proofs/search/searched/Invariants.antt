@@ -4,7 +4,7 @@ use Rattle.offsets.proofs.Stepping.{Searching}
 use Rattle.offsets.proofs.search.searched.Given as goal
 
 abbrev pub invariant-loop-s : goal.invariant-loop-s
-invariant-loop-s l = Searching l.words l.count l.limit l.from l.s.x
+invariant-loop-s l = Searching l.conditions l.limit l.from l.s.x
 
 abbrev pub decreases-loop-s : goal.decreases-loop-s
 decreases-loop-s l = l.limit - l.s.x

@@ -4,7 +4,7 @@ use Rattle.offsets.proofs.Stepping.{Passing}
 use Rattle.offsets.proofs.search.settled.Given as goal
 
 abbrev pub invariant-loop-t : goal.invariant-loop-t
-invariant-loop-t l = Passing l.words l.count l.limit l.initial.t.x l.t.x
+invariant-loop-t l = Passing l.conditions l.limit l.initial.t.x l.t.x
 
 abbrev pub decreases-loop-t : goal.decreases-loop-t
 decreases-loop-t l = l.limit - l.t.x

@@ -1,6 +1,10 @@
--- `offsets::search::swept` meets its contract: by the conditions before i, and then by condition i. Assumes nothing.
-use Rattle.offsets.proofs.Stepping.{sweeping_on}
+-- `offsets::search::swept` meets its contract: by the conditions before the present one, and then by it. Assumes nothing.
+use Rattle.std.proofs.Common.{arith}
+use Rattle.offsets.proofs.Stepping.{sweeping_on, sweeping_all}
 use Rattle.offsets.proofs.search.swept.Goals as goal
 
-pub loop-i-preserved : goal.loop-i-preserved
-loop-i-preserved c = search sweeping_on
+pub loop-q-preserved : goal.loop-q-preserved
+loop-q-preserved c = search sweeping_on
+
+pub returns : goal.returns
+returns c = sweeping_all c.loop-q.invariant (omega arith)

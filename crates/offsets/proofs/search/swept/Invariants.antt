@@ -1,10 +1,6 @@
--- `offsets::search::swept` meets its contract: by the conditions before i, and then by condition i. Assumes nothing.
-use Rattle.std.proofs.Common.{◌-◌}
+-- `offsets::search::swept` meets its contract: by the conditions before the present one, and then by it. Assumes nothing.
 use Rattle.offsets.proofs.Stepping.{Sweeping}
 use Rattle.offsets.proofs.search.swept.Given as goal
 
-abbrev pub invariant-loop-i : goal.invariant-loop-i
-invariant-loop-i l = Sweeping l.words l.count l.limit l.x l.i l.y
-
-abbrev pub decreases-loop-i : goal.decreases-loop-i
-decreases-loop-i l = l.count - l.i
+abbrev pub invariant-loop-q : goal.invariant-loop-q
+invariant-loop-q l = Sweeping l.conditions l.limit l.x l.q-index l.y
