@@ -1,12 +1,11 @@
 -- What each leg of the enlarged table asks is what its condition says. Assumes nothing.
-use Prim.Native.Nat.{ℕ, ◌+◌, ◌*◌, ◌%◌, ◌≤◌, ◌<◌}
-use mathlib.Core.Path.{◌≡◌, refl, ◌∙◌, sym, ap, subst}
+use Prim.Native.Nat.{ℕ, ◌+◌, ◌≤◌, ◌<◌}
+use mathlib.Core.Path.{◌≡◌, ◌∙◌, sym, ap, subst}
 use mathlib.Core.List.{List}
 use mathlib.Core.Logic.{⊎_elim}
 use lib.ListN.{length, get_or}
 use native.Mathlib.Omega.{arith}
 use Rattle.basics.proofs.Splits.{lt_or_ge}
-use Rattle.numbers.specs.Number.{max_word}
 use Rattle.table.specs.Layout.{leg_count}
 use Rattle.table.specs.Records.{link_at, leg_at}
 use Rattle.overlap.specs.Meeting.{NeverMeet}
@@ -14,14 +13,15 @@ use Rattle.overlap.specs.declared.Slot.{Slot}
 use Rattle.rules.specs.Times.{hold_time, slot_of}
 use Rattle.rules.specs.Steps.{Timed, LegIn, FrameOf, SlotOf}
 use Rattle.rules.specs.declared.Frame.{Frame}
-use Rattle.offsets.specs.Conditions.{AllowsAll, ClearOf, EndsWithin, Keeps, Says, Holding, Starts, slot_from}
+use Rattle.offsets.specs.Conditions.{ClearOf, Keeps, Says, Holding, Starts, slot_from}
 use Rattle.offsets.specs.declared.Condition.{Condition}
-use Rattle.offsets.proofs.Saying.{free_says, says_in_words}
-use Rattle.offsets.proofs.Keeping.{holding_none, holding_more}
+use Rattle.offsets.specs.declared.StoredCondition.{StoredCondition}
+use Rattle.offsets.proofs.Saying.{says_in_words}
+use Rattle.offsets.proofs.Keeping.{holding_more}
 use Rattle.enlarge.specs.Steps.{Sendable}
 use Rattle.enlarge.specs.declared.Wanted.{Wanted}
 use Rattle.enlarge.proofs.Ranges.{wanted_in_range}
-use Rattle.admission.specs.Steps.{Ready, after_of, new_hold, Asks, AfterIs, MetAt}
+use Rattle.admission.specs.Steps.{Ready, after_of, new_hold, Asks, AfterIs, FirstMet}
 use Rattle.admission.proofs.Wanting.{route_new}
 use Rattle.admission.proofs.Walking.{guaranteed, can_send}
 
@@ -38,8 +38,8 @@ module _ {t : List ℕ} {w : Wanted} {route : List ℕ} (ready : Ready t w route
   pub sends : {j l : ℕ} → j < length route → get_or route j 0 ≡ l → Sendable t w 0 l
   sends {j} {l} h e = can_send ready 0 j l (omega arith) h e
 
-  pub sends_met : {j l : ℕ} → MetAt route l j → j < length route → Sendable t w 0 l
-  sends_met met h = sends h (met.there h)
+  pub sends_met : {j l : ℕ} → FirstMet route l j → Sendable t w 0 l
+  sends_met met = sends met.within met.there
 
   -- A leg that starts so long after the first one, as the conditions take it.
   pub leg_starts : {j after period time hold : ℕ} → AfterIs t w route j after → period ≡ w.period → Timed time hold → Starts after period hold
@@ -53,45 +53,15 @@ module _ {t : List ℕ} {w : Wanted} {route : List ℕ} (ready : Ready t w route
         hold_to = omega (arith, hold.to);
       }
 
-  -- No old leg holds its link longer than a word says.
-  pub short_hold : {a : ℕ} {f : Frame} {other : Slot} → FrameOf t a f → SlotOf t a other → other.hold ≤ max_word
-  short_hold frame slot = omega (arith, slot.hold, frame.hold.same, frame.hold.to)
-
-  -- A new leg asks that it ends within its period.
-  pub new_asks : {j after period hold l : ℕ} {q : Condition} → j < length route → AfterIs t w route j after → period ≡ w.period → l ≡ get_or route j 0
-      → Timed (hold_time w.octets (link_at t l).rate) hold → Says (EndsWithin after period hold) q → Says (Asks t w route (leg_count t + j)) q
-  new_asks {j} {after} {period} {hold} {l} h starts is-period on holds says =
-      let a = starts.is in
-      let n : hold ≡ new_hold t w route j = holds.same ∙ ap (λ (z : ℕ). hold_time w.octets (link_at t z).rate) on in
-      let same : (x : ℕ) → (x + after) % period ≡ (x + after_of t w route j) % w.period = λ x. cc in
-      says_in_words (Asks t w route (leg_count t + j))
-      (λ x ends. record {
-        beside = λ old i k link. absurd (omega arith);
-        window = λ i k is.
-            let e : j ≡ i = omega arith in
-            subst (λ (z : ℕ). EndsWithin (after_of t w route z) w.period (new_hold t w route z) x) e (omega (arith, same x));
-      })
-      (λ x asks. omega (arith, same x, asks.window j h refl))
-      says
-
-  -- An old leg on no link of the route asks nothing.
-  pub free_asks : {a j : ℕ} {f : Frame} {q : Condition} → a < leg_count t → FrameOf t a f → MetAt route f.link j → length route ≤ j → AllowsAll q → Says (Asks t w route a) q
-  free_asks {a} h frame met all free =
-      free_says (Asks t w route a)
-      (λ x. record {
-        beside = λ old i k link. absurd (met.before i (omega arith) (link ∙ sym frame.link));
-        window = λ i k is. absurd (omega arith);
-      })
-      free
-
   -- An old leg on a link of the route asks that the new leg there never meets it.
-  pub old_asks : {a j after period hold : ℕ} {f : Frame} {other : Slot} {q : Condition} → a < leg_count t → FrameOf t a f → MetAt route f.link j → j < length route
+  pub old_asks : {a j after period hold : ℕ} {f : Frame} {other : Slot} {q : Condition} → a < leg_count t → FrameOf t a f → FirstMet route f.link j
       → AfterIs t w route j after → period ≡ w.period → Timed (hold_time w.octets (link_at t f.link).rate) hold → SlotOf t a other
       → Says (ClearOf after period hold other) q → Says (Asks t w route a) q
-  old_asks {a} {j} {after} {period} {hold} {f} {other} h frame met k starts is-period holds slot says =
-      let here : get_or route j 0 ≡ (leg_at t a).link = met.there k ∙ frame.link in
+  old_asks {a} {j} {after} {period} {hold} {f} {other} h frame met starts is-period holds slot says =
+      let k = met.within in
+      let here : get_or route j 0 ≡ (leg_at t a).link = met.there ∙ frame.link in
       let i = starts.is in
-      let n : hold ≡ new_hold t w route j = holds.same ∙ ap (λ (z : ℕ). hold_time w.octets (link_at t z).rate) (sym (met.there k)) in
+      let n : hold ≡ new_hold t w route j = holds.same ∙ ap (λ (z : ℕ). hold_time w.octets (link_at t z).rate) (sym (met.there)) in
       let mine : (x : ℕ) → slot_from after period hold x ≡ slot_from (after_of t w route j) w.period (new_hold t w route j) x = λ x. cc in
       let o = slot.offset in
       let p = slot.period in
@@ -115,31 +85,15 @@ module _ {t : List ℕ} {w : Wanted} {route : List ℕ} (ready : Ready t w route
       says
 
 -- The conditions of the first n legs are kept, of so many.
-pub record Kept (t : List ℕ) (w : Wanted) (route : List ℕ) (end : ℕ) (s₀ s : List ℕ) (n : ℕ) : Type 0 where
+pub record Kept (t : List ℕ) (w : Wanted) (route : List ℕ) (end : ℕ) (s₀ s : List StoredCondition) (n : ℕ) : Type 0 where
   pub ready : Ready t w route
   pub upto : n ≤ end
   pub size : length s ≡ length s₀
-  pub room : 4 * end ≤ length s₀
+  pub room : end ≤ length s₀
   pub held : Holding s n (Asks t w route)
 
-pub kept_none : {t : List ℕ} {w : Wanted} {route : List ℕ} {end : ℕ} {s : List ℕ} → Ready t w route → 4 * end ≤ length s → Kept t w route end s s 0
-kept_none {t} {w} {route} {end} {s} ready room = record { ready = ready; upto = omega arith; size = refl; room = room; held = holding_none s (Asks t w route) }
-
-kept_old : {t : List ℕ} {w : Wanted} {route : List ℕ} {legs : ℕ} {s : List ℕ} → Ready t w route → 4 * (legs + length route) ≤ length s → Holding s legs (Asks t w route)
-    → Kept t w route (legs + length route) s s (legs + 0)
-kept_old {t} {w} {route} {legs} {s} ready room held = record {
-  ready = ready;
-  upto = omega arith;
-  size = refl;
-  room = room;
-  held = subst (λ (m : ℕ). Holding s m (Asks t w route)) (let e : legs ≡ legs + 0 = omega arith in e) held;
-}
-
-module _ {t : List ℕ} {w : Wanted} {route : List ℕ} {end n : ℕ} {s₀ s : List ℕ} (k : Kept t w route end s₀ s n) where
-  pub kept_room : n < end → 4 * n + 4 ≤ length s
-  kept_room h = omega (arith, k.size, k.room)
-
-  pub kept_on : {q : Condition} {s' : List ℕ} → n < end → Says (Asks t w route n) q → Keeps s n q s' → Kept t w route end s₀ s' (n + 1)
+module _ {t : List ℕ} {w : Wanted} {route : List ℕ} {end n : ℕ} {s₀ s : List StoredCondition} (k : Kept t w route end s₀ s n) where
+  pub kept_on : {q : Condition} {s' : List StoredCondition} → n < end → Says (Asks t w route n) q → Keeps s n q s' → Kept t w route end s₀ s' (n + 1)
   kept_on h says keeps = record {
     ready = k.ready;
     upto = omega arith;
@@ -148,29 +102,16 @@ module _ {t : List ℕ} {w : Wanted} {route : List ℕ} {end n : ℕ} {s₀ s : 
     held = holding_more k.held says keeps;
   }
 
-  pub kept_all : end ≤ n → Holding s end (Asks t w route)
-  kept_all h = subst (λ (m : ℕ). Holding s m (Asks t w route)) (let e : n ≡ end = omega (arith, k.upto) in e) k.held
-
 -- Those of the old legs and of the first j new ones are kept.
-pub record KeptNew (t : List ℕ) (w : Wanted) (route : List ℕ) (legs : ℕ) (s₀ s : List ℕ) (j : ℕ) : Type 0 where
+pub record KeptNew (t : List ℕ) (w : Wanted) (route : List ℕ) (legs : ℕ) (s₀ s : List StoredCondition) (j : ℕ) : Type 0 where
   pub kept : Kept t w route (legs + length route) s₀ s (legs + j)
   pub is : legs ≡ leg_count t
 
-pub kept_new_none : {t : List ℕ} {w : Wanted} {route : List ℕ} {legs : ℕ} {s : List ℕ}
-    → Ready t w route → legs ≡ leg_count t → 4 * (legs + length route) ≤ length s → Holding s legs (Asks t w route) → KeptNew t w route legs s s 0
-kept_new_none ready is room held = record { kept = kept_old ready room held; is = is }
-
-module _ {t : List ℕ} {w : Wanted} {route : List ℕ} {legs j : ℕ} {s₀ s : List ℕ} (n : KeptNew t w route legs s₀ s j) where
-  pub kept_new_room : j < length route → 4 * (legs + j) + 4 ≤ length s
-  kept_new_room h = omega (arith, n.kept.size, n.kept.room)
-
-  pub kept_new_on : {q : Condition} {s' : List ℕ} → j < length route → Says (Asks t w route (leg_count t + j)) q → Keeps s (legs + j) q s' → KeptNew t w route legs s₀ s' (j + 1)
+module _ {t : List ℕ} {w : Wanted} {route : List ℕ} {legs j : ℕ} {s₀ s : List StoredCondition} (n : KeptNew t w route legs s₀ s j) where
+  pub kept_new_on : {q : Condition} {s' : List StoredCondition} → j < length route → Says (Asks t w route (leg_count t + j)) q → Keeps s (legs + j) q s' → KeptNew t w route legs s₀ s' (j + 1)
   kept_new_on {q} {s'} h says keeps =
       let own : Says (Asks t w route (legs + j)) q = subst (λ (m : ℕ). Says (Asks t w route (m + j)) q) (sym n.is) says in
       record {
         kept = subst (Kept t w route (legs + length route) s₀ s') (let e : legs + j + 1 ≡ legs + (j + 1) = omega arith in e) (kept_on n.kept (omega arith) own keeps);
         is = n.is;
       }
-
-  pub kept_new_all : length route ≤ j → Holding s (legs + length route) (Asks t w route)
-  kept_new_all h = kept_all n.kept (omega arith)

@@ -8,8 +8,8 @@ use Rattle.table.specs.Layout.{max_legs, leg_count}
 use Rattle.shape.specs.Streams.{max_periods_due}
 use Rattle.offsets.specs.Conditions.{Allow, Holding}
 use Rattle.offsets.specs.Search.{NoneFrom, Searches}
-use Rattle.offsets.specs.declared.Searched.{Searched}
-use Rattle.offsets.specs.declared.Searched.TheVariants.{At, Nothing}
+use Rattle.std.specs.Prelude.{Option, Some, None, take}
+use Rattle.offsets.specs.declared.StoredCondition.{StoredCondition}
 use Rattle.offsets.proofs.Keeping.{holding_to, holding_from}
 use Rattle.offsets.proofs.Answers.{searches_in_words}
 use Rattle.enlarge.specs.Reads.{start_at}
@@ -21,10 +21,10 @@ use Rattle.admission.proofs.Fitting.{legs_fit, fits_by_legs}
 use Rattle.admission.proofs.Walking.{in_range}
 
 -- What the kept conditions allow is what all legs ask.
-pub asked_least : {t : List ℕ} {w : Wanted} {route : List ℕ} {s : List ℕ} {legs : ℕ} (limit from : ℕ) (r : Searched) → legs ≡ leg_count t → Holding s (legs + length route) (Asks t w route)
-    → Searches (Allow s (legs + length route)) limit from r → Searches (AllAsked t w route) limit from r
+pub asked_least : {t : List ℕ} {w : Wanted} {route : List ℕ} {s : List StoredCondition} {legs : ℕ} (limit from : ℕ) (r : Option ℕ) → legs ≡ leg_count t → Holding s (legs + length route) (Asks t w route)
+    → Searches (Allow (take (legs + length route) s)) limit from r → Searches (AllAsked t w route) limit from r
 asked_least {t} {w} {route} {s} {legs} limit from r is held found =
-    searches_in_words (Allow s (legs + length route)) (AllAsked t w route) limit from
+    searches_in_words (Allow (take (legs + length route) s)) (AllAsked t w route) limit from
     (λ x allow. record { each = λ a h. holding_to held allow a (omega arith) })
     (λ x all. holding_from held (λ a h. all.each a (omega arith)))
     r found
@@ -64,21 +64,21 @@ module _ {t : List ℕ} {w : Wanted} {route : List ℕ} (ready : Ready t w route
         let legs = fits_by_legs t w route ready x f in
         (e.all x h (omega (arith, legs.soon (length route - 1) (omega (arith, some_link)), lasts.is)), record { each = legs.asked })
 
-    fits_from : (from : ℕ) (r : Searched) → arrived ≤ w.deadline → Searches (AllAsked t w route) end from r → Searches (Fits t w route) limit from r
-    fits_from from (At x) due h = record {
+    fits_from : (from : ℕ) (r : Option ℕ) → arrived ≤ w.deadline → Searches (AllAsked t w route) end from r → Searches (Fits t w route) limit from r
+    fits_from from (Some x) due h = record {
       above = h.above;
       below = omega (arith, h.below, e.to);
       has = fits due x h.below h.has;
       least = λ z f l p. h.least z f l (none z (omega (arith, h.below, e.to)) p).1;
     }
-    fits_from from Nothing due h = λ z f l p. let n = none z l p in h z f n.0 n.1
+    fits_from from None due h = λ z f l p. let n = none z l p in h z f n.0 n.1
 
-    pub fitting_least : {start : ℕ} (from : ℕ) (r : Searched) → start ≡ from → arrived ≤ w.deadline → Searches (AllAsked t w route) end start r → Searches (Fits t w route) limit from r
+    pub fitting_least : {start : ℕ} (from : ℕ) (r : Option ℕ) → start ≡ from → arrived ≤ w.deadline → Searches (AllAsked t w route) end start r → Searches (Fits t w route) limit from r
     fitting_least from r is due h = fits_from from r due (subst (λ (n : ℕ). Searches (AllAsked t w route) end n r) is h)
 
   pub too_late_is : {arrived : ℕ} (limit from : ℕ) → AfterIs t w route (length route) arrived → w.deadline < arrived → NoneFrom (Fits t w route) from limit
   too_late_is limit from ends late z f l p = omega (arith, (fits_by_legs t w route ready z p).in_time, ends.is)
 
 -- There is room for a condition of each leg.
-pub kept_room : {t : List ℕ} {w : Wanted} {route : List ℕ} {legs : ℕ} → Ready t w route → legs ≡ leg_count t → 4 * (legs + length route) ≤ 4 * max_legs
+pub kept_room : {t : List ℕ} {w : Wanted} {route : List ℕ} {legs : ℕ} → Ready t w route → legs ≡ leg_count t → legs + length route ≤ max_legs
 kept_room ready is = omega (arith, (in_range ready).legs)

@@ -2,9 +2,9 @@
 use Prim.Native.Nat.{ℕ, ◌+◌, ◌*◌, ◌≤◌, ◌<◌}
 use mathlib.Core.Path.{◌≡◌, refl, ◌∙◌, sym, ap, subst}
 use mathlib.Core.List.{List}
-use lib.ListN.{length, get_or}
+use lib.ListN.{length, get_or, take}
+use lib.Seq.{get_or-take, length-take-le}
 use native.Mathlib.Omega.{arith}
-use borrow.Author.Count.{below_more}
 use Rattle.table.specs.Records.{link_part, link_in, link_at}
 use Rattle.table.specs.declared.Link.{Link}
 use Rattle.shape.specs.Guarantees.{Guarantees}
@@ -18,28 +18,11 @@ use Rattle.enlarge.specs.declared.Wanted.{Wanted}
 use Rattle.enlarge.proofs.Sending.{link_is}
 use Rattle.enlarge.proofs.Ranges.{wanted_in_range, wanted_sendable}
 use Rattle.enlarge.proofs.NewLegs.{start_first, start_next}
-use Rattle.admission.specs.Steps.{Ready, MetAt, max_reach, AfterIs}
+use Rattle.admission.specs.Steps.{Ready, max_reach, AfterIs}
 
 -- Not met on the first j links.
 pub record Unmet (route : List ℕ) (l j : ℕ) : Type 0 where
-  pub within : j ≤ length route
   pub before : (i : ℕ) → i < j → get_or route i 0 ≡ l → ⊥
-
-pub unmet_none : (route : List ℕ) (l : ℕ) → Unmet route l 0
-unmet_none route l = record { within = omega arith; before = λ i h e. omega arith }
-
-module _ {route : List ℕ} {l j : ℕ} (u : Unmet route l j) where
-  pub unmet_found : j < length route → get_or route j 0 ≡ l → MetAt route l j
-  unmet_found h e = record { within = u.within; there = λ k. e; before = u.before }
-
-  pub unmet_all : length route ≤ j → MetAt route l j
-  unmet_all h = record { within = u.within; there = λ k. absurd (omega arith); before = u.before }
-
-  pub unmet_more : j < length route → (get_or route j 0 ≡ l → ⊥) → Unmet route l (j + 1)
-  unmet_more h other = record {
-    within = omega arith;
-    before = below_more (λ (i : ℕ). get_or route i 0 ≡ l → ⊥) j u.before other;
-  }
 
 -- Leg i starts at an instant, on the way to leg j.
 pub record Walked (t : List ℕ) (w : Wanted) (route : List ℕ) (j start i : ℕ) : Type 0 where
@@ -65,20 +48,37 @@ walked_none {t} {w} {route} ready inside =
     record { ready = ready; inside = inside; upto = omega arith; is = sym (start_first t w 0 route); small = omega arith }
 
 module _ {t : List ℕ} {w : Wanted} {route : List ℕ} {j start i : ℕ} (s : Walked t w route j start i) where
-  pub walked_sendable : i < j → Sendable t w start (get_or route i 0)
-  walked_sendable h = can_send s.ready start i (get_or route i 0) (omega (arith, s.small, s.inside, (in_range s.ready).stream.count_to)) (omega (arith, s.inside)) refl
+  along : i < length (take j route) → i < j
+  along h = omega (arith, length-take-le j route s.inside)
 
-  pub walked_on : {r : ℕ} → i < j → Sent t w start (get_or route i 0) r → Walked t w route j r (i + 1)
-  walked_on {r} h sent = record {
-    ready = s.ready;
-    inside = s.inside;
-    upto = omega arith;
-    is = sent.same ∙ ap (λ (z : ℕ). sent_on t w z (get_or route i 0)) s.is ∙ sym (start_next t w 0 route i (omega (arith, s.inside)));
-    small = omega (arith, s.small, sent.near);
-  }
+  -- The part of the route that is walked has the links of the route.
+  taken : i < j → get_or (take j route) i 0 ≡ get_or route i 0
+  taken h = get_or-take j route i 0 h
 
-  pub walked_all : j ≤ i → AfterIs t w route j start
-  walked_all h = record { is = s.is ∙ ap (start_at t w 0 route) (let e : i ≡ j = omega (arith, s.upto) in e); small = omega (arith, s.small, s.upto, s.inside, (in_range s.ready).stream.count_to) }
+  pub walked_sendable : i < length (take j route) → Sendable t w start (get_or (take j route) i 0)
+  walked_sendable h =
+      let k = along h in
+      rw (taken k) (can_send s.ready start i (get_or route i 0) (omega (arith, s.small, s.inside, (in_range s.ready).stream.count_to)) (omega (arith, s.inside)) refl)
+
+  pub walked_on : {r : ℕ} → i < length (take j route) → Sent t w start (get_or (take j route) i 0) r → Walked t w route j r (i + 1)
+  walked_on {r} h there =
+      let k = along h in
+      let sent = rw (taken k) at there in
+      record {
+        ready = s.ready;
+        inside = s.inside;
+        upto = omega arith;
+        is = sent.same ∙ ap (λ (z : ℕ). sent_on t w z (get_or route i 0)) s.is ∙ sym (start_next t w 0 route i (omega (arith, s.inside)));
+        small = omega (arith, s.small, sent.near);
+      }
+
+  pub walked_all : length (take j route) ≤ i → AfterIs t w route j start
+  walked_all h =
+      let k = length-take-le j route s.inside in
+      record {
+        is = s.is ∙ ap (start_at t w 0 route) (let e : i ≡ j = omega (arith, s.upto) in e);
+        small = omega (arith, s.small, s.upto, s.inside, (in_range s.ready).stream.count_to);
+      }
 
 -- The hold time of a link that was read.
 pub held : {t links : List ℕ} {w : Wanted} {start l n : ℕ} {link : Link} {r : ℕ}

@@ -1,26 +1,23 @@
 -- A slot for a new stream (document 02, L5): what an admission tells, by the cases of its answer, and what it writes, with the refusals 18 and 20, beside 19. No old leg moves.
 -- w is what is wanted of the new stream, the route is the numbers of its links, in order, and room is how many words are lent for the enlarged table.
-use Rattle.std.specs.Prelude.{ℕ, ◌≤◌, ◌<◌, ◌≡◌, List, ◌⊎◌, length}
+use Rattle.std.specs.Prelude.{ℕ, ◌≤◌, ◌<◌, ◌≡◌, List, ◌⊎◌, length, Option, Some, None, Result, Ok, Err}
 use Rattle.basics.specs.Refusals.{Refusals, unless, ◌then◌, ◌called◌}
-use Rattle.numbers.specs.Number.{max_word, no_room}
+use Rattle.basics.specs.declared.Cause.TheVariants as cause
+use Rattle.basics.specs.declared.Refusal.{Refusal}
+use Rattle.numbers.specs.Number.{max_word}
 use Rattle.numbers.specs.Series.{overlaid}
 use Rattle.table.specs.Layout.{revision_of}
 use Rattle.shape.specs.Shape.{WellFormedTable, shape_refusals}
 use Rattle.rules.specs.Rules.{RulesHold}
-use Rattle.checker.specs.Accepted.{Accepted, not_accepted}
-use Rattle.checker.specs.Moves.{cannot_rise}
+use Rattle.checker.specs.Accepted.{Accepted}
 use Rattle.offsets.specs.Search.{NoneFrom, LeastFrom}
 use Rattle.enlarge.specs.Enlarged.{enlarged, enlarged_words, without_times}
 use Rattle.enlarge.specs.declared.Wanted.{Wanted}
-use Rattle.admission.specs.declared.Admission.{Admission}
-use Rattle.admission.specs.declared.Admission.TheVariants.{Admitted, NoneYet, Refused}
+use Rattle.admission.specs.declared.Admitted.{Admitted}
 
--- 18: no first offset below the period fits (of a piece see PieceTold). 20: the stream would break a limit or the shape.
-abbrev pub no_offset : ℕ
-no_offset = 18
-
-abbrev pub cannot_add : ℕ
-cannot_add = 20
+-- What is answered: admitted, none yet (Ok None), or refused. 18: no first offset below the period fits (of a piece see PieceTold). 20: the stream would break a limit or the shape.
+abbrev pub Admission : Type 0
+Admission = Result (Option Admitted) Refusal
 
 -- The stream breaks no limit and no shape: with it, all its legs at offset 0, the table is well-formed. (A period word above 7 comes with the times, and with it an offset does not fit: see Fits. What this says of limits, ranges and the route is in specs/Adding.antt.)
 abbrev pub CanAdd : List ℕ → Wanted → List ℕ → Type 0
@@ -38,10 +35,10 @@ pub record MayAdmit (t : List ℕ) (w : Wanted) (route : List ℕ) (room : ℕ) 
 abbrev pub early_refusals : List ℕ → Wanted → List ℕ → ℕ → Refusals
 early_refusals t w route room =
     shape_refusals t
-    then unless cannot_rise (revision_of t < max_word)
-    then unless cannot_add (CanAdd t w route)
-    then unless no_room (enlarged_words t route ≤ room)
-    then unless not_accepted (RulesHold t)
+    then unless cause.CannotRise (revision_of t < max_word)
+    then unless cause.CannotAdd (CanAdd t w route)
+    then unless cause.NoRoom (enlarged_words t route ≤ room)
+    then unless cause.NotAccepted (RulesHold t)
     called MayAdmit t w route room
 
 -- x is a first offset that fits: with it, the enlarged table is accepted. (A well-formed table has no period word above 7.)
@@ -63,9 +60,9 @@ pub record AdmittedAt (t : List ℕ) (w : Wanted) (route : List ℕ) (room from 
 
 -- THE WHOLE ADMISSION: the least of all first offsets below the period that fits, or 18 where none does. It is never answered that none fits yet.
 abbrev pub WholeTold : List ℕ → Wanted → List ℕ → ℕ → Admission → Type 0
-WholeTold t w route room (Admitted x n) = AdmittedAt t w route room 0 x n
-WholeTold t w route room NoneYet = ⊥
-WholeTold t w route room (Refused k p) = (early_refusals t w route room then unless no_offset (SomeFits t w route 0)).Fault k p
+WholeTold t w route room (Ok (Some a)) = AdmittedAt t w route room 0 a.offset a.words
+WholeTold t w route room (Ok None) = ⊥
+WholeTold t w route room (Err e) = (early_refusals t w route room then unless cause.NoOffset (SomeFits t w route 0)).Fault e.cause e.at
 
 -- None fits yet: none from `from` up to but without `until`, which is not the end of the period.
 pub record NoneBetween (t : List ℕ) (w : Wanted) (route : List ℕ) (room from until : ℕ) : Type 0 where
@@ -76,16 +73,16 @@ pub record NoneBetween (t : List ℕ) (w : Wanted) (route : List ℕ) (room from
 -- A PIECE OF AN ADMISSION, among the first offsets from `from` up to but without `until`: the least of them that fits; that none of them does, where the period goes on after them; or 18, where the period ends with them or
 -- before, and no first offset from `from` on and below the period fits. So 18 of a piece says nothing of first offsets below `from`.
 abbrev pub PieceTold : List ℕ → Wanted → List ℕ → ℕ → ℕ → ℕ → Admission → Type 0
-PieceTold t w route room from until (Admitted x n) = AdmittedAt t w route room from x n × (x < until)
-PieceTold t w route room from until NoneYet = NoneBetween t w route room from until
-PieceTold t w route room from until (Refused k p) =
-    (early_refusals t w route room then unless no_offset ((until < w.period) ⊎ SomeFits t w route from)).Fault k p
+PieceTold t w route room from until (Ok (Some a)) = AdmittedAt t w route room from a.offset a.words × (a.offset < until)
+PieceTold t w route room from until (Ok None) = NoneBetween t w route room from until
+PieceTold t w route room from until (Err e) =
+    (early_refusals t w route room then unless cause.NoOffset ((until < w.period) ⊎ SomeFits t w route from)).Fault e.cause e.at
 
 -- The lent words after an admission: the enlarged table lies in front, and every other word is as it was. Any other answer writes nothing.
 abbrev pub words_after : List ℕ → Wanted → List ℕ → List ℕ → Admission → List ℕ
-words_after t w route out (Admitted x n) = overlaid out 0 (enlarged t w route x)
-words_after t w route out NoneYet = out
-words_after t w route out (Refused k p) = out
+words_after t w route out (Ok (Some a)) = overlaid out 0 (enlarged t w route a.offset)
+words_after t w route out (Ok None) = out
+words_after t w route out (Err e) = out
 
 -- The calls. out are the lent words, which are out' after the call.
 pub record Admits (t : List ℕ) (w : Wanted) (route out : List ℕ) (a : Admission) (out' : List ℕ) : Type 0 where

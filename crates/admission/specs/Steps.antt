@@ -1,5 +1,5 @@
 -- What the inner functions of this crate tell: when a first offset fits, leg by leg of the enlarged table.
-use Rattle.std.specs.Prelude.{ℕ, ◌+◌, ◌*◌, ◌≤◌, ◌<◌, ◌≡◌, List, length, get_or}
+use Rattle.std.specs.Prelude.{ℕ, ◌+◌, ◌*◌, ◌≤◌, ◌<◌, ◌≡◌, List, length, get_or, Option, Some, None}
 use Rattle.numbers.specs.Number.{max_word}
 use Rattle.table.specs.Layout.{revision_of, leg_count}
 use Rattle.table.specs.Records.{link_at, leg_at}
@@ -19,6 +19,12 @@ pub record Ready (t : List ℕ) (w : Wanted) (route : List ℕ) : Type 0 where
   pub shape : WellFormedTable t
   pub can_add : CanAdd t w route
   pub rules : RulesHold t
+
+-- What is asked: a table, what is wanted of the new stream, and its route.
+pub record Asked : Type 0 where
+  pub table : List ℕ
+  pub wanted : Wanted
+  pub route : List ℕ
 
 -- Leg j of the new stream starts so long after the first one, and holds its link so long.
 abbrev pub after_of : List ℕ → Wanted → List ℕ → ℕ → ℕ
@@ -48,11 +54,16 @@ pub record AfterIs (t : List ℕ) (w : Wanted) (route : List ℕ) (j r : ℕ) : 
   pub is : r ≡ after_of t w route j
   pub small : r ≤ max_reach
 
--- The link l is first met at j on the route, or j is the route's length and it is not met.
-pub record MetAt (route : List ℕ) (l j : ℕ) : Type 0 where
-  pub within : j ≤ length route
-  pub there : j < length route → get_or route j 0 ≡ l
+-- The link l is first met at j on the route.
+pub record FirstMet (route : List ℕ) (l j : ℕ) : Type 0 where
+  pub within : j < length route
+  pub there : get_or route j 0 ≡ l
   pub before : (i : ℕ) → i < j → get_or route i 0 ≡ l → ⊥
+
+-- Where it is first met, or that it is not met.
+abbrev pub MetAt : List ℕ → ℕ → Option ℕ → Type 0
+MetAt route l (Some j) = FirstMet route l j
+MetAt route l None = (i : ℕ) → i < length route → get_or route i 0 ≡ l → ⊥
 
 -- Each leg of the enlarged table has what it asks.
 pub record AllAsked (t : List ℕ) (w : Wanted) (route : List ℕ) (x : ℕ) : Type 0 where
@@ -68,14 +79,3 @@ pub record EndOf (period last limit r : ℕ) : Type 0 where
 pub record CanRise (t : List ℕ) : Type 0 where
   pub shape : WellFormedTable t
   pub rises : revision_of t < max_word
-
--- And the stream can be added.
-pub record MayAdd (t : List ℕ) (w : Wanted) (route : List ℕ) : Type 0 where
-  pub can_rise : CanRise t
-  pub can_add : CanAdd t w route
-
--- r is the lesser of two numbers.
-pub record Lesser (a b r : ℕ) : Type 0 where
-  pub first : r ≤ a
-  pub second : r ≤ b
-  pub both : (x : ℕ) → x < a → x < b → x < r

@@ -1,9 +1,7 @@
 -- What is proved of admissions.
-use Rattle.std.specs.Prelude.{ℕ, ◌≤◌, ◌≡◌, List}
+use Rattle.std.specs.Prelude.{ℕ, ◌≤◌, ◌≡◌, List, None, Ok}
 use Rattle.enlarge.specs.declared.Wanted.{Wanted}
-use Rattle.admission.specs.Admits.{WholeTold, PieceTold, Admits, AdmitsBetween}
-use Rattle.admission.specs.declared.Admission.{Admission}
-use Rattle.admission.specs.declared.Admission.TheVariants.{NoneYet}
+use Rattle.admission.specs.Admits.{Admission, WholeTold, PieceTold, Admits, AdmitsBetween}
 
 -- What is told is one answer at most, whole and in pieces. (That there is one is the contract of the calls.)
 abbrev pub ToldOneAnswer : Type 0
@@ -29,6 +27,6 @@ AdmitBetweenOneAnswer =
 -- pieces together. And what is told of pieces from 0 on, if it is not that none fits yet, a whole admission tells.
 pub record PiecesMakeTheWhole : Type 0 where
   pub join : (t : List ℕ) (w : Wanted) (route : List ℕ) (room from m until : ℕ) (a : Admission)
-      → from ≤ m → PieceTold t w route room from m NoneYet → PieceTold t w route room m until a → PieceTold t w route room from until a
+      → from ≤ m → PieceTold t w route room from m (Ok None) → PieceTold t w route room m until a → PieceTold t w route room from until a
   pub whole : (t : List ℕ) (w : Wanted) (route : List ℕ) (room until : ℕ) (a : Admission)
-      → (a ≡ NoneYet → ⊥) → PieceTold t w route room 0 until a → WholeTold t w route room a
+      → (a ≡ Ok None → ⊥) → PieceTold t w route room 0 until a → WholeTold t w route room a

@@ -1,20 +1,14 @@
 // The refusals that come before a first offset is looked for: 1 to 7, 11, 20, 15 and 19.
-ghost use Rattle.std.specs.Prelude.{◌≡◌, ◌+◌, ◌*◌, ◌≤◌};
+ghost use Rattle.std.specs.Prelude.{IsTrue, ◌↔◌, ◌≡◌, ◌+◌, ◌*◌, ◌≤◌};
 ghost use Rattle.basics.specs.Refusals.{Told};
-ghost use Rattle.basics.specs.Tells.{Tells};
 ghost use Rattle.table.specs.Layout.{leg_words, max_legs, Sized, stream_words, table_words};
-ghost use Rattle.shape.specs.Shape.{WellFormedTable};
 ghost use Rattle.admission.specs.Admits.{CanAdd, early_refusals};
-ghost use Rattle.admission.specs.Steps.{CanRise, MayAdd};
+ghost use Rattle.admission.specs.Steps.{CanRise};
 
 use crate::least::ANY_WORD;
-use basics::{Checked, Holds};
-use checker::accepted::NOT_ACCEPTED;
-use checker::cursors::{CANNOT_RISE, MAX_REVISION};
+use basics::{Cause, Refusal};
+use checker::cursors::MAX_REVISION;
 use enlarge::Wanted;
-use numbers::NO_ROOM;
-
-pub const CANNOT_ADD: u32 = 20;
 
 // How many words the table has with one stream of so many legs more.
 pub(crate) fn enlarged_words(t: &[u32], legs: usize) -> usize
@@ -26,63 +20,38 @@ pub(crate) fn enlarged_words(t: &[u32], legs: usize) -> usize
 }
 
 // Whether the stream breaks no limit and no shape: the table with it, its legs at offset 0, is laid into words of this function's own and judged.
-fn can_add_told(t: &[u32], w: Wanted, route: &[u32]) -> Holds
+fn can_add(t: &[u32], w: Wanted, route: &[u32]) -> bool
     requires { CanRise t.now }
-    ensures { Tells (CanAdd t.now w route.now) result }
+    ensures { IsTrue result ↔ CanAdd t.now w route.now }
 {
-    if table::MAX_STREAMS <= table::wide(t[table::STREAMS_AT]) {
-        return Holds::No;
+    if table::MAX_STREAMS <= t[table::STREAMS_AT] as usize {
+        return false;
     }
-    if table::MAX_LEGS - table::wide(t[table::LEGS_AT]) < route.len() {
-        return Holds::No;
+    if table::MAX_LEGS - (t[table::LEGS_AT] as usize) < route.len() {
+        return false;
     }
     let mut own = [ANY_WORD; table::MAX_TABLE_WORDS];
     enlarge::lay_at_zero(t, w, route, &mut own);
     let n = enlarged_words(t, route.len());
-    let told = shape::judged_shape(&own[..n]);
-    match told {
-        Checked::Clear => Holds::Yes,
-        Checked::Refused(_, _) => Holds::No,
-    }
+    shape::judged_shape(&own[..n]).is_ok()
 }
 
-// The refusals 15 and 19, or none.
-fn room_told(t: &[u32], w: Wanted, route: &[u32], room: usize) -> Checked
-    requires { MayAdd t.now w route.now }
+/// Internal: the first of these refusals that is due, or none.
+pub(crate) fn judged(t: &[u32], w: Wanted, route: &[u32], room: usize) -> Result<(), Refusal>
     ensures { Told (early_refusals t.now w route.now room) result }
 {
-    if room < enlarged_words(t, route.len()) {
-        return Checked::Refused(NO_ROOM, 0);
-    }
-    let told = checker::accepted::rules_told(t);
-    match told {
-        Holds::Yes => Checked::Clear,
-        Holds::No => Checked::Refused(NOT_ACCEPTED, 0),
-    }
-}
-
-// The refusals 11 and 20, and then those.
-fn stream_told(t: &[u32], w: Wanted, route: &[u32], room: usize) -> Checked
-    requires { WellFormedTable t.now }
-    ensures { Told (early_refusals t.now w route.now room) result }
-{
+    shape::judged_shape(t)?;
     if MAX_REVISION <= t[table::REVISION_AT] {
-        return Checked::Refused(CANNOT_RISE, 0);
+        return Err(Cause::CannotRise.at(0));
     }
-    let can = can_add_told(t, w, route);
-    match can {
-        Holds::Yes => room_told(t, w, route, room),
-        Holds::No => Checked::Refused(CANNOT_ADD, 0),
+    if !can_add(t, w, route) {
+        return Err(Cause::CannotAdd.at(0));
     }
-}
-
-// Internal: the first of these refusals that is due, or none.
-pub(crate) fn judged(t: &[u32], w: Wanted, route: &[u32], room: usize) -> Checked
-    ensures { Told (early_refusals t.now w route.now room) result }
-{
-    let told = shape::judged_shape(t);
-    match told {
-        Checked::Refused(number, at) => Checked::Refused(number, at),
-        Checked::Clear => stream_told(t, w, route, room),
+    if room < enlarged_words(t, route.len()) {
+        return Err(Cause::NoRoom.at(0));
     }
+    if !checker::accepted::rules_told(t) {
+        return Err(Cause::NotAccepted.at(0));
+    }
+    Ok(())
 }

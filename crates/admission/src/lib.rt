@@ -1,78 +1,75 @@
 // A slot for a new stream: the least first offset at which the table with one stream more is accepted. No old leg moves.
 #![tactic(auto)]
 
-ghost use Rattle.std.specs.Prelude.{◌<◌, length};
+ghost use Rattle.std.specs.Prelude.{◌<◌, length, Ok, Some};
 ghost use Rattle.offsets.specs.Search.{LeastFrom};
 ghost use Rattle.admission.specs.Admits.{Admits, AdmitsBetween, Fits, MayAdmit};
-ghost use Rattle.admission.specs.Steps.{Lesser};
 
-use basics::Checked;
+use basics::{Cause, Refusal};
 use enlarge::Wanted;
-use offsets::Searched;
+use std::marker::Model;
 
 mod conditions;
 mod early;
 mod least;
 
-pub const NO_OFFSET: u32 = 18;
-
-// What an admission gives: the first offset and how many words the enlarged table has; that none fits yet, where only a piece was looked through; or a refusal's
-// number and position.
-#[derive(Clone, Copy)]
-pub enum Admission {
-    Admitted(u32, usize),
-    NoneYet,
-    Refused(u32, usize),
+/// What an admission gives: the first offset, and how many words the enlarged table has.
+#[derive(Clone, Copy, Debug, PartialEq, Eq)]
+pub struct Admitted {
+    pub offset: u32,
+    pub words: usize,
 }
 
-fn lesser(a: u32, b: u32) -> u32
-    ensures { Lesser a b result }
-{
-    if a < b {
-        return a;
+// A stream that is wanted of an accepted table to which it can be added: its route is the numbers of its links, in order.
+#[derive(Drop)]
+struct Candidate<'p> {
+    table: &'p [u32],
+    wanted: Wanted,
+    route: &'p [u32],
+}
+
+impl<'p> Model for Candidate<'p> {
+    ghost use Rattle.admission.specs.Steps.{Asked, Ready};
+
+    ghost Value = { Asked };
+
+    ghost view = { λ c. record { table = c.table.now; wanted = c.wanted; route = c.route.now } };
+
+    ghost invariant = { λ c. Ready c.table.now c.wanted c.route.now };
+}
+
+impl<'p> Candidate<'p> {
+    // Writes the enlarged table for the first offset x, which is the least.
+    fn written(&self, from: u32, until: u32, x: u64, out: &mut [u32]) -> Admitted
+        requires may_admit { MayAdmit self.now.table self.now.wanted self.now.route (length out.old) }
+        requires least_from { LeastFrom (Fits self.now.table self.now.wanted self.now.route) self.now.wanted.period from x }
+        requires x_lt_until { x < until }
+        ensures { AdmitsBetween self.now.table self.now.wanted self.now.route from until out.old (Ok (Some result)) out.new }
+    {
+        let offset = x as u32;
+        enlarge::lay_from(self.table, self.wanted, self.route, offset, out);
+        Admitted {
+            offset,
+            words: early::enlarged_words(self.table, self.route.len()),
+        }
     }
-    b
-}
 
-// Writes the enlarged table for the first offset x, which is the least.
-fn written(
-    t: &[u32],
-    w: Wanted,
-    route: &[u32],
-    from: u32,
-    until: u32,
-    x: u64,
-    out: &mut [u32],
-) -> Admission
-    requires may_admit { MayAdmit t.now w route.now (length out.old) }
-    requires least_from { LeastFrom (Fits t.now w route.now) w.period from x }
-    requires x_lt_until { x < until }
-    ensures { AdmitsBetween t.now w route.now from until out.old result out.new }
-{
-    let offset = x as u32;
-    enlarge::lay_from(t, w, route, offset, out);
-    Admission::Admitted(offset, early::enlarged_words(t, route.len()))
-}
-
-// Looks for the first offset, and writes the enlarged table where one is found.
-fn looked(t: &[u32], w: Wanted, route: &[u32], from: u32, until: u32, out: &mut [u32]) -> Admission
-    requires { MayAdmit t.now w route.now (length out.old) }
-    ensures { AdmitsBetween t.now w route.now from until out.old result out.new }
-{
-    let limit = lesser(w.period, until);
-    let found = least::least(t, w, route, limit, from);
-    match found {
-        Searched::At(x) => written(t, w, route, from, until, x, out),
-        Searched::Nothing => {
-            if until < w.period {
-                return Admission::NoneYet;
-            }
-            Admission::Refused(NO_OFFSET, 0)
+    // Looks for the first offset, and writes the enlarged table where one is found.
+    fn looked(&self, from: u32, until: u32, out: &mut [u32]) -> Result<Option<Admitted>, Refusal>
+        requires { MayAdmit self.now.table self.now.wanted self.now.route (length out.old) }
+        ensures { AdmitsBetween self.now.table self.now.wanted self.now.route from until out.old result out.new }
+    {
+        let period = self.wanted.period;
+        match self.least(period.min(until), from) {
+            Some(x) => Ok(Some(self.written(from, until, x, out))),
+            None if until < period => Ok(None),
+            None => Err(Cause::NoOffset.at(0)),
         }
     }
 }
 
-// A piece of an admission: only the first offsets from `from` up to but without `until` are looked at.
+/// A piece of an admission: only the first offsets from `from` up to but without `until` are looked at. Ok(None): none of them fits yet, and the period goes on
+/// after them. Errors: 1 to 7, 11, 20, 15, 19 and 18, in this order.
 pub fn admit_between(
     t: &[u32],
     w: Wanted,
@@ -80,18 +77,25 @@ pub fn admit_between(
     from: u32,
     until: u32,
     out: &mut [u32],
-) -> Admission
+) -> Result<Option<Admitted>, Refusal>
     ensures { AdmitsBetween t.now w route.now from until out.old result out.new }
 {
-    let told = early::judged(t, w, route, out.len());
-    match told {
-        Checked::Refused(number, at) => Admission::Refused(number, at),
-        Checked::Clear => looked(t, w, route, from, until, out),
-    }
+    early::judged(t, w, route, out.len())?;
+    let candidate = Candidate {
+        table: t,
+        wanted: w,
+        route,
+    };
+    candidate.looked(from, until, out)
 }
 
-// Admits one stream to an accepted table: its least first offset, and in the lent words the table with it.
-pub fn admit(t: &[u32], w: Wanted, route: &[u32], out: &mut [u32]) -> Admission
+/// Admits one stream to an accepted table: its least first offset, and in the lent words the table with it. Never Ok(None). Errors: as admit_between.
+pub fn admit(
+    t: &[u32],
+    w: Wanted,
+    route: &[u32],
+    out: &mut [u32],
+) -> Result<Option<Admitted>, Refusal>
     ensures { Admits t.now w route.now out.old result out.new }
 {
     admit_between(t, w, route, 0, w.period, out)

@@ -56,14 +56,14 @@ pub record LayingFrom (t : List ℕ) (w : Wanted) (route : List ℕ) (x : ℕ) (
   pub laying : Laying b at (legs_from t w x route) (legs_from t w start (drop i route)) out next
 
 pub from_start : {t : List ℕ} {w : Wanted} {route : List ℕ} {x : ℕ} {b : List ℕ} {at period start : ℕ} → LegsRoom t route at (length b) → Sends t w route x
-    → (period ≡ w.period) × (period ≤ max_word) → (start ≡ x) × (start ≤ max_word) → LayingFrom t w route x b at period b start at 0
-from_start {t = t} {w = w} {route = route} {x = x} r s p q = record {
+    → period ≡ w.period → period ≤ max_word → start ≡ x → LayingFrom t w route x b at period b start at 0
+from_start {t = t} {w = w} {route = route} {x = x} r s p short q = record {
   within = omega arith;
   sends = s;
-  period_is = p.0;
-  short = p.1;
-  start_is = q.0 ∙ sym (start_first t w x route);
-  laying = rw q.0 (laying_start (omega (arith, r.room, from_length t w x route)));
+  period_is = p;
+  short = short;
+  start_is = q ∙ sym (start_first t w x route);
+  laying = rw q (laying_start (omega (arith, r.room, from_length t w x route)));
 }
 
 module _ {t : List ℕ} {w : Wanted} {route : List ℕ} {x : ℕ} {b : List ℕ} {at period : ℕ} {out : List ℕ} {start next i : ℕ}

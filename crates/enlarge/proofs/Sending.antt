@@ -4,7 +4,6 @@ use mathlib.Core.Path.{◌≡◌, ◌∙◌, ap, subst, sym}
 use mathlib.Core.List.{List}
 use native.Mathlib.Omega.{arith}
 use lib.ListN.{length}
-use Rattle.numbers.specs.Number.{max_word}
 use Rattle.table.specs.Layout.{link_words, precision_of}
 use Rattle.table.specs.Records.{link_part, link_in, link_at}
 use Rattle.table.specs.declared.Link.{Link}
@@ -15,10 +14,6 @@ use Rattle.rules.specs.Steps.{Timed}
 use Rattle.enlarge.specs.Steps.{Sendable, Sent}
 use Rattle.enlarge.specs.declared.Wanted.{Wanted}
 use Rattle.enlarge.proofs.NewLegs.{sent_on_is}
-
--- A word in more bits.
-abbrev Word : ℕ → ℕ → Type 0
-Word x r = (r ≡ x) × (r ≤ max_word)
 
 module _ {t links : List ℕ} {w : Wanted} {start l n : ℕ} (s : Sendable t w start l) (of : links ≡ link_part t) (names : n ≡ l) where
   pub link_lies : link_words * n + link_words ≤ length links
@@ -32,12 +27,11 @@ module _ {t links : List ℕ} {w : Wanted} {start l n : ℕ} (s : Sendable t w s
     link_small = subst LinkSmall (sym link_is) (s.table.link l s.link)
 
     -- The sum of what was read is the instant, and not much later.
-    pub sent : {wire propagation precision : ℕ} → Timed (wire_time w.octets link.rate) wire → Word link.propagation propagation → Word (precision_of t) precision
-        → Sent t w start l (start + wire + propagation + precision)
-    sent x y z =
+    pub sent : {wire : ℕ} → Timed (wire_time w.octets link.rate) wire → Sent t w start l (start + wire + link.propagation + precision_of t)
+    sent x =
         let a = x.same ∙ ap (λ (k : Link). wire_time w.octets k.rate) link_is in
-        let b = y.0 ∙ ap (λ (k : Link). k.propagation) link_is in
+        let b = ap (λ (k : Link). k.propagation) link_is in
         record {
-          same = omega (arith, sent_on_is t w start l, z.0);
-          near = omega (arith, x.to, y.0, z.0, link_small.propagation, s.table.sized.limits.precision);
+          same = omega (arith, sent_on_is t w start l);
+          near = omega (arith, x.to, link_small.propagation, s.table.sized.limits.precision);
         }

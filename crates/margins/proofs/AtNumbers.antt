@@ -18,16 +18,15 @@ use Rattle.rules.proofs.CasePlaces.{bounded_a}
 use Rattle.margins.specs.Asking.{CanAsk}
 use Rattle.margins.specs.Margins.{AskedMargin, MarginOf, Margins}
 use Rattle.margins.specs.Spares.{IsSpare}
-use Rattle.margins.specs.AtNumbers.{sides, turns, MarginsAtNumbers}
+use Rattle.margins.specs.AtNumbers.{sides, turns, at, MarginsAtNumbers}
 use Rattle.margins.specs.declared.Margin.{Margin}
 use Rattle.margins.specs.declared.Margin.TheVariants as margin
 use Rattle.margins.specs.declared.Spare.{Spare}
 use Rattle.margins.specs.declared.Spare.TheVariants as spare
-use Rattle.margins.specs.declared.MarginAnswer.TheVariants.{At}
 use Rattle.margins.proofs.Numbering.{overlap_turns}
 
 -- An answer of the place of what is asked.
-pub answered : (t : List ℕ) (a : ℕ) (q : Asked) (m : Margin) (s : Spare) → CanAsk t a (place_of q) → AskedMargin t a q m → IsSpare m s → Margins t a (place_of q) (At m s)
+pub answered : (t : List ℕ) (a : ℕ) (q : Asked) (m : Margin) (s : Spare) → CanAsk t a (place_of q) → AskedMargin t a q m → IsSpare m s → Margins t a (place_of q) (at m s)
 unfolding MarginOf
 answered t a q m s c is left = (c, subst (λ (z : Asked). AskedMargin t a z m) (sym (places_are_asked.there q)) is, left)
 
@@ -57,20 +56,20 @@ module _ (n : PlanNumbers) (b : Bounded n) where
   pub can : (a p : ℕ) → a < 3 → p < places_of a → CanAsk (plan_with n) a p
   can a p h l = record { shape = plans_are_well_formed n b.in_range; place = record { leg = h; place = l } }
 
-  window_1 : (s : Spare) → IsSpare (sides (n.offset_1 + h1 n) n.period_0) s → Margins (plan_with n) 1 0 (At (sides (n.offset_1 + h1 n) n.period_0) s)
+  window_1 : (s : Spare) → IsSpare (sides (n.offset_1 + h1 n) n.period_0) s → Margins (plan_with n) 1 0 (at (sides (n.offset_1 + h1 n) n.period_0) s)
   unfolding plan f1
   window_1 s left =
       let is = is_1 n b in
       answered (plan_with n) 1 asked.Window _ s (can 1 0 (omega arith) (omega arith)) (record { needs = omega (arith, is.offset, is.hold.same); has = is.period }) left
 
-  hop_1 : (s : Spare) → IsSpare (sides (n.offset_0 + 1176) n.offset_1) s → Margins (plan_with n) 1 1 (At (sides (n.offset_0 + 1176) n.offset_1) s)
+  hop_1 : (s : Spare) → IsSpare (sides (n.offset_0 + 1176) n.offset_1) s → Margins (plan_with n) 1 1 (at (sides (n.offset_0 + 1176) n.offset_1) s)
   unfolding plan f1
   hop_1 s left =
       let is = is_1 n b in
       answered (plan_with n) 1 asked.Hop _ s (can 1 1 (omega arith) (omega arith))
       (record { previous = 0; in_stream = omega (arith, is.first); next = refl; needs = (ready_0 n b).same; has = is.start }) left
 
-  deadline_1 : (s : Spare) → IsSpare (sides (r1 n) (n.deadline_0 + n.offset_0)) s → Margins (plan_with n) 1 2 (At (sides (r1 n) (n.deadline_0 + n.offset_0)) s)
+  deadline_1 : (s : Spare) → IsSpare (sides (r1 n) (n.deadline_0 + n.offset_0)) s → Margins (plan_with n) 1 2 (at (sides (r1 n) (n.deadline_0 + n.offset_0)) s)
   unfolding plan f0 f1
   deadline_1 s left =
       let is = is_1 n b in
@@ -79,21 +78,21 @@ module _ (n : PlanNumbers) (b : Bounded n) where
       answered (plan_with n) 1 asked.Deadline _ s (can 1 2 (omega arith) (omega arith))
       (record { last = is.end; needs = omega (arith, r.same); has = omega (arith, is.deadline, first.start, ap (start_of (plan_with n)) is.first) }) left
 
-  no_hop_0 : Margins (plan_with n) 0 1 (At margin.Free spare.Free)
+  no_hop_0 : Margins (plan_with n) 0 1 (at margin.Free spare.Free)
   unfolding plan f0
   no_hop_0 = answered (plan_with n) 0 asked.Hop margin.Free spare.Free (can 0 1 (omega arith) (omega arith)) (is_0 n b).first refl
 
-  no_deadline_0 : Margins (plan_with n) 0 2 (At margin.Free spare.Free)
+  no_deadline_0 : Margins (plan_with n) 0 2 (at margin.Free spare.Free)
   unfolding plan f0
   no_deadline_0 = answered (plan_with n) 0 asked.Deadline margin.Free spare.Free (can 0 2 (omega arith) (omega arith)) (λ e. omega (arith, e, (is_0 n b).end)) refl
 
-  other_link_21 : Margins (plan_with n) 2 4 (At margin.Free spare.Free)
+  other_link_21 : Margins (plan_with n) 2 4 (at margin.Free spare.Free)
   unfolding plan f1 f2
   other_link_21 =
       answered (plan_with n) 2 (asked.Overlap 1) margin.Free spare.Free (can 2 4 (omega arith) (omega arith)) (λ e. omega (arith, e, (is_1 n b).link, (is_2 n b).link)) refl
 
   overlap_20 : (r : ℕ) (s : Spare) → n.period_0 ≡ 100000 → n.period_1 ≡ 150000 → IsRemainder n.offset_2 n.offset_0 50000 r
-      → IsSpare (turns 50000 r (h2 n) (h0 n)) s → Margins (plan_with n) 2 3 (At (turns 50000 r (h2 n) (h0 n)) s)
+      → IsSpare (turns 50000 r (h2 n) (h0 n)) s → Margins (plan_with n) 2 3 (at (turns 50000 r (h2 n) (h0 n)) s)
   unfolding plan f0 f2
   overlap_20 r s p0 p1 rest left =
       answered (plan_with n) 2 (asked.Overlap 0) _ s (can 2 3 (omega arith) (omega arith))

@@ -5,7 +5,9 @@ use mathlib.Core.List.{List}
 use native.Mathlib.Nat.{dvd_antisymm}
 use native.Mathlib.Omega.{arith}
 use Rattle.basics.specs.Refusals.{OneFault}
-use Rattle.basics.proofs.Refusals.{unless_one, then_one, called_one}
+use Rattle.std.specs.Prelude.{Ok, Err}
+use Rattle.basics.specs.declared.Cause.TheVariants as cause
+use Rattle.basics.proofs.Refusals.{unless_one, then_one, called_one, same_refusal}
 use Rattle.table.specs.Layout.{leg_count}
 use Rattle.table.specs.Records.{leg_at}
 use Rattle.shape.specs.Legs.{stream_of, first_of, end_of}
@@ -22,7 +24,6 @@ use Rattle.rules.specs.declared.Asked.{Asked}
 use Rattle.rules.specs.declared.Asked.TheVariants as asked
 use Rattle.rules.proofs.Asking.{places_are_asked}
 use Rattle.rules.proofs.Gap.{holds_some}
-use Rattle.checker.specs.Cursors.{no_place}
 use Rattle.margins.specs.Asking.{ask_refusals}
 use Rattle.margins.specs.Margins.{WindowSides, HopSides, DeadlineSides, OverlapTurns, AskedMargin, MarginOf}
 use Rattle.margins.specs.Spares.{Kept, IsSpare}
@@ -31,7 +32,7 @@ use Rattle.margins.specs.declared.Sides.{Sides}
 use Rattle.margins.specs.declared.Turns.{Turns}
 use Rattle.margins.specs.declared.Margin.{Margin}
 use Rattle.margins.specs.declared.Margin.TheVariants as margin
-use Rattle.margins.specs.declared.MarginAnswer.TheVariants.{At, Refused}
+use Rattle.margins.specs.declared.At.{At}
 use Rattle.margins.proofs.SpareLaws.{spare_one_answer}
 
 pub period_some : (t : List ℕ) (a : ℕ) → WellFormedTable t → a < leg_count t → 1 ≤ (stream_of t a).period
@@ -155,18 +156,15 @@ asked_one t a (asked.Overlap b) (margin.Turns s) (margin.Sides s') x y = absurd 
 asked_one t a (asked.Overlap b) (margin.Turns s) (margin.Turns s') x y = one_turns t a b s s' x y
 
 pub ask_one : (t : List ℕ) (a p : ℕ) → OneFault (ask_refusals t a p)
-ask_one t a p = called_one (then_one (shape_one t) (unless_one no_place _)) (λ c. (c.shape, c.place))
+ask_one t a p = called_one (then_one (shape_one t) (unless_one cause.NoPlace _)) (λ c. (c.shape, c.place))
 
 pub margin_one_answer : MarginOneAnswer
 unfolding MarginOf
-margin_one_answer t a p (At m s) (At m' s') x y =
-    let e = asked_one t a (asked_at p) m m' x.1 y.1 in
-    let f = spare_one_answer m' s s' (subst (λ (z : Margin). IsSpare z s) e x.2) y.2 in
-    cc
-margin_one_answer t a p (At m s) (Refused k q) x f = absurd ((ask_one t a p).none x.0 f)
-margin_one_answer t a p (Refused k q) (At m s) f x = absurd ((ask_one t a p).none x.0 f)
-margin_one_answer t a p (Refused k q) (Refused l r) f g =
-    let i = (ask_one t a p).one f g in
-    let e = i.0 in
-    let h = i.1 in
-    cc
+margin_one_answer t a p (Ok r) (Ok r') x y =
+    let e : r.margin ≡ r'.margin = asked_one t a (asked_at p) r.margin r'.margin x.1 y.1 in
+    let f : r.spare ≡ r'.spare = spare_one_answer r'.margin r.spare r'.spare (subst (λ (z : Margin). IsSpare z r.spare) e x.2) y.2 in
+    let g : ◌≡◌ {A = At} (record { margin = r.margin; spare = r.spare }) (record { margin = r'.margin; spare = r'.spare }) = cc in
+    ap Ok g
+margin_one_answer t a p (Ok r) (Err e) x f = absurd ((ask_one t a p).none x.0 f)
+margin_one_answer t a p (Err e) (Ok r) f x = absurd ((ask_one t a p).none x.0 f)
+margin_one_answer t a p (Err e) (Err h) f g = let i = (ask_one t a p).one f g in same_refusal i.0 i.1

@@ -3,26 +3,22 @@ use Prim.Native.Nat.{ℕ, ◌+◌, ◌≤◌, ◌<◌}
 use mathlib.Core.Path.{◌≡◌, ◌∙◌, sym, ap, subst}
 use mathlib.Core.List.{List}
 use native.Mathlib.Omega.{arith}
-use Rattle.basics.specs.Refusals.{Told}
-use Rattle.basics.specs.declared.Checked.{Checked}
-use Rattle.basics.specs.declared.Checked.TheVariants as checked
 use Rattle.numbers.specs.Number.{max_word}
 use Rattle.shape.proofs.Placed.{well_formed_guarantees}
 use Rattle.overlap.specs.Divisor.{IsGcd, IsRemainder}
 use Rattle.overlap.proofs.Euclid.{gcd_positive}
 use Rattle.rules.specs.Times.{start_of}
-use Rattle.rules.specs.Places.{asked_at, AskedOf}
+use Rattle.rules.specs.Places.{asked_at}
 use Rattle.rules.specs.Steps.{LegIn, FrameOf, ReadyOf}
 use Rattle.rules.specs.declared.Asked.{Asked}
 use Rattle.rules.specs.declared.Asked.TheVariants as asked
 use Rattle.rules.specs.declared.Frame.{Frame}
-use Rattle.rules.proofs.Asking.{places_are_asked}
-use Rattle.margins.specs.Asking.{CanAsk, ask_refusals}
-use Rattle.margins.specs.Margins.{MarginOf, Margins}
-use Rattle.margins.specs.Steps.{AskedTold, MarginTold}
+use Rattle.margins.specs.Asking.{CanAsk}
+use Rattle.margins.specs.Margins.{MarginOf}
+use Rattle.margins.specs.Moving.{Moving}
+use Rattle.margins.specs.Steps.{AskedTold, MarginTold, LegThere}
 use Rattle.margins.specs.declared.Margin.{Margin}
 use Rattle.margins.specs.declared.Margin.TheVariants as margin
-use Rattle.margins.specs.declared.MarginAnswer.{MarginAnswer}
 
 pub first_is_free : (t : List ℕ) (a : ℕ) (f : Frame) → LegIn t a → FrameOf t a f → a ≤ f.first → AskedTold t a asked.Hop margin.Free
 first_is_free t a f l is le = record { numbers = omega (arith, is.first, (l.table.leg a l.leg).from_first); turn = tt }
@@ -65,23 +61,18 @@ overlap_turns t a b g r f o is so same gcd rest = record {
   turn = rest.below;
 }
 
--- A place that can be asked of is one of a leg, and what is asked there is asked of that leg.
+-- A place that can be asked of is one of a leg.
 pub asked_leg : (t : List ℕ) (a p : ℕ) → CanAsk t a p → LegIn t a
 asked_leg t a p c = record { table = well_formed_guarantees t c.shape; leg = c.place.leg }
 
-pub asked_there : (t : List ℕ) (a p : ℕ) (q : Asked) → CanAsk t a p → q ≡ asked_at p → AskedOf a q
-asked_there t a p q c e = subst (AskedOf a) (sym e) (places_are_asked.asked a p c.place.place)
+pub leg_there : {t : List ℕ} {a : ℕ} → LegThere t a → LegIn t a
+leg_there {t} h = record { table = well_formed_guarantees t h.shape; leg = h.leg }
+
+pub there_moving : {t : List ℕ} {a : ℕ} {f : Frame} → LegThere t a → FrameOf t a f → Moving t a f
+there_moving h is = record { shape = h.shape; leg = leg_there h; frame = is }
 
 pub told_there : (t : List ℕ) (a p : ℕ) (q : Asked) (m : Margin) → q ≡ asked_at p → AskedTold t a q m → MarginTold t a p m
 unfolding MarginOf
 told_there t a p q m e told =
     let there : AskedTold t a (asked_at p) m = subst (λ (z : Asked). AskedTold t a z m) e told in
     record { numbers = there.numbers; turn = there.turn }
-
--- The words of a call in more bits.
-module _ (t : List ℕ) (leg place a p : ℕ) (same-leg : a ≡ leg) (same_place : p ≡ place) where
-  pub wide_can : (r : Checked) → r ≡ checked.Clear → Told (ask_refusals t leg place) r → CanAsk t a p
-  wide_can r is told = rw (same-leg, same_place) (subst (Told (ask_refusals t leg place)) is told)
-
-  pub wide_told : (r : MarginAnswer) → Margins t a p r → Margins t leg place r
-  wide_told r told = subst (λ (z : ℕ). Margins t leg z r) same_place (subst (λ (z : ℕ). Margins t z p r) same-leg told)

@@ -4,6 +4,7 @@ use mathlib.Core.Path.{◌≡◌, ◌∙◌, sym, ap}
 use mathlib.Core.List.{List}
 use native.Mathlib.Nat.{mod-eq_of_lt}
 use native.Mathlib.Omega.{arith}
+use Rattle.std.specs.Prelude.{min}
 use Rattle.numbers.specs.Number.{max_word}
 use Rattle.shape.specs.Legs.{first_of, end_of}
 use Rattle.overlap.specs.Meeting.{NeverMeet}
@@ -16,8 +17,8 @@ use Rattle.rules.specs.Steps.{FrameOf, ReadyOf}
 use Rattle.rules.specs.declared.Asked.{Asked}
 use Rattle.rules.specs.declared.Asked.TheVariants as asked
 use Rattle.rules.specs.declared.Frame.{Frame}
-use Rattle.margins.specs.Ranges.{Among, Between, InWindow, LateFrom, Moving, RangeFor, StandsAt, TurnedFrom}
-use Rattle.margins.specs.Steps.{LesserOf}
+use Rattle.margins.specs.Moving.{Moving}
+use Rattle.margins.specs.Ranges.{Among, Between, InWindow, LateFrom, RangeFor, StandsAt, TurnedFrom}
 use Rattle.margins.specs.declared.Range.{Range}
 use Rattle.margins.proofs.Standing.{starts_late, window_to, window_from, hop_first, hop_to, hop_from, deadline_not_last, deadline_to, deadline_from, deadline_only_to, deadline_only_from, other_links, overlap_to, overlap_from, slot_at}
 
@@ -96,19 +97,18 @@ module _ (t : List ℕ) (a : ℕ) (f : Frame) (m : Moving t a f) where
   is_last : f.end ≤ a + 1 → a + 1 ≡ end_of t a
   is_last last = omega (arith, m.frame.end, (m.leg.table.leg a m.leg.leg).to_last)
 
-  pub due_range : (late windows end : ℕ) (r : Range) → f.end ≤ a + 1 → f.first < a → LateFrom t a late → windows ≡ f.period + 1 - f.hold → LesserOf windows late end
+  pub due_range : (late windows end : ℕ) (r : Range) → f.end ≤ a + 1 → f.first < a → LateFrom t a late → windows ≡ f.period + 1 - f.hold → end ≡ min windows late
       → RangeFor (Between 0 end) r → RangeFor (StandsAt t a asked.Deadline) r
-  due_range late windows end r last many from is-windows least =
+  due_range late windows end r last many from is-windows is-end =
       let other : first_of t a < a = omega (arith, m.frame.first) in
       in_words _ _ r
       (λ x h. record {
-        window = (to_window x (omega (arith, h.below, least.first))).window;
-        asked = deadline_to t a m.shape m.leg.leg x other (from.in_time x (omega (arith, h.below, least.second)));
+        window = (to_window x (omega (arith, h.below))).window;
+        asked = deadline_to t a m.shape m.leg.leg x other (from.in_time x (omega (arith, h.below)));
       })
       (λ x h.
       let d = from.before x (deadline_from t a m.shape m.leg.leg x other (is_last last) h.asked) in
       let v = from_window x (record { window = h.window }) in
-      let i = least.most (x + 1) (omega arith) (omega arith) in
       record { above = omega arith; below = omega arith })
 
   module _ (n : ℕ) (r : Range) (last : f.end ≤ a + 1) (at : ReadyOf t a n) (only : a ≤ f.first) where

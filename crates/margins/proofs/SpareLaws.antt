@@ -1,28 +1,12 @@
--- What is to spare of two legs that take turns, and that it is one. Assumes nothing.
-use Prim.Native.Nat.{ℕ, ◌+◌, ◌-◌, ◌≤◌, ◌<◌}
+-- What is to spare, and that it is one. Assumes nothing.
+use Prim.Native.Nat.{ℕ, ◌+◌}
 use mathlib.Core.Path.{◌≡◌, refl, sym, ap, subst}
 use native.Mathlib.Omega.{arith}
-use Rattle.margins.specs.Spares.{Kept, KeptWith, IsSpare, IsLeft}
-use Rattle.margins.specs.Steps.{LesserOf, GreaterOf}
+use Rattle.margins.specs.Spares.{Kept, KeptWith, IsLeft}
 use Rattle.margins.specs.Theorems.{SparesDecide, SpareOneAnswer}
-use Rattle.margins.specs.declared.Turns.{Turns}
 use Rattle.margins.specs.declared.Margin.{Margin}
 use Rattle.margins.specs.declared.Margin.TheVariants as margin
 use Rattle.margins.specs.declared.Spare.TheVariants as spare
-
-module _ (s : Turns) (x y n : ℕ) (below : s.after < s.divisor) (first : x ≡ s.hold - s.after) (second : y ≡ s.other - (s.divisor - s.after)) (most : GreaterOf x y n) where
-  pub turns_lack : 0 < n → IsSpare (margin.Turns s) (spare.Lacks n)
-  turns_lack some = record {
-    broken = λ k. let zero = most.least 0 (omega (arith, k.0)) (omega (arith, k.1)) in omega arith;
-    enough = (omega (arith, most.first), omega (arith, most.second));
-    least = λ k h. most.least k (omega (arith, h.0)) (omega (arith, h.1));
-  }
-
-  pub turns_left : n ≤ 0 → (k : ℕ) → LesserOf (s.after - s.hold) (s.divisor - s.after - s.other) k → IsSpare (margin.Turns s) (spare.Left k)
-  turns_left none k least = record {
-    kept = (omega (arith, most.first, least.first), omega (arith, most.second, least.second));
-    most = λ j h. least.most j (omega (arith, h.0)) (omega (arith, h.1));
-  }
 
 kept_with : (m : Margin) (n : ℕ) → KeptWith m n → Kept m
 kept_with margin.Free n k = tt

@@ -4,23 +4,23 @@ use mathlib.Core.Path.{◌≡◌, ◌∙◌, sym, ap}
 use mathlib.Core.Logic.{◌⊎◌, inl, inr, ⊎_elim}
 use native.Mathlib.Nat.{mod-add-mod, mod-eq_of_lt, mod-eq-sub-mod, mod-lt}
 use native.Mathlib.Omega.{arith}
+use Rattle.std.specs.Prelude.{max}
 use Rattle.basics.proofs.Splits.{lt_or_ge}
 use Rattle.offsets.specs.Conditions.{Allows, Sound}
 use Rattle.offsets.specs.declared.Condition.{Condition}
 use Rattle.margins.specs.Ranges.{Ahead, Behind, RestOf, Turning, TurnedFrom, rest}
-use Rattle.margins.specs.Steps.{GreaterOf}
 
 -- A remainder that is at least 1 away from the modulus is just that far from it: no remainder is the modulus.
-pub turned : (q : Condition) (after : ℕ) → Sound q → GreaterOf q.after 1 after
+pub turned : (q : Condition) (after : ℕ) → Sound q → after ≡ max q.after 1
     → TurnedFrom q (record { modulus = q.modulus; shift = q.shift; before = q.before; after = after })
-turned q after s most = record {
+turned q after s is = record {
   turning = record {
-    sound = record { some = s.some; modulus = s.modulus; shift = s.shift; before = s.before; after = most.least _ s.after (omega arith) };
-    some = most.second;
+    sound = record { some = s.some; modulus = s.modulus; shift = s.shift; before = s.before; after = omega (arith, s.after) };
+    some = omega arith;
   };
-  to = λ x k. record { apart = record { first = k.apart.first; second = omega (arith, k.apart.second, most.first) } };
+  to = λ x k. record { apart = record { first = k.apart.first; second = omega (arith, k.apart.second) } };
   from = λ x k. let l = mod-lt (x + q.shift) s.some in record {
-    apart = record { first = k.apart.first; second = let le = most.least (q.modulus - rest q x) (omega (arith, k.apart.second)) (omega arith) in omega arith };
+    apart = record { first = k.apart.first; second = omega (arith, k.apart.second) };
   };
 }
 
@@ -49,22 +49,6 @@ module _ (q : Condition) (t : Turning q) where
     on : (w z : ℕ) → w < q.modulus → x ≤ z → z ≤ x + w → (r + (z - x) ≡ rest q z) ⊎ (r + (z - x) ≡ rest q z + q.modulus)
     on w z near from to = rw of.same (steps x z from (omega arith))
 
-    -- Too early: up to `before`.
-    pub ahead_early : r < q.before → Ahead q x (q.before - r)
-    ahead_early early =
-        let w = q.before - r in
-        let some = t.some in
-        record {
-          small = omega (arith, t.sound.before);
-          there =
-              let l = below (x + w) in
-              let s = on w (x + w) (omega arith) (omega arith) (omega arith) in
-              allow (x + w) (⊎_elim (λ e. omega arith) (λ e. omega arith) s) (⊎_elim (λ e. omega arith) (λ e. omega arith) s);
-          none = λ z from to a.
-              let l = below z in
-              ⊎_elim (λ e. omega (arith, a.apart.first)) (λ e. omega (arith, a.apart.first)) (on w z (omega arith) from (omega arith));
-        }
-
     -- Too late: round to 0, and then up to `before`.
     pub ahead_late : q.modulus - r < q.after → Ahead q x (q.modulus - r + q.before)
     ahead_late late =
@@ -80,14 +64,6 @@ module _ (q : Condition) (t : Turning q) where
               let l = below z in
               ⊎_elim (λ e. omega (arith, a.apart.second)) (λ e. omega (arith, a.apart.first)) (on w z (omega arith) from (omega arith));
         }
-
-    here_allowed : q.before ≤ r → q.after ≤ q.modulus - r → Allows q x
-    here_allowed first second = let l = below x in allow x (omega arith) (omega arith)
-
-    pub ahead_here : q.before ≤ r → q.after ≤ q.modulus - r → Ahead q x 0
-    ahead_here first second =
-        let z : x ≡ x + 0 = omega arith in
-        record { small = omega arith; there = rw (sym z) (here_allowed first second); none = λ y from to a. omega arith }
 
     -- Back from x: the remainder of a number at most so far back.
     off : (w z : ℕ) → w < q.modulus → z ≤ x → x ≤ z + w → (rest q z + (x - z) ≡ r) ⊎ (rest q z + (x - z) ≡ r + q.modulus)
@@ -124,10 +100,3 @@ module _ (q : Condition) (t : Turning q) where
               let l = below z in
               ⊎_elim (λ e. omega (arith, a.apart.second)) (λ e. omega (arith, a.apart.second)) (off w z (omega arith) to (omega arith));
         }
-
-    pub back_here : q.before ≤ r → q.after ≤ q.modulus - r → Behind q x 0
-    back_here first second = record {
-      small = omega arith;
-      there = λ z there. let e : x ≡ z = omega arith in rw (sym e) (here_allowed first second);
-      none = λ z to from a. omega arith;
-    }

@@ -2,6 +2,7 @@ pub mod Asking
 pub mod Spares
 pub mod Margins
 pub mod Nearest
+pub mod Moving
 pub mod Ranges
 pub mod Steps
 pub mod Theorems

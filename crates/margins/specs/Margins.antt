@@ -1,5 +1,6 @@
 -- The numbers of a rule at a place: what it needs and what it has.
-use Rattle.std.specs.Prelude.{ℕ, ◌+◌, ◌≤◌, ◌≡◌, List}
+use Rattle.std.specs.Prelude.{ℕ, ◌+◌, ◌≤◌, ◌≡◌, List, Result, Ok, Err}
+use Rattle.basics.specs.declared.Refusal.{Refusal}
 use Rattle.table.specs.Records.{leg_at}
 use Rattle.shape.specs.Legs.{stream_of, first_of, end_of}
 use Rattle.overlap.specs.Divisor.{IsGcd, IsRemainder}
@@ -13,8 +14,7 @@ use Rattle.margins.specs.declared.Sides.{Sides}
 use Rattle.margins.specs.declared.Turns.{Turns}
 use Rattle.margins.specs.declared.Margin.{Margin}
 use Rattle.margins.specs.declared.Margin.TheVariants as margin
-use Rattle.margins.specs.declared.MarginAnswer.{MarginAnswer}
-use Rattle.margins.specs.declared.MarginAnswer.TheVariants.{At, Refused}
+use Rattle.margins.specs.declared.At.{At}
 
 -- Window: a leg needs its offset and its hold time, and has its period.
 pub record WindowSides (t : List ℕ) (a : ℕ) (s : Sides) : Type 0 where
@@ -64,6 +64,6 @@ unfoldable pub MarginOf : List ℕ → ℕ → ℕ → Margin → Type 0
 MarginOf t a p m = AskedMargin t a (asked_at p) m
 
 -- What is answered of place (a,p) of table t: the numbers of its rule, and by how much it is kept or missed.
-abbrev pub Margins : List ℕ → ℕ → ℕ → MarginAnswer → Type 0
-Margins t a p (At m s) = CanAsk t a p × MarginOf t a p m × IsSpare m s
-Margins t a p (Refused k q) = (ask_refusals t a p).Fault k q
+abbrev pub Margins : List ℕ → ℕ → ℕ → Result At Refusal → Type 0
+Margins t a p (Ok r) = CanAsk t a p × MarginOf t a p r.margin × IsSpare r.margin r.spare
+Margins t a p (Err e) = (ask_refusals t a p).Fault e.cause e.at

@@ -1,15 +1,12 @@
 -- The nearest offsets of a leg, below and above its own, with which it keeps its window and one place of it holds.
-use Rattle.std.specs.Prelude.{ℕ, ◌<◌, List}
+use Rattle.std.specs.Prelude.{ℕ, ◌<◌, List, Option, Some, None, Result, Ok, Err}
+use Rattle.basics.specs.declared.Refusal.{Refusal}
 use Rattle.table.specs.Records.{leg_at, moved, move_to}
 use Rattle.rules.specs.Times.{offset_of}
 use Rattle.rules.specs.Rules.{Window}
 use Rattle.rules.specs.Places.{PlaceHolds}
 use Rattle.margins.specs.Asking.{CanAsk, ask_refusals}
 use Rattle.margins.specs.declared.Nearest.{Nearest}
-use Rattle.margins.specs.declared.Offset.{Offset}
-use Rattle.margins.specs.declared.Offset.TheVariants as offset
-use Rattle.margins.specs.declared.NearestAnswer.{NearestAnswer}
-use Rattle.margins.specs.declared.NearestAnswer.TheVariants.{At, Refused}
 
 -- Table t with leg a at offset x, its period word as it is.
 abbrev pub with_offset : List ℕ → ℕ → ℕ → List ℕ
@@ -39,13 +36,13 @@ abbrev pub NearestAbove : List ℕ → ℕ → ℕ → ℕ → Type 0
 NearestAbove t a p x = FirstAbove (Stands t a p) (offset_of t a) x
 
 -- That number, or that no number below y, or above y, has P.
-abbrev pub IsBelow : (ℕ → Type 0) → ℕ → Offset → Type 0
-IsBelow P y (offset.At x) = LastBelow P y x
-IsBelow P y offset.None = (z : ℕ) → z < y → P z → ⊥
+abbrev pub IsBelow : (ℕ → Type 0) → ℕ → Option ℕ → Type 0
+IsBelow P y (Some x) = LastBelow P y x
+IsBelow P y None = (z : ℕ) → z < y → P z → ⊥
 
-abbrev pub IsAbove : (ℕ → Type 0) → ℕ → Offset → Type 0
-IsAbove P y (offset.At x) = FirstAbove P y x
-IsAbove P y offset.None = (z : ℕ) → y < z → P z → ⊥
+abbrev pub IsAbove : (ℕ → Type 0) → ℕ → Option ℕ → Type 0
+IsAbove P y (Some x) = FirstAbove P y x
+IsAbove P y None = (z : ℕ) → y < z → P z → ⊥
 
 -- The two offsets of place p of leg a.
 pub record NearestOf (t : List ℕ) (a p : ℕ) (n : Nearest) : Type 0 where
@@ -53,6 +50,6 @@ pub record NearestOf (t : List ℕ) (a p : ℕ) (n : Nearest) : Type 0 where
   pub above : IsAbove (Stands t a p) (offset_of t a) n.above
 
 -- What is answered of place (a,p) of table t.
-abbrev pub Nears : List ℕ → ℕ → ℕ → NearestAnswer → Type 0
-Nears t a p (At n) = CanAsk t a p × NearestOf t a p n
-Nears t a p (Refused k q) = (ask_refusals t a p).Fault k q
+abbrev pub Nears : List ℕ → ℕ → ℕ → Result Nearest Refusal → Type 0
+Nears t a p (Ok n) = CanAsk t a p × NearestOf t a p n
+Nears t a p (Err e) = (ask_refusals t a p).Fault e.cause e.at

@@ -2,16 +2,13 @@
 use Rattle.std.specs.Prelude.{ℕ, ◌+◌, ◌%◌, ◌≤◌, ◌<◌, ◌≡◌, List}
 use Rattle.numbers.specs.Number.{max_word}
 use Rattle.shape.specs.Legs.{stream_of, first_of}
-use Rattle.shape.specs.Shape.{WellFormedTable}
 use Rattle.offsets.specs.Conditions.{Allows, Sound}
 use Rattle.offsets.specs.Search.{NoneFrom}
 use Rattle.offsets.specs.declared.Condition.{Condition}
 use Rattle.rules.specs.Times.{max_ready, offset_of, start_of, ready_of}
 use Rattle.rules.specs.Rules.{Window}
 use Rattle.rules.specs.Places.{AskedHolds}
-use Rattle.rules.specs.Steps.{LegIn, FrameOf}
 use Rattle.rules.specs.declared.Asked.{Asked}
-use Rattle.rules.specs.declared.Frame.{Frame}
 use Rattle.margins.specs.Nearest.{with_offset}
 use Rattle.margins.specs.declared.Range.{Range}
 
@@ -70,12 +67,6 @@ pub record Behind (q : Condition) (x w : ℕ) : Type 0 where
   pub small : w ≤ max_word
   pub there : (z : ℕ) → z + w ≡ x → Allows q z
   pub none : (z : ℕ) → z ≤ x → x < z + w → Allows q z → ⊥
-
--- Leg a of a well-formed table, with its frame.
-pub record Moving (t : List ℕ) (a : ℕ) (f : Frame) : Type 0 where
-  pub shape : WellFormedTable t
-  pub leg : LegIn t a
-  pub frame : FrameOf t a f
 
 -- From offset r on leg a is late: it is then ready after its deadline, counted from the first leg of its stream, where that is another.
 pub record LateFrom (t : List ℕ) (a r : ℕ) : Type 0 where

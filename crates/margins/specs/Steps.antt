@@ -1,6 +1,9 @@
 -- What the inner functions of this crate tell.
-use Rattle.std.specs.Prelude.{ℕ, ◌≤◌, List}
+use Rattle.std.specs.Prelude.{ℕ, ◌<◌, ◌≡◌, List}
+use Rattle.table.specs.Layout.{leg_count}
+use Rattle.shape.specs.Shape.{WellFormedTable}
 use Rattle.rules.specs.declared.Asked.{Asked}
+use Rattle.margins.specs.Moving.{LegSeen}
 use Rattle.margins.specs.Margins.{AskedMargin, MarginOf}
 use Rattle.margins.specs.Spares.{LessThanATurn}
 use Rattle.margins.specs.declared.Margin.{Margin}
@@ -14,13 +17,11 @@ pub record MarginTold (t : List ℕ) (a p : ℕ) (m : Margin) : Type 0 where
   pub numbers : MarginOf t a p m
   pub turn : LessThanATurn m
 
--- The lesser and the greater of two numbers.
-pub record LesserOf (x y r : ℕ) : Type 0 where
-  pub first : r ≤ x
-  pub second : r ≤ y
-  pub most : (k : ℕ) → k ≤ x → k ≤ y → k ≤ r
+-- Leg a of a well-formed table is there, and is what is seen.
+pub record LegThere (t : List ℕ) (a : ℕ) : Type 0 where
+  pub shape : WellFormedTable t
+  pub leg : a < leg_count t
 
-pub record GreaterOf (x y r : ℕ) : Type 0 where
-  pub first : x ≤ r
-  pub second : y ≤ r
-  pub least : (k : ℕ) → x ≤ k → y ≤ k → r ≤ k
+pub record IsLeg (t : List ℕ) (a : ℕ) (l : LegSeen) : Type 0 where
+  pub table : l.table ≡ t
+  pub at : l.at ≡ a

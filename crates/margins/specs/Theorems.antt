@@ -1,5 +1,6 @@
 -- What is proved of margins and of the nearest offsets.
-use Rattle.std.specs.Prelude.{ℕ, ◌≡◌, List}
+use Rattle.std.specs.Prelude.{ℕ, ◌≡◌, List, Result}
+use Rattle.basics.specs.declared.Refusal.{Refusal}
 use Rattle.rules.specs.Places.{PlaceHolds}
 use Rattle.margins.specs.Asking.{CanAsk}
 use Rattle.margins.specs.Margins.{MarginOf, Margins}
@@ -8,8 +9,8 @@ use Rattle.margins.specs.Spares.{Kept, IsSpare}
 use Rattle.margins.specs.declared.Margin.{Margin}
 use Rattle.margins.specs.declared.Spare.{Spare}
 use Rattle.margins.specs.declared.Spare.TheVariants as spare
-use Rattle.margins.specs.declared.MarginAnswer.{MarginAnswer}
-use Rattle.margins.specs.declared.NearestAnswer.{NearestAnswer}
+use Rattle.margins.specs.declared.At.{At}
+use Rattle.margins.specs.declared.Nearest.{Nearest}
 
 -- The numbers decide: a place holds exactly where its numbers keep the rule.
 abbrev pub MarginsDecide : Type 0
@@ -26,7 +27,7 @@ abbrev pub SpareOneAnswer : Type 0
 SpareOneAnswer = (m : Margin) (s s' : Spare) → IsSpare m s → IsSpare m s' → s ≡ s'
 
 abbrev pub MarginOneAnswer : Type 0
-MarginOneAnswer = (t : List ℕ) (a p : ℕ) (r r' : MarginAnswer) → Margins t a p r → Margins t a p r' → r ≡ r'
+MarginOneAnswer = (t : List ℕ) (a p : ℕ) (r r' : Result At Refusal) → Margins t a p r → Margins t a p r' → r ≡ r'
 
 abbrev pub NearestOneAnswer : Type 0
-NearestOneAnswer = (t : List ℕ) (a p : ℕ) (r r' : NearestAnswer) → Nears t a p r → Nears t a p r' → r ≡ r'
+NearestOneAnswer = (t : List ℕ) (a p : ℕ) (r r' : Result Nearest Refusal) → Nears t a p r → Nears t a p r' → r ≡ r'

@@ -6,9 +6,10 @@ ghost use Rattle.rules.specs.Times.{max_ready};
 ghost use Rattle.rules.specs.Places.{AskedOf};
 ghost use Rattle.rules.specs.Steps.{FrameOf};
 ghost use Rattle.rules.specs.declared.Asked.TheVariants as asked;
-ghost use Rattle.margins.specs.Ranges.{Among, Between, InWindow, LateFrom, Moving, RangeFor, StandsAt};
+ghost use Rattle.margins.specs.Moving.{Moving};
+ghost use Rattle.margins.specs.Ranges.{Among, Between, InWindow, LateFrom, RangeFor, StandsAt};
 
-use crate::{Range, sparing, turning};
+use crate::{Leg, Range, turning};
 use offsets::Condition;
 use overlap::Slot;
 use rules::{Asked, Frame};
@@ -34,128 +35,124 @@ fn between(from: u64, end: u64) -> Range
     among(from, end, offsets::free_condition())
 }
 
-// The first offset with which a leg does not keep its window.
-fn window_end(t: &[u32], a: usize, f: Frame) -> u64
-    requires { Moving t.now a f }
-    ensures { (result ≡ f.period + 1 - f.hold) × (result ≤ max_word) }
-{
-    sparing::over(f.period + 1, f.hold)
-}
-
-// All offsets with which a leg keeps its window.
-fn whole(t: &[u32], a: usize, f: Frame) -> Range
-    requires { Moving t.now a f }
-    ensures { RangeFor (InWindow t.now a) result }
-{
-    between(0, window_end(t, a, f))
-}
-
-fn window(t: &[u32], a: usize, f: Frame) -> Range
-    requires { Moving t.now a f }
-    ensures { RangeFor (StandsAt t.now a asked.Window) result }
-{
-    whole(t, a, f)
-}
-
-fn hop(t: &[u32], a: usize, f: Frame) -> Range
-    requires { Moving t.now a f }
-    ensures { RangeFor (StandsAt t.now a asked.Hop) result }
-{
-    if a <= f.first {
-        return whole(t, a, f);
+impl<'p> Leg<'p> {
+    // The first offset with which it does not keep its window.
+    fn window_end(&self) -> u64
+        ensures end { (result ≡ self.now.frame.period + 1 - self.now.frame.hold) × (result ≤ max_word) }
+        ensures moving { Moving self.now.table self.now.at self.now.frame }
+    {
+        (self.frame.period + 1).saturating_sub(self.frame.hold)
     }
-    let b = a - 1;
-    let needs = rules::judge::ready(t, b, rules::times::frame(t, b));
-    between(
-        sparing::over(needs, f.start - f.offset),
-        window_end(t, a, f),
-    )
-}
 
-// The first offset with which a leg is late, where its deadline counts from another one.
-fn late_from(t: &[u32], a: usize, f: Frame) -> u64
-    requires { Moving t.now a f }
-    ensures { LateFrom t.now a result }
-{
-    let first = rules::times::frame(t, f.first);
-    let needs = rules::judge::ready(t, a, f) - f.offset;
-    sparing::over(f.deadline + first.start + 1, needs)
-}
-
-// The deadline of the last leg of a stream that has others: it counts from the first.
-fn due(t: &[u32], a: usize, f: Frame) -> Range
-    requires moving { Moving t.now a f }
-    requires end_bound { (f.end ≤ a + 1) × (f.first < a) }
-    ensures { RangeFor (StandsAt t.now a asked.Deadline) result }
-{
-    between(0, sparing::lesser(window_end(t, a, f), late_from(t, a, f)))
-}
-
-// The deadline of the only leg of a stream: its offset changes nothing.
-fn due_alone(t: &[u32], a: usize, f: Frame) -> Range
-    requires moving { Moving t.now a f }
-    requires end_bound { (f.end ≤ a + 1) × (a ≤ f.first) }
-    ensures { RangeFor (StandsAt t.now a asked.Deadline) result }
-{
-    if f.deadline + f.start < rules::judge::ready(t, a, f) {
-        return between(0, 0);
+    // All offsets with which it keeps its window.
+    fn whole_range(&self) -> Range
+        ensures range { RangeFor (InWindow self.now.table self.now.at) result }
+        ensures moving { Moving self.now.table self.now.at self.now.frame }
+    {
+        between(0, self.window_end())
     }
-    whole(t, a, f)
-}
 
-fn deadline(t: &[u32], a: usize, f: Frame) -> Range
-    requires { Moving t.now a f }
-    ensures { RangeFor (StandsAt t.now a asked.Deadline) result }
-{
-    if a + 1 < f.end {
-        return whole(t, a, f);
+    fn window_range(&self) -> Range
+        ensures { RangeFor (StandsAt self.now.table self.now.at asked.Window) result }
+    {
+        self.whole_range()
     }
-    if f.first < a {
-        return due(t, a, f);
+
+    fn hop_range(&self) -> Range
+        ensures { RangeFor (StandsAt self.now.table self.now.at asked.Hop) result }
+    {
+        let f = self.frame;
+        if self.at <= f.first {
+            return self.whole_range();
+        }
+        let b = self.at - 1;
+        let needs = rules::judge::ready(self.table, b, rules::times::frame(self.table, b));
+        let from = needs.saturating_sub(f.start - f.offset);
+        between(from, self.window_end())
     }
-    due_alone(t, a, f)
-}
 
-// The overlap with a leg b of the same link.
-fn apart(t: &[u32], a: usize, f: Frame, b: usize, other: Frame) -> Range
-    requires moving { Moving t.now a f }
-    requires b_lt_a { b < a }
-    requires frame_of { FrameOf t.now b other }
-    requires link_value { f.link ≡ other.link }
-    ensures { RangeFor (StandsAt t.now a (asked.Overlap b)) result }
-{
-    let slot = Slot {
-        offset: other.offset,
-        period: other.period,
-        hold: other.hold,
-    };
-    let g = overlap::gcd(other.period, f.period);
-    let q = offsets::pair_condition(0, f.period, f.hold, slot, g);
-    among(0, window_end(t, a, f), q)
-}
-
-fn overlap(t: &[u32], a: usize, f: Frame, b: usize) -> Range
-    requires moving { Moving t.now a f }
-    requires b_lt_a { b < a }
-    ensures { RangeFor (StandsAt t.now a (asked.Overlap b)) result }
-{
-    let other = rules::times::frame(t, b);
-    if f.link != other.link {
-        return whole(t, a, f);
+    // The first offset with which it is late, where its deadline counts from another one.
+    fn late_from(&self) -> u64
+        ensures { LateFrom self.now.table self.now.at result }
+    {
+        let f = self.frame;
+        let first = rules::times::frame(self.table, f.first);
+        let needs = rules::judge::ready(self.table, self.at, f) - f.offset;
+        (f.deadline + first.start + 1).saturating_sub(needs)
     }
-    apart(t, a, f, b, other)
-}
 
-// The offsets with which leg a keeps its window and what is asked of it holds.
-pub(crate) fn of_asked(t: &[u32], a: usize, f: Frame, asked: Asked) -> Range
-    requires moving { Moving t.now a f }
-    requires asked_of { AskedOf a asked }
-    ensures { RangeFor (StandsAt t.now a asked) result }
-{
-    match asked {
-        Asked::Window => window(t, a, f),
-        Asked::Hop => hop(t, a, f),
-        Asked::Deadline => deadline(t, a, f),
-        Asked::Overlap(b) => overlap(t, a, f, b),
+    // The deadline of the last leg of a stream that has others: it counts from the first.
+    fn due(&self) -> Range
+        requires { (self.now.frame.end ≤ self.now.at + 1) × (self.now.frame.first < self.now.at) }
+        ensures { RangeFor (StandsAt self.now.table self.now.at asked.Deadline) result }
+    {
+        between(0, self.window_end().min(self.late_from()))
+    }
+
+    // The deadline of the only leg of a stream: its offset changes nothing.
+    fn due_alone(&self) -> Range
+        requires { (self.now.frame.end ≤ self.now.at + 1) × (self.now.at ≤ self.now.frame.first) }
+        ensures { RangeFor (StandsAt self.now.table self.now.at asked.Deadline) result }
+    {
+        let f = self.frame;
+        if f.deadline + f.start < rules::judge::ready(self.table, self.at, f) {
+            return between(0, 0);
+        }
+        self.whole_range()
+    }
+
+    fn deadline_range(&self) -> Range
+        ensures { RangeFor (StandsAt self.now.table self.now.at asked.Deadline) result }
+    {
+        let f = self.frame;
+        if self.at + 1 < f.end {
+            return self.whole_range();
+        }
+        if f.first < self.at {
+            return self.due();
+        }
+        self.due_alone()
+    }
+
+    // The overlap with a leg b of the same link.
+    fn apart(&self, b: usize, other: Frame) -> Range
+        requires b_lt_a { b < self.now.at }
+        requires frame_of { FrameOf self.now.table b other }
+        requires link_value { self.now.frame.link ≡ other.link }
+        ensures { RangeFor (StandsAt self.now.table self.now.at (asked.Overlap b)) result }
+    {
+        let f = self.frame;
+        let slot = Slot {
+            offset: other.offset,
+            period: other.period,
+            hold: other.hold,
+        };
+        let g = overlap::gcd(other.period, f.period);
+        let q = offsets::pair_condition(0, f.period, f.hold, slot, g);
+        among(0, self.window_end(), q)
+    }
+
+    fn overlap_range(&self, b: usize) -> Range
+        requires { b < self.now.at }
+        ensures { RangeFor (StandsAt self.now.table self.now.at (asked.Overlap b)) result }
+    {
+        let other = rules::times::frame(self.table, b);
+        if self.frame.link != other.link {
+            return self.whole_range();
+        }
+        self.apart(b, other)
+    }
+
+    // The offsets with which it keeps its window and what is asked of it holds.
+    pub(crate) fn range(&self, asked: Asked) -> Range
+        requires { AskedOf self.now.at asked }
+        ensures { RangeFor (StandsAt self.now.table self.now.at asked) result }
+    {
+        match asked {
+            Asked::Window => self.window_range(),
+            Asked::Hop => self.hop_range(),
+            Asked::Deadline => self.deadline_range(),
+            Asked::Overlap(b) => self.overlap_range(b),
+        }
     }
 }

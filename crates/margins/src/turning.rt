@@ -5,7 +5,6 @@ ghost use Rattle.rules.specs.Times.{max_ready};
 ghost use Rattle.offsets.specs.Conditions.{Sound};
 ghost use Rattle.margins.specs.Ranges.{Ahead, Behind, RestOf, Turning, TurnedFrom};
 
-use crate::sparing;
 use offsets::Condition;
 
 // The same condition, with remainders that end before the modulus: no remainder is the modulus itself.
@@ -17,7 +16,7 @@ pub(crate) fn turning(q: Condition) -> Condition
         modulus: q.modulus,
         shift: q.shift,
         before: q.before,
-        after: sparing::greater(q.after, 1),
+        after: q.after.max(1),
     }
 }
 

@@ -2,14 +2,14 @@
 use Rattle.enlarge.proofs.LegTurns.{zero_start, zero_room, zero_next, zero_end}
 use Rattle.enlarge.proofs.lay_legs_at_zero.Goals as goal
 
-pub loop-i-init : goal.loop-i-init
-loop-i-init c = search zero_start
+pub loop-link-init : goal.loop-link-init
+loop-link-init c = search zero_start
 
 pub put_leg-next-requires : goal.put_leg-next-requires
 put_leg-next-requires c = search zero_room
 
-pub loop-i-preserved : goal.loop-i-preserved
-loop-i-preserved c = search zero_next
+pub loop-link-preserved : goal.loop-link-preserved
+loop-link-preserved c = search zero_next
 
 pub returns : goal.returns
 returns c = search zero_end

@@ -1,5 +1,5 @@
 -- `margins::turning::back` meets its contract. Assumes nothing.
-use Rattle.margins.proofs.TurnLaws.{back_early, back_late, back_here}
+use Rattle.margins.proofs.TurnLaws.{back_early, back_late}
 use Rattle.margins.proofs.turning.back.Goals as goal
 
 pub returns-then-r-q : goal.returns-then-r-q
@@ -7,6 +7,3 @@ returns-then-r-q c = search back_early
 
 pub returns-then-q-r : goal.returns-then-q-r
 returns-then-q-r c = search back_late
-
-pub returns : goal.returns
-returns c = search back_here
