@@ -5,6 +5,8 @@ use mathlib.Core.List.{List, [], ◌∷◌, ◌++◌}
 use mathlib.Core.Logic.{inl, inr}
 use lib.ListN.{length}
 use native.Mathlib.Omega.{arith}
+use Rattle.basics.specs.declared.Cause.{Cause}
+use Rattle.basics.specs.declared.Cause.TheVariants as cause
 use Rattle.numbers.specs.Number.{max_word, NoNumber}
 use Rattle.numbers.proofs.Computed.{file_bytes, file_is, total, small_words, row_in_front}
 use Rattle.numbers.proofs.Overlay.{overlaid_front}
@@ -34,7 +36,7 @@ unfolding converted wider
 becomes = refl
 
 -- The words ws stand in front, and the number after them, which is due, is refused with k.
-cut : (ws rest : List ℕ) (k : ℕ) → total ws ≤ max_word → PlanDueIn first_layout ws → NoNumber (file_bytes ws ++ rest) (length (file_bytes ws)) k
+cut : (ws rest : List ℕ) (k : Cause) → total ws ≤ max_word → PlanDueIn first_layout ws → NoNumber (file_bytes ws ++ rest) (length (file_bytes ws)) k
     → FirstRefused (file_bytes ws ++ rest) k (length (file_bytes ws))
 cut ws rest k h d n b = (inl (inl (record { ws = ws; row = row_in_front ws rest h; due = d; no_number = n })), refl)
 
@@ -47,9 +49,9 @@ unfolding converted wider
 first_layout_at_numbers = record {
   plan_a_is = refl;
   plan_a_file_lem = file_is first_plan_a;
-  cut_short = cut (0 ∷ 0 ∷ []) (0x80 ∷ []) 12 (omega arith) (inl (omega arith)) (cut_short _ 2 (omega arith, omega arith, tt) (omega arith));
-  leg_cut = cut (0 ∷ 0 ∷ 0 ∷ 1 ∷ 0 ∷ 7 ∷ 8 ∷ []) [] 12 (omega arith) due (cut_short _ 7 tt (omega arith));
-  leg_unfit = cut (0 ∷ 0 ∷ 0 ∷ 1 ∷ 0 ∷ 7 ∷ 8 ∷ []) (0x89 ∷ 0 ∷ []) 13 (omega arith) due (zero_second _ 7 0x89 [] refl (omega arith, omega arith));
+  cut_short = cut (0 ∷ 0 ∷ []) (0x80 ∷ []) cause.BytesEnd (omega arith) (inl (omega arith)) (cut_short _ 2 (omega arith, omega arith, tt) (omega arith));
+  leg_cut = cut (0 ∷ 0 ∷ 0 ∷ 1 ∷ 0 ∷ 7 ∷ 8 ∷ []) [] cause.BytesEnd (omega arith) due (cut_short _ 7 tt (omega arith));
+  leg_unfit = cut (0 ∷ 0 ∷ 0 ∷ 1 ∷ 0 ∷ 7 ∷ 8 ∷ []) (0x89 ∷ 0 ∷ []) cause.UnfitNumber (omega arith) due (zero_second _ 7 0x89 [] refl (omega arith, omega arith));
   above = λ b. (
     inl
         (inr

@@ -3,16 +3,16 @@
 use Prim.Native.Nat.{ℕ, ◌+◌, ◌*◌, ◌-◌, ◌≤◌, ◌<◌}
 use mathlib.Core.Path.{◌≡◌, refl, ◌∙◌, sym, ap, subst}
 use mathlib.Core.List.{List, [], ◌∷◌, ◌++◌, append_assoc, append-nil}
-use lib.ListN.{length, get_or, set, take, drop, replicate, length-append, length-drop, length-replicate, replicate-append-replicate, take-append-drop}
+use lib.ListN.{length, get_or, take, drop, replicate, length-append, length-drop, length-replicate, take-append-drop}
 use lib.Seq.{length-take-le, take_at, drop_at, get_or-take, drop-drop}
 use native.Mathlib.Nat.{mul-zero}
 use native.Mathlib.Omega.{arith}
 use Rattle.numbers.specs.Series.{Row, file_of, overlaid}
-use Rattle.numbers.specs.Steps.{AllNumbers, Filled, Stopped, Taken}
-use Rattle.numbers.specs.declared.series.Scan.{Scan}
-use Rattle.numbers.specs.declared.series.Scan.TheVariants.{End, Stop}
+use Rattle.numbers.specs.Steps.{AllNumbers, Filled, Taken}
+use Rattle.std.specs.Prelude.{Result, Ok, Err, IsOk}
+use Rattle.basics.specs.declared.Refusal.{Refusal}
 use Rattle.numbers.proofs.Rows.{file_none, file_append, file_row, row_compare, row_stops, stands_front, words_take}
-use Rattle.numbers.proofs.Overlay.{overlaid_all, overlaid_none, overlaid_more, overlaid_append, overlaid_length}
+use Rattle.numbers.proofs.Overlay.{overlaid_all, overlaid_none, overlaid_append, overlaid_length}
 use Rattle.table.specs.Layout.{current, head_words, link_words, stream_words, leg_words, link_count, stream_count, leg_count, stream_start_in, leg_start_in, table_words, LimitsIn, SizedIn}
 use Rattle.table.specs.declared.Edition.{Edition}
 use Rattle.table.proofs.Headers.{SameHeader, limits_same, words_same, same_header_back}
@@ -48,11 +48,11 @@ module _ {s : List ℕ} {from : ℕ} (b : List ℕ) (count to : ℕ) (all : AllN
   place_long : length place ≡ count
   place_long = length-take-le (to + count - to) (drop to b) (omega (arith, length-drop to b)) ∙ omega arith
 
-  pub taken_on : (r : Scan) (b'' : List ℕ) {next : ℕ} → r ≡ End next → Taken s from place r b''
+  pub taken_on : (r : Result ℕ Refusal) (b'' : List ℕ) {next : ℕ} → r ≡ Ok next → Taken s from place r b''
       → FilledOn s from count b to next (take to b ++ (b'' ++ drop (to + count - to) (drop to b)))
   unfolding overlaid
   taken_on r b'' {next} is told =
-      let t : Taken s from place (End next) b'' = rw is at told in
+      let t : Taken s from place (Ok next) b'' = rw is at told in
       let n : length b'' ≡ count = t.0 ∙ place_long in
       let k : to + (to + count - to) ≡ to + length b'' = omega arith in
       record {
@@ -62,40 +62,21 @@ module _ {s : List ℕ} {from : ℕ} (b : List ℕ) (count to : ℕ) (all : AllN
         after = ap (λ (x : List ℕ). take to b ++ (b'' ++ x)) (drop-drop (to + count - to) to b ∙ ap (λ (k : ℕ). drop k b) k);
       }
 
-  pub taken_whole : (r : Scan) (b'' : List ℕ) {k p : ℕ} → r ≡ Stop k p → Taken s from place r b'' → ⊥
-  taken_whole r b'' {k} {p} is told =
-      let x : Stopped s from (length place) k p = rw is at told in
+  pub taken_whole : (r : Result ℕ Refusal) (b'' : List ℕ) → Taken s from place r b'' → IsOk r
+  taken_whole (Ok next) b'' told = refl
+  taken_whole (Err e) b'' x =
       let ns = all.1 in
-      omega (arith, row_stops x.ws ns.ws k x.row x.no_number ns.row, x.short, ns.count, place_long)
+      absurd (omega (arith, row_stops x.ws ns.ws e.cause x.row x.no_number ns.row, x.short, ns.count, place_long))
 
--- One value put into n words: i are done.
-pub record Same (b : List ℕ) (to v n : ℕ) (out : List ℕ) (i : ℕ) : Type 0 where
-  pub within : i ≤ n
-  pub room : to + n ≤ length b
-  pub out_is : out ≡ overlaid b to (replicate i v)
-
-pub same_start : (b : List ℕ) (to v n : ℕ) → to + n ≤ length b → Same b to v n b 0
-same_start b to v n h = record { within = omega arith; room = h; out_is = sym (overlaid_none b to) }
-
-module _ {b : List ℕ} {to v n : ℕ} {out : List ℕ} {i : ℕ} (f : Same b to v n out i) where
-  pub same_long : length out ≡ length b
-  same_long = ap length f.out_is ∙ overlaid_length b to (replicate i v) (omega (arith, length-replicate {A = ℕ} i v, f.within, f.room))
-
-  pub same_next : i < n → Same b to v n (set out (to + i) v) (i + 1)
-  same_next h =
-      let l = length-replicate {A = ℕ} i v in
-      let k : to + i ≡ to + length (replicate i v) = omega arith in
-      record {
-        within = omega arith;
-        room = f.room;
-        out_is = ap (λ (o : List ℕ). set o (to + i) v) f.out_is
-            ∙ ap (λ (k : ℕ). set (overlaid b to (replicate i v)) k v) k
-            ∙ overlaid_more b to (replicate i v) v (omega (arith, f.room))
-            ∙ ap (overlaid b to) (replicate-append-replicate i 1 v);
-      }
-
-  pub same_end : n ≤ i → out ≡ overlaid b to (replicate n v)
-  same_end h = f.out_is ∙ ap (λ (k : ℕ). overlaid b to (replicate k v)) (let e : i ≡ n = omega (arith, f.within) in e)
+-- Words from a position on that all became one value.
+pub filled_with : (b : List ℕ) (to end v : ℕ) {part : List ℕ} → to ≤ end → part ≡ replicate (length (take (end - to) (drop to b))) v → end ≤ length b
+    → take to b ++ (part ++ drop (end - to) (drop to b)) ≡ overlaid b to (replicate (end - to) v)
+unfolding overlaid
+filled_with b to end v {part} h is room =
+    let n : length (take (end - to) (drop to b)) ≡ end - to = length-take-le (end - to) (drop to b) (omega (arith, length-drop to b)) in
+    let k : to + length (replicate (end - to) v) ≡ to + (end - to) = omega (arith, length-replicate {A = ℕ} (end - to) v) in
+    ap (λ (x : List ℕ). take to b ++ (x ++ drop (end - to) (drop to b))) (is ∙ ap (λ (m : ℕ). replicate m v) n)
+    ∙ ap (λ (x : List ℕ). take to b ++ (replicate (end - to) v ++ x)) (drop-drop (end - to) to b ∙ ap (λ (m : ℕ). drop m b) (sym k))
 
 -- Records being taken: those done lie in the buffer, and the rest is to come.
 pub record Widening (s : List ℕ) (from n w g v : ℕ) (b : List ℕ) (to : ℕ) (out : List ℕ) (at next left : ℕ) : Type 0 where

@@ -1,9 +1,11 @@
 -- Files of the first layout at numbers: Plan A, and each refusal.
-use Rattle.std.specs.Prelude.{ℕ, ◌≡◌, List, [], ◌∷◌}
+use Rattle.std.specs.Prelude.{ℕ, ◌≡◌, List, [], ◌∷◌, Ok}
 use Rattle.numbers.specs.Series.{file_of}
 use Rattle.table.specs.Layout.{first_layout}
 use Rattle.table.specs.PlanA.{plan_a}
-use Rattle.files.specs.declared.PlanRead.TheVariants as plan
+use Rattle.basics.specs.Cause.{refused}
+use Rattle.basics.specs.declared.Cause.{Cause}
+use Rattle.basics.specs.declared.Cause.TheVariants as cause
 use Rattle.editions.specs.Converted.{converted}
 use Rattle.editions.specs.Reading.{ReadsFirst}
 
@@ -32,8 +34,8 @@ first_plan_a_file =
     0x01 ∷ 0x00 ∷ 0x00 ∷ []
 
 -- The file s of the first layout is refused with k at p, whatever buffer is lent, and the buffer stays.
-abbrev pub FirstRefused : List ℕ → ℕ → ℕ → Type 0
-FirstRefused s k p = (b : List ℕ) → ReadsFirst s b (plan.Refused k p) b
+abbrev pub FirstRefused : List ℕ → Cause → ℕ → Type 0
+FirstRefused s k p = (b : List ℕ) → ReadsFirst s b (refused k p) b
 
 -- The file of a table with one leg, of stream 7, on link 8, at 9.
 abbrev pub one_leg : List ℕ
@@ -44,14 +46,14 @@ pub record FirstLayoutAtNumbers : Type 0 where
   pub plan_a_is : converted first_layout first_plan_a ≡ plan_a
   pub plan_a_file_lem : file_of first_plan_a ≡ first_plan_a_file
   -- 12: the header is cut short, and the offset of a leg is missing.
-  pub cut_short : FirstRefused (0x00 ∷ 0x00 ∷ 0x80 ∷ []) 12 2
-  pub leg_cut : FirstRefused (0x00 ∷ 0x00 ∷ 0x00 ∷ 0x01 ∷ 0x00 ∷ 0x07 ∷ 0x08 ∷ []) 12 7
+  pub cut_short : FirstRefused (0x00 ∷ 0x00 ∷ 0x80 ∷ []) cause.BytesEnd 2
+  pub leg_cut : FirstRefused (0x00 ∷ 0x00 ∷ 0x00 ∷ 0x01 ∷ 0x00 ∷ 0x07 ∷ 0x08 ∷ []) cause.BytesEnd 7
   -- 13: the offset of a leg is not in the shortest form.
-  pub leg_unfit : FirstRefused (0x00 ∷ 0x00 ∷ 0x00 ∷ 0x01 ∷ 0x00 ∷ 0x07 ∷ 0x08 ∷ 0x89 ∷ 0x00 ∷ []) 13 7
+  pub leg_unfit : FirstRefused (0x00 ∷ 0x00 ∷ 0x00 ∷ 0x01 ∷ 0x00 ∷ 0x07 ∷ 0x08 ∷ 0x89 ∷ 0x00 ∷ []) cause.UnfitNumber 7
   -- 257 links: 2, whatever follows the fifth number.
-  pub above : FirstRefused (0x00 ∷ 0x81 ∷ 0x02 ∷ 0x00 ∷ 0x00 ∷ 0x00 ∷ 0x80 ∷ 0x00 ∷ []) 2 0
+  pub above : FirstRefused (0x00 ∷ 0x81 ∷ 0x02 ∷ 0x00 ∷ 0x00 ∷ 0x00 ∷ 0x80 ∷ 0x00 ∷ []) cause.AboveLimit 0
   -- 14: a leg of today's layout has a number too many.
-  pub left_over_lem : FirstRefused (0x00 ∷ 0x00 ∷ 0x00 ∷ 0x01 ∷ 0x00 ∷ 0x07 ∷ 0x08 ∷ 0x09 ∷ 0x00 ∷ []) 14 8
+  pub left_over_lem : FirstRefused (0x00 ∷ 0x00 ∷ 0x00 ∷ 0x01 ∷ 0x00 ∷ 0x07 ∷ 0x08 ∷ 0x09 ∷ 0x00 ∷ []) cause.LeftOver 8
   -- 15 by the length of today: eight words would hold the old table, and nine hold the new one.
-  pub no_room_lem : ReadsFirst one_leg (1 ∷ 2 ∷ 3 ∷ 4 ∷ 5 ∷ 6 ∷ 7 ∷ 8 ∷ []) (plan.Refused 15 0) (1 ∷ 2 ∷ 3 ∷ 4 ∷ 5 ∷ 6 ∷ 7 ∷ 8 ∷ [])
-  pub room : ReadsFirst one_leg (1 ∷ 2 ∷ 3 ∷ 4 ∷ 5 ∷ 6 ∷ 7 ∷ 8 ∷ 9 ∷ 10 ∷ []) (plan.Words 9) (0 ∷ 0 ∷ 0 ∷ 1 ∷ 0 ∷ 7 ∷ 8 ∷ 9 ∷ 0 ∷ 10 ∷ [])
+  pub no_room_lem : ReadsFirst one_leg (1 ∷ 2 ∷ 3 ∷ 4 ∷ 5 ∷ 6 ∷ 7 ∷ 8 ∷ []) (refused cause.NoRoom 0) (1 ∷ 2 ∷ 3 ∷ 4 ∷ 5 ∷ 6 ∷ 7 ∷ 8 ∷ [])
+  pub room : ReadsFirst one_leg (1 ∷ 2 ∷ 3 ∷ 4 ∷ 5 ∷ 6 ∷ 7 ∷ 8 ∷ 9 ∷ 10 ∷ []) (Ok 9) (0 ∷ 0 ∷ 0 ∷ 1 ∷ 0 ∷ 7 ∷ 8 ∷ 9 ∷ 0 ∷ 10 ∷ [])

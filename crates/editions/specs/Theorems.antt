@@ -1,12 +1,11 @@
 -- What is proved of files and tables of the first layout.
-use Rattle.std.specs.Prelude.{ℕ, ◌+◌, ◌*◌, ◌<◌, ◌≡◌, List, length, get_or, take}
+use Rattle.std.specs.Prelude.{ℕ, ◌+◌, ◌*◌, ◌<◌, ◌≡◌, List, length, get_or, take, Result, Ok}
+use Rattle.basics.specs.declared.Refusal.{Refusal}
 use Rattle.numbers.specs.Series.{AllWords}
 use Rattle.table.specs.Layout.{first_layout, head_words, link_words, stream_words, leg_words, revision_of, link_count, stream_count, leg_count, precision_of, leg_start_in, SizedIn, Sized}
 use Rattle.table.specs.Records.{link_at, stream_at, leg_at}
 use Rattle.table.specs.declared.Leg.{Leg}
 use Rattle.files.specs.Reading.{IsFile}
-use Rattle.files.specs.declared.PlanRead.{PlanRead}
-use Rattle.files.specs.declared.PlanRead.TheVariants as plan
 use Rattle.rules.specs.Rules.{RulesHold}
 use Rattle.editions.specs.Converted.{converted}
 use Rattle.editions.specs.Reading.{ReadsFirst}
@@ -16,11 +15,11 @@ use Rattle.editions.specs.FirstRules.{FirstRulesHold}
 -- Reading a file of the first layout has one answer and leaves one memory.
 abbrev pub ReadFirstOneAnswer : Type 0
 ReadFirstOneAnswer =
-    (s b b' b'' : List ℕ) (r r' : PlanRead) → ReadsFirst s b r b' → ReadsFirst s b r' b'' → (r ≡ r') × (b' ≡ b'')
+    (s b b' b'' : List ℕ) (r r' : Result ℕ Refusal) → ReadsFirst s b r b' → ReadsFirst s b r' b'' → (r ≡ r') × (b' ≡ b'')
 
 -- What is given is a table of today, of words.
 abbrev pub FirstGivesTables : Type 0
-FirstGivesTables = (s b b' : List ℕ) (n : ℕ) → ReadsFirst s b (plan.Words n) b' → Sized (take n b') × AllWords (take n b')
+FirstGivesTables = (s b b' : List ℕ) (n : ℕ) → ReadsFirst s b (Ok n) b' → Sized (take n b') × AllWords (take n b')
 
 -- What the table u becomes, word by word: every word of u is there, up to the legs where it was, and after each leg's three words stands 0.
 pub record OldWordsAndZeros (u : List ℕ) : Type 0 where

@@ -1,62 +1,55 @@
 // Plan files of older layouts, read into tables of today. Files carry no mark: whoever reads names the layout.
 #![tactic(auto)]
 
-ghost use Rattle.std.specs.Prelude.{◌+◌, ◌*◌, ◌≤◌, ◌≡◌, length, replicate};
-ghost use Rattle.numbers.specs.Series.{overlaid};
+ghost use Rattle.std.specs.Prelude.{◌+◌, ◌*◌, ◌≤◌, length};
 ghost use Rattle.numbers.specs.Steps.{AllNumbers};
 ghost use Rattle.editions.specs.Converted.{Older};
 ghost use Rattle.editions.specs.Reading.{ReadsOld, ReadsFirst};
 ghost use Rattle.editions.specs.Steps.{OldFile, Counted, Converts, FilledOn, FilledWider};
 
-use files::PlanRead;
-use numbers::series::Scan;
-use table::{Edition, Limits};
+use basics::{Cause, Refusal};
+use numbers::series;
+use table::Edition;
 
-// What is put where a record of an older layout has no word.
+/// What is put where a record of an older layout has no word.
 pub const NEW_WORD: u32 = 0;
 
-// Reads a plan file of the first layout into lent words, as a table of today: the table lies in the first of them, and the answer says how many. Refused 12, 13, 2, 14
-// or, by the length of the table of today, 15.
-pub fn read_first(bytes: &[u8], words: &mut [u32]) -> PlanRead
+/// Reads a plan file of the first layout into lent words, as a table of today, and returns how many words it has: it is in the first of them.
+/// Refused 12, 13, 2, 14 or, by the length of the table of today, 15.
+pub fn read_first(bytes: &[u8], words: &mut [u32]) -> Result<usize, Refusal>
     ensures { ReadsFirst bytes.now words.old result words.new }
 {
     read_old(table::FIRST_LAYOUT, bytes, words)
 }
 
 // The same of any older layout.
-fn read_old(e: Edition, bytes: &[u8], words: &mut [u32]) -> PlanRead
+fn read_old(e: Edition, bytes: &[u8], words: &mut [u32]) -> Result<usize, Refusal>
     requires { Older e }
     ensures { ReadsOld e bytes.now words.old result words.new }
 {
-    let told = files::look::plan_size(e, bytes);
-    match told {
-        PlanRead::Refused(number, at) => PlanRead::Refused(number, at),
-        PlanRead::Words(_) => convert(e, bytes, words),
-    }
+    files::look::plan_size(e, bytes)?;
+    convert(e, bytes, words)
 }
 
 // The same of bytes that are the file of a table: its table of today, or 15.
-fn convert(e: Edition, bytes: &[u8], words: &mut [u32]) -> PlanRead
+fn convert(e: Edition, bytes: &[u8], words: &mut [u32]) -> Result<usize, Refusal>
     requires older { Older e }
     requires old_file { OldFile e bytes.now }
     ensures { ReadsOld e bytes.now words.old result words.new }
 {
     let mut head = [0u32; table::HEAD_WORDS];
-    numbers::series::fill(bytes, 0, table::HEAD_WORDS, &mut head);
-    let told = table::header_words(table::CURRENT, &head);
-    match told {
-        Limits::Above => PlanRead::Refused(table::ABOVE_LIMIT, 0),
-        Limits::Within(size) => {
-            if words.len() < size {
-                return PlanRead::Refused(numbers::NO_ROOM, 0);
-            }
-            let links = head[table::LINKS_AT];
-            let streams = head[table::STREAMS_AT];
-            let legs = head[table::LEGS_AT];
-            put_converted(e, bytes, links, streams, legs, words);
-            PlanRead::Words(size)
-        }
+    series::fill(bytes, 0, table::HEAD_WORDS, &mut head);
+    let Some(size) = table::header_words(table::CURRENT, &head) else {
+        return Err(Cause::AboveLimit.at(0));
+    };
+    if words.len() < size {
+        return Err(Cause::NoRoom.at(0));
     }
+    let links = head[table::LINKS_AT];
+    let streams = head[table::STREAMS_AT];
+    let legs = head[table::LEGS_AT];
+    put_converted(e, bytes, links, streams, legs, words);
+    Ok(size)
 }
 
 // Header and links as they are, then each stream and each leg made as wide as today's.
@@ -90,7 +83,7 @@ fn put_converted(e: Edition, bytes: &[u8], links: u32, streams: u32, legs: u32, 
     );
 }
 
-// Takes so many records of width numbers into a buffer from a position on, each made wide words long with one value, and answers the position after them.
+// Takes so many records of width numbers into a buffer from a position on, each made wide words long with one value, and returns the position after them.
 fn fill_wider(
     bytes: &[u8],
     from: usize,
@@ -109,38 +102,19 @@ fn fill_wider(
     let all = wide as usize;
     let mut at = from;
     let mut next = to;
-    let mut left = records;
-    while 0 < left {
+    for _ in 0..records {
         at = fill_on(bytes, at, own, out, next);
-        put_same(value, all - own, out, next + own);
-        next = next + all;
-        left = left - 1;
+        out[next + own..next + all].fill(value);
+        next += all;
     }
     at
 }
 
-// Takes numbers that were looked through, so that none is refused, into a buffer from a position on, and answers the position after them.
+// Takes numbers that were looked through, so that none is refused, into a buffer from a position on, and returns the position after them.
 fn fill_on(bytes: &[u8], from: usize, count: usize, out: &mut [u32], to: usize) -> usize
     requires all_numbers { AllNumbers bytes.now from count }
     requires count_in_bounds { to + count ≤ length out.old }
     ensures { FilledOn bytes.now from count out.old to result out.new }
 {
-    let end = to + count;
-    let seen = numbers::series::take_words(bytes, from, &mut out[to..end]);
-    match seen {
-        Scan::End(next) => next,
-        Scan::Stop(_, at) => at,
-    }
-}
-
-// Puts one value into so many words of a buffer from a position on.
-fn put_same(value: u32, count: usize, out: &mut [u32], to: usize)
-    requires { to + count ≤ length out.old }
-    ensures { out.new ≡ overlaid out.old to (replicate count value) }
-{
-    let mut i: usize = 0;
-    while i < count {
-        out[to + i] = value;
-        i = i + 1;
-    }
+    series::take_words(bytes, from, &mut out[to..to + count]).unwrap()
 }

@@ -1,14 +1,12 @@
 -- Gate list files, the second family of files in the seven-bit habit (document 02, L7): mask, duration, mask, duration and so on to the end of the bytes, with no count in
 -- front. What reading and writing one promise, by the cases of the answers. Which masks and durations a list may have is not asked here.
-use Rattle.std.specs.Prelude.{ℕ, ◌*◌, ◌≤◌, ◌<◌, ◌≡◌, List, ◌⊎◌, length}
+use Rattle.std.specs.Prelude.{ℕ, ◌*◌, ◌≤◌, ◌<◌, ◌≡◌, List, ◌⊎◌, length, Result, Ok, Err}
 use Rattle.basics.specs.Refusals.{Refusals, unless, unless_at, ◌then◌}
-use Rattle.numbers.specs.Number.{bytes_end, no_room}
+use Rattle.basics.specs.declared.Cause.{Cause}
+use Rattle.basics.specs.declared.Cause.TheVariants as cause
+use Rattle.basics.specs.declared.Refusal.{Refusal}
 use Rattle.numbers.specs.Series.{file_of, Laid}
-use Rattle.numbers.specs.declared.Written.{Written}
-use Rattle.numbers.specs.declared.Written.TheVariants as written
 use Rattle.files.specs.Reading.{IsFile, Cut}
-use Rattle.gate_files.specs.declared.ListRead.{ListRead}
-use Rattle.gate_files.specs.declared.ListRead.TheVariants as list
 
 -- The words are whole pairs.
 pub record WholePairs (ws : List ℕ) : Type 0 where
@@ -26,21 +24,21 @@ pub record TooLong (s : List ℕ) (room : ℕ) : Type 0 where
   pub long : room < length list
 
 -- Why a list file is not read: 12 and 13 from left to right, where 12 at the end of the bytes is half a pair; then 15. Nothing can be left over.
-abbrev pub ListUnread : List ℕ → ℕ → ℕ → ℕ → Type 0
-ListUnread s room k p = Cut (ListDue s) s k p ⊎ ((k ≡ no_room) × (p ≡ 0) × TooLong s room)
+abbrev pub ListUnread : List ℕ → ℕ → Cause → ℕ → Type 0
+ListUnread s room k p = Cut (ListDue s) s k p ⊎ ((k ≡ cause.NoRoom) × (p ≡ 0) × TooLong s room)
 
 -- Reading the list file s into the words b, which makes them b': the list lies in the first words, every other is what it was, and the answer is how many; or a refusal, and
 -- nothing changes.
-abbrev pub ReadsList : List ℕ → List ℕ → ListRead → List ℕ → Type 0
-ReadsList s b (list.Words n) b' = (ws : List ℕ) × IsFile WholePairs s ws × Laid b 0 ws n b'
-ReadsList s b (list.Refused k p) b' = ListUnread s (length b) k p × (b' ≡ b)
+abbrev pub ReadsList : List ℕ → List ℕ → Result ℕ Refusal → List ℕ → Type 0
+ReadsList s b (Ok n) b' = (ws : List ℕ) × IsFile WholePairs s ws × Laid b 0 ws n b'
+ReadsList s b (Err e) b' = ListUnread s (length b) e.cause e.at × (b' ≡ b)
 
 -- Why words are not written as a list file: 12 for half a pair, at the byte at which its duration would stand, then 15 by the exact size.
 abbrev pub write_list_refusals : List ℕ → ℕ → Refusals
-write_list_refusals ws room = unless_at bytes_end (length (file_of ws)) (WholePairs ws) then unless no_room (length (file_of ws) ≤ room)
+write_list_refusals ws room = unless_at cause.BytesEnd (length (file_of ws)) (WholePairs ws) then unless cause.NoRoom (length (file_of ws) ≤ room)
 
 -- Writing the words ws as a list file to the bytes b, which makes them b': the file lies in the first bytes, every other is what it was, and the answer is how many; or a
 -- refusal, and nothing changes.
-abbrev pub WritesList : List ℕ → List ℕ → Written → List ℕ → Type 0
-WritesList ws b (written.Bytes n) b' = WholePairs ws × Laid b 0 (file_of ws) n b'
-WritesList ws b (written.Refused k p) b' = (write_list_refusals ws (length b)).Fault k p × (b' ≡ b)
+abbrev pub WritesList : List ℕ → List ℕ → Result ℕ Refusal → List ℕ → Type 0
+WritesList ws b (Ok n) b' = WholePairs ws × Laid b 0 (file_of ws) n b'
+WritesList ws b (Err e) b' = (write_list_refusals ws (length b)).Fault e.cause e.at × (b' ≡ b)

@@ -1,4 +1,5 @@
 -- Gate lists at numbers: which lists may be asked for, which are written, and the refusals. Assumes nothing.
+use Rattle.std.specs.Prelude.{Ok}
 use Prim.Native.Nat.{ℕ, ◌*◌, ◌≤◌}
 use mathlib.Core.Path.{◌≡◌, refl, sym, ap}
 use mathlib.Core.List.{List, [], ◌∷◌}
@@ -7,7 +8,6 @@ use lib.ListN.{length}
 use native.Mathlib.Nat.{dvd-sub, le_of_dvd}
 use native.Mathlib.Omega.{arith}
 use Rattle.numbers.specs.Series.{file_of, overlaid}
-use Rattle.numbers.specs.declared.Written.TheVariants.{Bytes}
 use Rattle.numbers.proofs.Computed.{file_is}
 use Rattle.shape.proofs.AtNumbers.{plan_a_is_well_formed}
 use Rattle.gates.specs.Pairs.{max_pairs}
@@ -60,7 +60,7 @@ module _ (t : List ℕ) (l : ℕ) (ws : List ℕ) (short : ShortCycle t l) (list
   within : ShortCycle t l × FewPairs t l
   within = (short, record { list = ws; is = list; few = few })
 
-  written : (n : ℕ) (b : List ℕ) → MayList t l → n ≡ length (file_of ws) → n ≤ length b → WritesGateList t l b (Bytes n) (overlaid b 0 (file_of ws))
+  written : (n : ℕ) (b : List ℕ) → MayList t l → n ≡ length (file_of ws) → n ≤ length b → WritesGateList t l b (Ok n) (overlaid b 0 (file_of ws))
   written n b may size room = ((may, (within, record { list = ws; is = list; fits = omega arith })), (ws, list, record { count = size; room = omega arith; after = refl }))
 
 short_a : ShortCycle accepted_a 0

@@ -1,4 +1,5 @@
 -- What is told of slots that were gathered is told of the link. Assumes nothing.
+use Rattle.std.specs.Prelude.{Some, None, Ok}
 use Prim.Native.Nat.{ℕ, ◌+◌, ◌*◌, ◌≤◌}
 use mathlib.Core.Path.{◌≡◌, refl, sym, subst}
 use mathlib.Core.List.{List}
@@ -6,24 +7,22 @@ use mathlib.Core.Logic.{inl, inr}
 use lib.ListN.{length, take}
 use lib.Seq.{get_or-take, length-take-le}
 use native.Mathlib.Omega.{arith}
+use Rattle.basics.specs.Cause.{refused}
+use Rattle.basics.specs.declared.Cause.TheVariants as cause
 use Rattle.table.specs.Layout.{leg_count}
 use Rattle.overlap.specs.declared.Slot.{Slot}
 use Rattle.gates.specs.Holding.{Right}
 use Rattle.gates.specs.Pairs.{ListRight, max_pairs, max_cycle}
 use Rattle.gates.specs.Cycle.{IsCycle}
-use Rattle.gates.specs.Steps.{slot_in, InWords, Unfinished, CycleTold, PairsTold}
-use Rattle.gates.specs.declared.cycle.Multiple.{Multiple}
-use Rattle.gates.specs.declared.cycle.Multiple.TheVariants.{Of, Past}
-use Rattle.gates.specs.declared.pairs.Pairs as pairs
-use Rattle.gates.specs.declared.pairs.Pairs.TheVariants.{Count, TooMany}
+use Rattle.gates.specs.Steps.{slot_in, InSlots, Unfinished, CycleTold, PairsTold}
+use Rattle.gates.specs.declared.slots.StoredSlot.{StoredSlot}
 use Rattle.gates.proofs.Masks.{one_mask_is_right, right_also}
 use Rattle.gates.proofs.Cycles.{cycle_empty, cycle_also, one_cycle}
 use Rattle.gates.proofs.OneList.{unfinished_is_shorter}
 use Rattle.gates.proofs.Growing.{Alike, list_also, list_alike, unfinished_also}
 use Rattle.gate_lists.specs.GateList.{SlotOn, CycleOf, RightMask, IsGateList, without_legs, with_legs}
-use Rattle.gate_lists.specs.Lists.{long_cycle, too_many_pairs, ShortCycle, FewPairs}
+use Rattle.gate_lists.specs.Lists.{ShortCycle, FewPairs}
 use Rattle.gate_lists.specs.Steps.{Gathered, ListTold}
-use Rattle.gate_lists.specs.declared.Listed.TheVariants.{Pairs, Refused}
 use Rattle.gate_lists.proofs.Gathering.{slot_on, slot_below}
 
 -- A list that has legs has no list of a link without.
@@ -46,21 +45,21 @@ front_list t l s c on is words n room right =
     } in
     with_legs s on c n is (list_alike (RightMask t l) c words (take (2 * n) words) n front right) (length-take-le (2 * n) words room)
 
-module _ (t : List ℕ) (l : ℕ) (slots : List ℕ) (count : ℕ) (g : Gathered t l (leg_count t) slots count) where
-  to_link : (s : Slot) → InWords slots count s → SlotOn t l s
+module _ (t : List ℕ) (l : ℕ) (slots : List StoredSlot) (count : ℕ) (g : Gathered t l (leg_count t) slots count) where
+  to_link : (s : Slot) → InSlots slots count s → SlotOn t l s
   to_link s w = slot_on t l s (g.to s w)
 
-  from_link : (s : Slot) → SlotOn t l s → InWords slots count s
+  from_link : (s : Slot) → SlotOn t l s → InSlots slots count s
   from_link s o = g.from s (slot_below t l s o)
 
   some_slot : 1 ≤ count → SlotOn t l (slot_in slots 0)
   some_slot h = to_link (slot_in slots 0) (record { which = 0; there = h; is = refl })
 
-  cycle_of : (c : ℕ) → IsCycle (InWords slots count) c → CycleOf t l c
-  cycle_of c p = cycle_also (InWords slots count) (SlotOn t l) c to_link from_link p
+  cycle_of : (c : ℕ) → IsCycle (InSlots slots count) c → CycleOf t l c
+  cycle_of c p = cycle_also (InSlots slots count) (SlotOn t l) c to_link from_link p
 
   -- No slot.
-  pub list_none : (words : List ℕ) → count ≡ 0 → ListTold t l words (Pairs 0)
+  pub list_none : (words : List ℕ) → count ≡ 0 → ListTold t l words (Ok 0)
   list_none words e =
       let none : (s : Slot) → SlotOn t l s → ⊥ = λ s o. omega (arith, (from_link s o).there) in
       record {
@@ -70,39 +69,29 @@ module _ (t : List ℕ) (l : ℕ) (slots : List ℕ) (count : ℕ) (g : Gathered
         list = without_legs none refl;
       }
 
-  -- The cycle is known.
-  pub cycle_known : (told : Multiple) (c : ℕ) → told ≡ Of c → CycleTold (InWords slots count) told → IsCycle (InWords slots count) c × (c ≤ max_cycle)
-  cycle_known told c e h = subst (CycleTold (InWords slots count)) e h
-
   -- The cycle passes the limit.
-  pub list_past : (words : List ℕ) (told : Multiple) → told ≡ Past → CycleTold (InWords slots count) told → ListTold t l words (Refused long_cycle)
-  list_past words told e h = let p = subst (CycleTold (InWords slots count)) e h in inl (refl, refl, λ s. omega (arith, p s.cycle (cycle_also (SlotOn t l) (InWords slots count) s.cycle from_link to_link s.is), s.short))
+  pub list_past : (words : List ℕ) → CycleTold (InSlots slots count) None → ListTold t l words (refused cause.LongCycle 0)
+  list_past words p = inl (refl, refl, λ s. omega (arith, p s.cycle (cycle_also (SlotOn t l) (InSlots slots count) s.cycle from_link to_link s.is), s.short))
 
-  module _ (c : ℕ) (is : IsCycle (InWords slots count) c) (short : c ≤ max_cycle) (some : 1 ≤ count) where
+  module _ (c : ℕ) (is : IsCycle (InSlots slots count) c) (short : c ≤ max_cycle) (some : 1 ≤ count) where
     short_cycle : ShortCycle t l
     short_cycle = record { cycle = c; is = cycle_of c is; short = short }
 
-    to_right : (x m : ℕ) → Right (InWords slots count) x m → RightMask t l x m
-    to_right = right_also (InWords slots count) (SlotOn t l) to_link from_link
+    to_right : (x m : ℕ) → Right (InSlots slots count) x m → RightMask t l x m
+    to_right = right_also (InSlots slots count) (SlotOn t l) to_link from_link
 
-    from_right : (x m : ℕ) → RightMask t l x m → Right (InWords slots count) x m
-    from_right = right_also (SlotOn t l) (InWords slots count) from_link to_link
+    from_right : (x m : ℕ) → RightMask t l x m → Right (InSlots slots count) x m
+    from_right = right_also (SlotOn t l) (InSlots slots count) from_link to_link
 
     -- There are too many pairs.
-    pub list_many : (words : List ℕ) (told : pairs.Pairs) → told ≡ TooMany → PairsTold (Right (InWords slots count)) c words told → ListTold t l words (Refused too_many_pairs)
-    list_many words told e h =
-        let o = subst (PairsTold (Right (InWords slots count)) c words) e h in
-        inr (short_cycle, (refl, refl, many_not_few t l c (slot_in slots 0) words (some_slot some) (cycle_of c is) (unfinished_also _ _ c words max_pairs to_right from_right o)))
+    pub list_many : (words : List ℕ) → PairsTold (Right (InSlots slots count)) c words None → ListTold t l words (refused cause.TooManyPairs 0)
+    list_many words o = inr (short_cycle, (refl, refl, many_not_few t l c (slot_in slots 0) words (some_slot some) (cycle_of c is) (unfinished_also _ _ c words max_pairs to_right from_right o)))
 
     -- The pairs in front are the list.
-    pub list_pairs : (words : List ℕ) (told : pairs.Pairs) (n : ℕ) → told ≡ Count n → length words ≡ 2 * max_pairs → PairsTold (Right (InWords slots count)) c words told → ListTold t l words (Pairs n)
-    list_pairs words told n e long h =
-        let given = subst (PairsTold (Right (InWords slots count)) c words) e h in
-        let right = given.0 in
-        let few = given.1 in
-        record {
-          short = short_cycle;
-          few = few;
-          room = omega arith;
-          list = front_list t l (slot_in slots 0) c (some_slot some) (cycle_of c is) words n (omega arith) (list_also _ _ c words n to_right right);
-        }
+    pub list_pairs : (words : List ℕ) (n : ℕ) → length words ≡ 2 * max_pairs → PairsTold (Right (InSlots slots count)) c words (Some n) → ListTold t l words (Ok n)
+    list_pairs words n long (right, few) = record {
+      short = short_cycle;
+      few = few;
+      room = omega arith;
+      list = front_list t l (slot_in slots 0) c (some_slot some) (cycle_of c is) words n (omega arith) (list_also _ _ c words n to_right right);
+    }

@@ -1,4 +1,5 @@
 -- A link has one gate list, and the call that writes it has one answer. Assumes nothing.
+use Rattle.std.specs.Prelude.{Ok, Err}
 use Prim.Native.Nat.{ℕ, ◌+◌, ◌*◌, ◌%◌, ◌/◌, ◌≤◌, ◌<◌}
 use mathlib.Core.Path.{◌≡◌, sym, ◌∙◌, subst}
 use mathlib.Core.List.{List}
@@ -8,21 +9,19 @@ use lib.Seq.{ext_get_or}
 use native.Mathlib.Nat.{div-add-mod', mod-lt}
 use native.Mathlib.Omega.{arith}
 use Rattle.basics.specs.Refusals.{OneFault}
-use Rattle.basics.proofs.Refusals.{unless_one, then_one, called_one}
+use Rattle.basics.proofs.Refusals.{unless_one, then_one, called_one, same_refusal}
 use Rattle.basics.proofs.Splits.{lt_or_ge}
-use Rattle.numbers.specs.Number.{no_room}
+use Rattle.basics.specs.declared.Cause.TheVariants as cause
 use Rattle.numbers.specs.Series.{file_of, Laid}
-use Rattle.numbers.specs.declared.Written.TheVariants.{Bytes, Refused}
 use Rattle.numbers.proofs.Overlay.{laid_once}
 use Rattle.shape.proofs.OneShape.{shape_one}
-use Rattle.checker.specs.Accepted.{not_accepted}
 use Rattle.gates.specs.Pairs.{ListRight}
 use Rattle.gates.specs.Theorems.{SamePairs}
 use Rattle.gates.proofs.Masks.{one_mask_is_right}
 use Rattle.gates.proofs.Cycles.{one_cycle}
 use Rattle.gates.proofs.OneList.{one_list}
 use Rattle.gate_lists.specs.GateList.{SlotOn, RightMask, without_legs, with_legs}
-use Rattle.gate_lists.specs.Lists.{long_cycle, too_many_pairs, no_link, may_list_refusals, list_refusals}
+use Rattle.gate_lists.specs.Lists.{may_list_refusals, list_refusals}
 use Rattle.gate_lists.specs.Theorems.{OneGateList, GateListOneAnswer}
 
 -- The same pairs and nothing behind them are the same words.
@@ -52,20 +51,18 @@ one_gate_list t l ws vs (with_legs s on c n j p f) (with_legs r ron d m k q g) =
 
 module _ (t : List ℕ) (l : ℕ) where
   pub may_one : OneFault (may_list_refusals t l)
-  may_one = called_one (then_one (shape_one t) (then_one (unless_one no_link _) (unless_one not_accepted _))) (λ m. (m.shape, (m.link, m.rules)))
+  may_one = called_one (then_one (shape_one t) (then_one (unless_one cause.NoLink _) (unless_one cause.NotAccepted _))) (λ m. (m.shape, (m.link, m.rules)))
 
   pub list_refusals_one : (room : ℕ) → OneFault (list_refusals t l room)
-  list_refusals_one room = then_one may_one (then_one (then_one (unless_one long_cycle _) (unless_one too_many_pairs _)) (unless_one no_room _))
+  list_refusals_one room = then_one may_one (then_one (then_one (unless_one cause.LongCycle _) (unless_one cause.TooManyPairs _)) (unless_one cause.NoRoom _))
 
 pub gate_list_one_answer : GateListOneAnswer
-gate_list_one_answer t l b b' b'' (Bytes n) (Bytes m) (_, (ws, p, k)) (_, (vs, q, j)) =
+gate_list_one_answer t l b b' b'' (Ok n) (Ok m) (_, (ws, p, k)) (_, (vs, q, j)) =
     let e = laid_once k (subst (λ (us : List ℕ). Laid b 0 (file_of us) m b'') (one_gate_list t l vs ws q p) j) in
     let e0 = e.0 in
     (cc, e.1)
-gate_list_one_answer t l b b' b'' (Bytes n) (Refused k p) (c, _) (f, _) = absurd ((list_refusals_one t l (length b)).none c f)
-gate_list_one_answer t l b b' b'' (Refused k p) (Bytes m) (f, _) (c, _) = absurd ((list_refusals_one t l (length b)).none c f)
-gate_list_one_answer t l b b' b'' (Refused k p) (Refused j q) (f, g) (h, i) =
-    let e = (list_refusals_one t l (length b)).one f h in
-    let e0 = e.0 in
-    let e1 = e.1 in
-    (cc, g ∙ sym i)
+gate_list_one_answer t l b b' b'' (Ok n) (Err e) (c, _) (f, _) = absurd ((list_refusals_one t l (length b)).none c f)
+gate_list_one_answer t l b b' b'' (Err e) (Ok m) (f, _) (c, _) = absurd ((list_refusals_one t l (length b)).none c f)
+gate_list_one_answer t l b b' b'' (Err d) (Err e) (f, g) (h, i) =
+    let one = (list_refusals_one t l (length b)).one f h in
+    (same_refusal one.0 one.1, g ∙ sym i)

@@ -1,7 +1,8 @@
 -- Gate lists at numbers.
-use Rattle.std.specs.Prelude.{ℕ, zero, suc, ◌+◌, ◌≤◌, ◌≡◌, List, [], ◌∷◌, length}
+use Rattle.std.specs.Prelude.{ℕ, zero, suc, ◌+◌, ◌≤◌, ◌≡◌, List, [], ◌∷◌, length, Ok}
+use Rattle.basics.specs.Cause.{refused}
+use Rattle.basics.specs.declared.Cause.TheVariants as cause
 use Rattle.numbers.specs.Series.{file_of, overlaid}
-use Rattle.numbers.specs.declared.Written.TheVariants.{Bytes, Refused}
 use Rattle.table.specs.PlanA.{plan_with, like_a, offsets_a, plan_a, hold_a}
 use Rattle.gate_lists.specs.GateList.{CycleOf, IsGateList}
 use Rattle.gate_lists.specs.Lists.{WritesGateList}
@@ -52,26 +53,26 @@ pub record GateListsAtNumbers : Type 0 where
   pub cycle_of_a : CycleOf accepted_a 0 300000
   pub link_0 : IsGateList accepted_a 0 list_of_a
   pub bytes : length (file_of list_of_a) ≡ 32
-  pub written : (b : List ℕ) → 32 ≤ length b → WritesGateList accepted_a 0 b (Bytes 32) (overlaid b 0 (file_of list_of_a))
+  pub written : (b : List ℕ) → 32 ≤ length b → WritesGateList accepted_a 0 b (Ok 32) (overlaid b 0 (file_of list_of_a))
   pub link_1 : IsGateList accepted_a 1 (127 ∷ 1176 ∷ 128 ∷ 672 ∷ 127 ∷ 98152 ∷ [])
   -- A link without legs, and one that is held all the time.
   pub no_legs : IsGateList empty_link 0 []
   pub held_always : IsGateList full_link 0 (128 ∷ 672 ∷ [])
   -- 1,024 pairs are a list. One nanosecond later the cycle begins with a pair more, of 1 ns, and 1,025 are refused, whatever the room.
   pub pairs_1024 : IsGateList (comb 0) 0 list_of_comb × (length list_of_comb ≡ 2048)
-  pub written_1024 : (b : List ℕ) → length (file_of list_of_comb) ≤ length b → WritesGateList (comb 0) 0 b (Bytes (length (file_of list_of_comb))) (overlaid b 0 (file_of list_of_comb))
-  pub pairs_1025 : (b : List ℕ) → WritesGateList (comb 1) 0 b (Refused 22 0) b
+  pub written_1024 : (b : List ℕ) → length (file_of list_of_comb) ≤ length b → WritesGateList (comb 0) 0 b (Ok (length (file_of list_of_comb))) (overlaid b 0 (file_of list_of_comb))
+  pub pairs_1025 : (b : List ℕ) → WritesGateList (comb 1) 0 b (refused cause.TooManyPairs 0) b
   -- There are two links. 23 comes before 19: Plan A itself is not accepted.
-  pub no_link_is : (b : List ℕ) → WritesGateList plan_a 2 b (Refused 23 0) b
-  pub not_accepted_lem : (b : List ℕ) → WritesGateList plan_a 0 b (Refused 19 0) b
+  pub no_link_is : (b : List ℕ) → WritesGateList plan_a 2 b (refused cause.NoLink 0) b
+  pub not_accepted_lem : (b : List ℕ) → WritesGateList plan_a 0 b (refused cause.NotAccepted 0) b
   -- The cycle passes 1,000,000,000. On link 1, where leg 1 is alone, it does not.
-  pub long_cycle_is : (b : List ℕ) → WritesGateList slow_a 0 b (Refused 21 0) b
+  pub long_cycle_is : (b : List ℕ) → WritesGateList slow_a 0 b (refused cause.LongCycle 0) b
   pub own_cycle : CycleOf slow_a 1 700000000
   -- A cycle of just 1,000,000,000 is taken, and one of 1,000,000,001 is not. 21 comes before 22, and 19 before 21: with leg 2 at 0 the plan is not accepted.
-  pub just_short : (b : List ℕ) → 10 ≤ length b → WritesGateList second_a 0 b (Bytes 10) (overlaid b 0 (file_of (128 ∷ 1344 ∷ 127 ∷ 999998656 ∷ [])))
-  pub just_long : (b : List ℕ) → WritesGateList just_past_a 0 b (Refused 21 0) b
-  pub nineteen_first : (b : List ℕ) → WritesGateList (with_periods 700000000 800000000 0) 0 b (Refused 19 0) b
+  pub just_short : (b : List ℕ) → 10 ≤ length b → WritesGateList second_a 0 b (Ok 10) (overlaid b 0 (file_of (128 ∷ 1344 ∷ 127 ∷ 999998656 ∷ [])))
+  pub just_long : (b : List ℕ) → WritesGateList just_past_a 0 b (refused cause.LongCycle 0) b
+  pub nineteen_first : (b : List ℕ) → WritesGateList (with_periods 700000000 800000000 0) 0 b (refused cause.NotAccepted 0) b
   -- 31 bytes are one too few.
-  pub no_room_lem : (b : List ℕ) → length b ≡ 31 → WritesGateList accepted_a 0 b (Refused 15 0) b
+  pub no_room_lem : (b : List ℕ) → length b ≡ 31 → WritesGateList accepted_a 0 b (refused cause.NoRoom 0) b
   -- Without words there is no table, and 1 comes first.
-  pub no_table : (b : List ℕ) → WritesGateList [] 0 b (Refused 1 0) b
+  pub no_table : (b : List ℕ) → WritesGateList [] 0 b (refused cause.NoHeader 0) b

@@ -1,21 +1,21 @@
 -- What is proved of gate lists.
-use Rattle.std.specs.Prelude.{ℕ, ◌+◌, ◌*◌, ◌≤◌, ◌<◌, ◌≡◌, List, ◌⊎◌, length, take}
-use Rattle.numbers.specs.Number.{max_number_bytes, no_room}
+use Rattle.std.specs.Prelude.{ℕ, ◌+◌, ◌*◌, ◌≤◌, ◌<◌, ◌≡◌, List, ◌⊎◌, length, take, Result, Ok}
+use Rattle.basics.specs.Cause.{number_of, refused}
+use Rattle.basics.specs.declared.Cause.{Cause}
+use Rattle.basics.specs.declared.Cause.TheVariants as cause
+use Rattle.basics.specs.declared.Refusal.{Refusal}
+use Rattle.numbers.specs.Number.{max_number_bytes}
 use Rattle.numbers.specs.Series.{AllWords, file_of, overlaid}
-use Rattle.numbers.specs.declared.Written.{Written}
-use Rattle.numbers.specs.declared.Written.TheVariants.{Bytes, Refused}
 use Rattle.table.specs.Layout.{link_count, leg_count}
 use Rattle.table.specs.Records.{leg_at}
 use Rattle.overlap.specs.Meeting.{HoldsLink}
 use Rattle.rules.specs.Times.{slot_of}
-use Rattle.checker.specs.Accepted.{Accepted, not_accepted}
+use Rattle.checker.specs.Accepted.{Accepted}
 use Rattle.gates.specs.Holding.{held_mask, idle_mask}
 use Rattle.gates.specs.Pairs.{mask_of, duration_of, ShowsAt, max_pairs, max_cycle}
 use Rattle.gate_files.specs.ListFiles.{WholePairs, ReadsList}
-use Rattle.gate_files.specs.declared.ListRead.{ListRead}
-use Rattle.gate_files.specs.declared.ListRead.TheVariants as list
 use Rattle.gate_lists.specs.GateList.{CycleOf, RightMask, IsGateList}
-use Rattle.gate_lists.specs.Lists.{long_cycle, too_many_pairs, no_link, MayList, ShortCycle, WritesGateList}
+use Rattle.gate_lists.specs.Lists.{MayList, ShortCycle, WritesGateList}
 
 -- A link has at most one gate list.
 abbrev pub OneGateList : Type 0
@@ -24,7 +24,7 @@ OneGateList = (t : List ℕ) (l : ℕ) (ws vs : List ℕ) → IsGateList t l ws 
 -- The call has one answer and leaves one memory.
 abbrev pub GateListOneAnswer : Type 0
 GateListOneAnswer =
-    (t : List ℕ) (l : ℕ) (b b' b'' : List ℕ) (r r' : Written) → WritesGateList t l b r b' → WritesGateList t l b r' b'' → (r ≡ r') × (b' ≡ b'')
+    (t : List ℕ) (l : ℕ) (b b' b'' : List ℕ) (r r' : Result ℕ Refusal) → WritesGateList t l b r b' → WritesGateList t l b r' b'' → (r ≡ r') × (b' ≡ b'')
 
 -- FOR EVER. A switch repeats the list of a link of an accepted table without end. In every pass, one cycle after the other, a pair that shows has the right mask.
 abbrev pub GateListsRepeat : Type 0
@@ -66,9 +66,9 @@ GateListsAreWords = (t : List ℕ) (l : ℕ) (ws : List ℕ) → ShortCycle t l 
 -- BACK AGAIN. The bytes that the call wrote are read as the link's list, where there is room for 2,048 words.
 abbrev pub GateListsComeBack : Type 0
 GateListsComeBack =
-    (t : List ℕ) (l n : ℕ) (b b' words words' : List ℕ) (r : ListRead)
-    → WritesGateList t l b (Bytes n) b' → ReadsList (take n b') words r words' → 2 * max_pairs ≤ length words
-    → (ws : List ℕ) × IsGateList t l ws × (r ≡ list.Words (length ws)) × (words' ≡ overlaid words 0 ws)
+    (t : List ℕ) (l n : ℕ) (b b' words words' : List ℕ) (r : Result ℕ Refusal)
+    → WritesGateList t l b (Ok n) b' → ReadsList (take n b') words r words' → 2 * max_pairs ≤ length words
+    → (ws : List ℕ) × IsGateList t l ws × (r ≡ Ok (length ws)) × (words' ≡ overlaid words 0 ws)
 
 -- EVERY LINK of an accepted table has a cycle and a gate list, however long they are.
 pub record GateListsExist : Type 0 where
@@ -77,16 +77,16 @@ pub record GateListsExist : Type 0 where
 
 -- So 21, 22 and 15 mean that the link's cycle, its list or its file is too long.
 pub record ListRefusalsMean : Type 0 where
-  pub long : (t : List ℕ) (l p : ℕ) (b b' : List ℕ) → WritesGateList t l b (Refused long_cycle p) b' → (c : ℕ) × CycleOf t l c × (max_cycle < c)
-  pub many : (t : List ℕ) (l p : ℕ) (b b' : List ℕ) → WritesGateList t l b (Refused too_many_pairs p) b' → (ws : List ℕ) × IsGateList t l ws × (2 * max_pairs < length ws)
-  pub room : (t : List ℕ) (l p : ℕ) (b b' : List ℕ) → WritesGateList t l b (Refused no_room p) b' → (ws : List ℕ) × IsGateList t l ws × (length b < length (file_of ws))
+  pub long : (t : List ℕ) (l p : ℕ) (b b' : List ℕ) → WritesGateList t l b (refused cause.LongCycle p) b' → (c : ℕ) × CycleOf t l c × (max_cycle < c)
+  pub many : (t : List ℕ) (l p : ℕ) (b b' : List ℕ) → WritesGateList t l b (refused cause.TooManyPairs p) b' → (ws : List ℕ) × IsGateList t l ws × (2 * max_pairs < length ws)
+  pub room : (t : List ℕ) (l p : ℕ) (b b' : List ℕ) → WritesGateList t l b (refused cause.NoRoom p) b' → (ws : List ℕ) × IsGateList t l ws × (length b < length (file_of ws))
 
 -- Which refusals there are: 1 to 7, and at 0: 23, 19, 21, 22 and 15.
-pub record GateListRefusal (k p : ℕ) : Type 0 where
-  pub which : ((1 ≤ k) × (k ≤ 7)) ⊎ (((k ≡ no_link) ⊎ ((k ≡ not_accepted) ⊎ ((k ≡ long_cycle) ⊎ ((k ≡ too_many_pairs) ⊎ (k ≡ no_room))))) × (p ≡ 0))
+pub record GateListRefusal (k : Cause) (p : ℕ) : Type 0 where
+  pub which : ((number_of cause.NoHeader ≤ number_of k) × (number_of k ≤ number_of cause.BadLeg)) ⊎ (((k ≡ cause.NoLink) ⊎ ((k ≡ cause.NotAccepted) ⊎ ((k ≡ cause.LongCycle) ⊎ ((k ≡ cause.TooManyPairs) ⊎ (k ≡ cause.NoRoom))))) × (p ≡ 0))
 
 abbrev pub GateListRefusalsAreThese : Type 0
-GateListRefusalsAreThese = (t : List ℕ) (l k p : ℕ) (b b' : List ℕ) → WritesGateList t l b (Refused k p) b' → GateListRefusal k p
+GateListRefusalsAreThese = (t : List ℕ) (l : ℕ) (k : Cause) (p : ℕ) (b b' : List ℕ) → WritesGateList t l b (refused k p) b' → GateListRefusal k p
 
 -- Where the list of one link may be asked for, that of every link may.
 abbrev pub OneTestForAll : Type 0
@@ -98,4 +98,4 @@ max_list_bytes = max_number_bytes * (2 * max_pairs)
 
 pub record ListRoomIsEnough : Type 0 where
   pub is : max_list_bytes ≡ 10240
-  pub enough : (t : List ℕ) (l p : ℕ) (b b' : List ℕ) → max_list_bytes ≤ length b → WritesGateList t l b (Refused no_room p) b' → ⊥
+  pub enough : (t : List ℕ) (l p : ℕ) (b b' : List ℕ) → max_list_bytes ≤ length b → WritesGateList t l b (refused cause.NoRoom p) b' → ⊥

@@ -4,18 +4,19 @@ use mathlib.Core.Path.{◌≡◌, ◌∙◌, sym, ap, subst}
 use mathlib.Core.List.{List, [], ◌∷◌, ◌++◌}
 use lib.ListN.{length}
 use native.Mathlib.Omega.{arith}
+use Rattle.std.specs.Prelude.{Ok, Err}
 use Rattle.basics.specs.Refusals.{OneFault}
-use Rattle.basics.proofs.Refusals.{unless_one, then_one, called_one}
+use Rattle.basics.specs.declared.Cause.TheVariants as cause
+use Rattle.basics.proofs.Refusals.{unless_one, then_one, called_one, same_refusal}
 use Rattle.shape.proofs.OneShape.{shape_one}
 use Rattle.rules.specs.Places.{rule_at, PlaceHolds}
-use Rattle.checker.specs.Moves.{no_leg}
 use Rattle.recheck.specs.Rechecks.{AllHold, FirstOf, recheck_refusals}
 use Rattle.recheck.specs.Theorems.{RecheckOneAnswer}
 use Rattle.recheck.specs.declared.Place.{Place}
-use Rattle.recheck.specs.declared.RecheckAnswer.TheVariants.{Violated, NothingViolated, Refused}
+use Rattle.recheck.specs.declared.Rechecked.TheVariants.{Violated, NothingViolated}
 
 pub recheck_one : (t : List ℕ) (m : ℕ) → OneFault (recheck_refusals t m)
-recheck_one t m = called_one (then_one (shape_one t) (unless_one no_leg _)) (λ c. (c.shape, c.leg))
+recheck_one t m = called_one (then_one (shape_one t) (unless_one cause.NoLeg _)) (λ c. (c.shape, c.leg))
 
 module _ (t : List ℕ) where
   -- The head of a list and what follows it.
@@ -53,21 +54,19 @@ module _ (t : List ℕ) where
   first_not_all {q = q} f h = f.broken (held_there f.before q f.after (subst (AllHold t) f.list h))
 
 pub recheck_one_answer : RecheckOneAnswer
-recheck_one_answer t m (Violated q r n) (Violated q' r' n') v w =
+recheck_one_answer t m (Ok (Violated q r n)) (Ok (Violated q' r' n')) v w =
     let i = one_first t v.1 w.1 in
     let e = i.0 in
     let f = i.1 in
     let g = v.2 ∙ ap (λ (z : Place). rule_at z.place) e ∙ sym w.2 in
     cc
-recheck_one_answer t m (Violated q r n) (NothingViolated k) v w = absurd (first_not_all t v.1 w.1)
-recheck_one_answer t m (Violated q r n) (Refused k p) v f = absurd ((recheck_one t m).none v.0 f)
-recheck_one_answer t m (NothingViolated n) (Violated q r k) v w = absurd (first_not_all t w.1 v.1)
-recheck_one_answer t m (NothingViolated n) (NothingViolated k) v w = ap NothingViolated (v.2 ∙ sym w.2)
-recheck_one_answer t m (NothingViolated n) (Refused k p) v f = absurd ((recheck_one t m).none v.0 f)
-recheck_one_answer t m (Refused k p) (Violated q r n) f v = absurd ((recheck_one t m).none v.0 f)
-recheck_one_answer t m (Refused k p) (NothingViolated n) f v = absurd ((recheck_one t m).none v.0 f)
-recheck_one_answer t m (Refused k p) (Refused l q) f g =
+recheck_one_answer t m (Ok (Violated q r n)) (Ok (NothingViolated k)) v w = absurd (first_not_all t v.1 w.1)
+recheck_one_answer t m (Ok (Violated q r n)) (Err e) v f = absurd ((recheck_one t m).none v.0 f)
+recheck_one_answer t m (Ok (NothingViolated n)) (Ok (Violated q r k)) v w = absurd (first_not_all t w.1 v.1)
+recheck_one_answer t m (Ok (NothingViolated n)) (Ok (NothingViolated k)) v w = ap (λ (x : ℕ). Ok (NothingViolated x)) (v.2 ∙ sym w.2)
+recheck_one_answer t m (Ok (NothingViolated n)) (Err e) v f = absurd ((recheck_one t m).none v.0 f)
+recheck_one_answer t m (Err e) (Ok (Violated q r n)) f v = absurd ((recheck_one t m).none v.0 f)
+recheck_one_answer t m (Err e) (Ok (NothingViolated n)) f v = absurd ((recheck_one t m).none v.0 f)
+recheck_one_answer t m (Err d) (Err e) f g =
     let i = (recheck_one t m).one f g in
-    let e = i.0 in
-    let h = i.1 in
-    cc
+    same_refusal i.0 i.1

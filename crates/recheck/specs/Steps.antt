@@ -1,16 +1,14 @@
 -- What the inner functions of this crate tell.
-use Rattle.std.specs.Prelude.{ℕ, ◌+◌, ◌≤◌, ◌<◌, ◌≡◌, true, List, ◌++◌, length}
+use Rattle.std.specs.Prelude.{ℕ, ◌+◌, ◌<◌, ◌≡◌, true, List, ◌++◌, length, Result, Ok, Err}
 use Rattle.numbers.specs.Number.{max_word}
-use Rattle.shape.specs.Legs.{end_of}
 use Rattle.rules.specs.Places.{places_of, rule_at, PlaceHolds}
-use Rattle.rules.specs.Steps.{LegIn, FrameOf}
-use Rattle.rules.specs.declared.Frame.{Frame}
+use Rattle.rules.specs.Steps.{LegIn}
+use Rattle.rules.specs.declared.leg.TimedLeg.{TimedLeg}
 use Rattle.rules.specs.declared.Rule.{Rule}
 use Rattle.recheck.specs.Listed.{can_read, listed_at, listed_below}
 use Rattle.recheck.specs.Rechecks.{AllHold}
 use Rattle.recheck.specs.declared.Place.{Place}
-use Rattle.recheck.specs.declared.look.Told.{Told}
-use Rattle.recheck.specs.declared.look.Told.TheVariants as told
+use Rattle.recheck.specs.declared.look.BrokenAfter.{BrokenAfter}
 
 -- The places of the list before place p of leg a.
 abbrev pub listed_to : List ℕ → ℕ → ℕ → ℕ → List Place
@@ -34,20 +32,11 @@ pub record BrokenAt (t : List ℕ) (m a p : ℕ) (r : Rule) (n : ℕ) : Type 0 w
   pub rule : r ≡ rule_at p
 
 -- After the places of leg a before place p.
-abbrev pub StepTold : List ℕ → ℕ → ℕ → ℕ → Told → Type 0
-StepTold t m a p (told.Kept n) = LookedTo t m a p n
-StepTold t m a p (told.Broken q r n) = BrokenAt t m a q r n
+abbrev pub StepTold : List ℕ → ℕ → ℕ → ℕ → Result ℕ BrokenAfter → Type 0
+StepTold t m a p (Ok n) = LookedTo t m a p n
+StepTold t m a p (Err b) = BrokenAt t m b.leg b.place b.rule b.looked
 
--- A leg a after leg m; the stream of m ends before leg `end`.
-pub record Later (t : List ℕ) (m end a : ℕ) (f : Frame) : Type 0 where
-  pub moved : LegIn t m
-  pub end_is : end ≡ end_of t m
-  pub leg : LegIn t a
-  pub frame : FrameOf t a f
-  pub above : m < a
-
--- Numbers that are words.
-pub record Words (a p n : ℕ) : Type 0 where
-  pub leg : a ≤ max_word
-  pub place : p ≤ max_word
-  pub number : n ≤ max_word
+-- A leg after leg m of the same plan.
+pub record Later (m leg : TimedLeg) : Type 0 where
+  pub same : m.plan.now ≡ leg.plan.now
+  pub above : m.at < leg.at

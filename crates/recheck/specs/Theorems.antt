@@ -1,5 +1,6 @@
 -- What is proved of a recheck and of the list that it looks at.
-use Rattle.std.specs.Prelude.{ℕ, ◌+◌, ◌≤◌, ◌<◌, ◌≡◌, List, [], ◌∷◌, ◌⊎◌, length}
+use Rattle.std.specs.Prelude.{ℕ, ◌+◌, ◌≤◌, ◌<◌, ◌≡◌, List, [], ◌∷◌, ◌⊎◌, length, Result, Ok}
+use Rattle.basics.specs.declared.Refusal.{Refusal}
 use Rattle.table.specs.Layout.{leg_count}
 use Rattle.table.specs.Records.{moved}
 use Rattle.table.specs.declared.Move.{Move}
@@ -16,12 +17,12 @@ use Rattle.recheck.specs.Listed.{place_at, listed}
 use Rattle.recheck.specs.Rechecks.{CanRecheck, Rechecks}
 use Rattle.recheck.specs.Premise.{WasAccepted, SameButLeg}
 use Rattle.recheck.specs.declared.Place.{Place}
-use Rattle.recheck.specs.declared.RecheckAnswer.{RecheckAnswer}
-use Rattle.recheck.specs.declared.RecheckAnswer.TheVariants.{Violated, NothingViolated}
+use Rattle.recheck.specs.declared.Rechecked.{Rechecked}
+use Rattle.recheck.specs.declared.Rechecked.TheVariants.{Violated, NothingViolated}
 
 -- One answer.
 abbrev pub RecheckOneAnswer : Type 0
-RecheckOneAnswer = (t : List ℕ) (m : ℕ) (r r' : RecheckAnswer) → Rechecks t m r → Rechecks t m r' → r ≡ r'
+RecheckOneAnswer = (t : List ℕ) (m : ℕ) (r r' : Result Rechecked Refusal) → Rechecks t m r → Rechecks t m r' → r ≡ r'
 
 -- A place is in a list; and each place of a list comes before all that follow it, so that none is there twice.
 abbrev pub In : Place → List Place → Type 0
@@ -56,13 +57,13 @@ RecheckListIsRight = (t : List ℕ) (m : ℕ) → CanRecheck t m → ListIsRight
 
 -- So many places an answer tells: at least 1, and G + 4 at the most.
 pub record RecheckIsShort : Type 0 where
-  pub violated : (t : List ℕ) (m : ℕ) (q : Place) (r : Rule) (n : ℕ) → Rechecks t m (Violated q r n) → (1 ≤ n) × (n ≤ leg_count t + 4)
-  pub nothing : (t : List ℕ) (m n : ℕ) → Rechecks t m (NothingViolated n) → (1 ≤ n) × (n ≤ leg_count t + 4)
+  pub violated : (t : List ℕ) (m : ℕ) (q : Place) (r : Rule) (n : ℕ) → Rechecks t m (Ok (Violated q r n)) → (1 ≤ n) × (n ≤ leg_count t + 4)
+  pub nothing : (t : List ℕ) (m n : ℕ) → Rechecks t m (Ok (NothingViolated n)) → (1 ≤ n) × (n ≤ leg_count t + 4)
 
 -- WHAT THE PREMISE IS FOR: with it every place that is not in the list holds, and a recheck that finds nothing violated accepts the whole table.
 pub record RecheckSpeaksForAll : Type 0 where
   pub others : (t : List ℕ) (m a p : ℕ) → CanRecheck t m → WasAccepted t m → IsPlace t a p → (In (place_at a p) (listed t m) → ⊥) → PlaceHolds t a p
-  pub accepts : (t : List ℕ) (m n : ℕ) → WasAccepted t m → Rechecks t m (NothingViolated n) → Accepted t
+  pub accepts : (t : List ℕ) (m n : ℕ) → WasAccepted t m → Rechecks t m (Ok (NothingViolated n)) → Accepted t
 
 -- THE PREMISE AND WHAT KEEPS IT.
 pub record PremiseIsKept : Type 0 where

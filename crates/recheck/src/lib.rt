@@ -1,49 +1,38 @@
-// One late move: the places at which a moved leg can be read, looked at in order.
+//! One late move: the places at which a moved leg can be read, looked at in order.
 #![tactic(auto)]
 
-ghost use Rattle.shape.specs.Shape.{WellFormedTable};
+ghost use Rattle.std.specs.Prelude.{Result};
 ghost use Rattle.recheck.specs.Rechecks.{Rechecks};
 
-use basics::Checked;
+use basics::{Cause, Refusal};
 use rules::Rule;
+use shape::plan::Plan;
 
 pub mod look;
 pub mod same;
 
-// A place of a table: a leg, and a place of that leg.
-#[derive(Clone, Copy)]
+/// A place of a table: a leg, and a place of that leg.
+#[derive(Clone, Copy, Debug, PartialEq, Eq)]
 pub struct Place {
     pub leg: u32,
     pub place: u32,
 }
 
-// What a recheck gives: the first violated place, its rule, and how many places were looked at, itself included; that nothing is violated at the places that were looked at, and how
-// many they are; or a refusal's number and position.
-#[derive(Clone, Copy)]
-pub enum RecheckAnswer {
+/// The verdict of a recheck: the first violated place, its rule, and how many places were looked at, itself included; or that nothing is violated at the places that were looked at, and
+/// how many they are.
+#[derive(Clone, Copy, Debug, PartialEq, Eq)]
+pub enum Rechecked {
     Violated(Place, Rule, u32),
     NothingViolated(u32),
-    Refused(u32, usize),
 }
 
-// The leg of a well-formed table, and then its list.
-fn leg_rechecked(t: &[u32], leg: u32) -> RecheckAnswer
-    requires { WellFormedTable t.now }
+/// Looks in order at the places of a table at which a leg, the one that was moved, can be read. Refuses 1 to 7 and 10.
+pub fn recheck(t: &[u32], leg: u32) -> Result<Rechecked, Refusal>
     ensures { Rechecks t.now leg result }
 {
-    if t[table::LEGS_AT] <= leg {
-        return RecheckAnswer::Refused(checker::cursors::NO_LEG, 0);
+    let plan = Plan::judge(t)?;
+    if plan.legs() <= leg as usize {
+        return Err(Cause::NoLeg.at(0));
     }
-    look::looked(t, leg)
-}
-
-// Looks in order at the places of a table at which a leg, the one that was moved, can be read.
-pub fn recheck(t: &[u32], leg: u32) -> RecheckAnswer
-    ensures { Rechecks t.now leg result }
-{
-    let told = shape::judged_shape(t);
-    match told {
-        Checked::Refused(number, at) => RecheckAnswer::Refused(number, at),
-        Checked::Clear => leg_rechecked(t, leg),
-    }
+    Ok(look::looked(&plan, leg))
 }

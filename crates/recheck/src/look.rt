@@ -1,208 +1,157 @@
 // The places at which leg m can be read, leg by leg from m on.
-ghost use Rattle.std.specs.Prelude.{◌≡◌, true, ◌+◌, ◌<◌, ◌≤◌};
-ghost use Rattle.table.specs.Records.{leg_at};
+ghost use Rattle.std.specs.Prelude.{◌≡◌, true, ◌+◌, ◌<◌, ◌≤◌, Result};
+ghost use Rattle.table.specs.Layout.{leg_count};
 ghost use Rattle.shape.specs.Legs.{end_of};
 ghost use Rattle.rules.specs.Places.{own_places, places_of};
-ghost use Rattle.rules.specs.Steps.{LegIn, FrameOf};
-ghost use Rattle.recheck.specs.Listed.{can_read, place_at};
-ghost use Rattle.recheck.specs.Rechecks.{CanRecheck, Rechecks};
-ghost use Rattle.recheck.specs.declared.RecheckAnswer.TheVariants.{Violated};
-ghost use Rattle.recheck.specs.Steps.{LookedTo, StepTold, Later, Words};
+ghost use Rattle.recheck.specs.Listed.{can_read};
+ghost use Rattle.recheck.specs.Rechecks.{CanRecheck, VerdictOf};
+ghost use Rattle.recheck.specs.Steps.{LookedTo, StepTold, Later};
 
-use crate::{Place, RecheckAnswer};
-use rules::{Frame, Judged, Rule};
+use crate::{Place, Rechecked};
+use rules::Rule;
+use rules::leg::TimedLeg;
+use shape::plan::Plan;
 
-// What is told after some places more: the first broken one of the leg and its rule, or that they are kept; and how many were looked at so far.
-#[derive(Clone, Copy)]
-pub enum Told {
-    Broken(usize, Rule, usize),
-    Kept(usize),
+/// A broken place of a leg, its rule, and how many places were looked at, itself included.
+#[derive(Clone, Copy, Debug, PartialEq, Eq)]
+pub struct BrokenAfter {
+    pub leg: usize,
+    pub place: usize,
+    pub rule: Rule,
+    pub looked: usize,
 }
 
 const HOP_AT: usize = 1;
 
 const DEADLINE_AT: usize = 2;
 
-// Looks at place p of leg a, after n places.
-fn look(t: &[u32], m: usize, a: usize, f: Frame, p: usize, n: usize) -> Told
-    requires leg_in { LegIn t.now a × FrameOf t.now a f }
-    requires p_bound { p < places_of a }
-    requires p_value { can_read t.now m a p ≡ true }
-    requires looked_to { LookedTo t.now m a p n }
-    ensures { StepTold t.now m a (p + 1) result }
+/// Looks at place p of a leg at which leg m can be read, after n places. Returns how many places were looked at then; the first broken place ends all looks.
+fn look(m: usize, leg: &TimedLeg, p: usize, n: usize) -> Result<usize, BrokenAfter>
+    requires p_bound { p < places_of leg.now.at }
+    requires p_value { can_read leg.now.plan.now m leg.now.at p ≡ true }
+    requires looked_to { LookedTo leg.now.plan.now m leg.now.at p n }
+    ensures { StepTold leg.now.plan.now m leg.now.at (p + 1) result }
 {
-    let told = rules::place::judged_place(t, a, f, p);
-    match told {
-        Judged::Broken(rule) => Told::Broken(p, rule, n + 1),
-        Judged::Kept => Told::Kept(n + 1),
+    match leg.broken_at(p) {
+        Some(rule) => Err(BrokenAfter {
+            leg: leg.at,
+            place: p,
+            rule,
+            looked: n + 1,
+        }),
+        None => Ok(n + 1),
     }
 }
 
-// A place as it is answered.
-fn violated(a: usize, p: usize, rule: Rule, n: usize) -> RecheckAnswer
-    requires { Words a p n }
-    ensures { result ≡ Violated (place_at a p) rule n }
+/// Looks at the places of leg m itself.
+fn own(m: &TimedLeg) -> Result<usize, BrokenAfter>
+    ensures { StepTold m.now.plan.now m.now.at m.now.at (places_of m.now.at) result }
 {
-    RecheckAnswer::Violated(
-        Place {
-            leg: a as u32,
-            place: p as u32,
-        },
-        rule,
-        n as u32,
-    )
-}
-
-// The places of leg m itself.
-fn own(t: &[u32], m: usize, f: Frame) -> Told
-    requires { LegIn t.now m × FrameOf t.now m f }
-    ensures { StepTold t.now m m (places_of m) result }
-{
-    let end = places::places_of(m);
-    let mut p = 0;
+    let end = places::places_of(m.at);
     let mut n = 0;
-    while p < end {
-        let told = look(t, m, m, f, p, n);
-        match told {
-            Told::Broken(q, rule, k) => {
-                return Told::Broken(q, rule, k);
-            }
-            Told::Kept(k) => {
-                n = k;
-            }
-        }
-        p = p + 1;
+    for p in 0..end {
+        n = look(m.at, m, p, n)?;
     }
-    Told::Kept(n)
+    Ok(n)
 }
 
-// The hop of a later leg a, where it is the next one of the stream of m, which ends before `end`.
-fn hop(t: &[u32], m: usize, end: usize, a: usize, f: Frame, n: usize) -> Told
-    requires later { Later t.now m end a f }
-    requires looked_to { LookedTo t.now m a 0 n }
-    ensures { StepTold t.now m a 2 result }
+/// Looks at the hop of a later leg, if that is the next leg of the stream of m.
+fn hop(m: &TimedLeg, leg: &TimedLeg, n: usize) -> Result<usize, BrokenAfter>
+    requires later { Later m.now leg.now }
+    requires looked_to { LookedTo leg.now.plan.now m.now.at leg.now.at 0 n }
+    ensures { StepTold leg.now.plan.now m.now.at leg.now.at 2 result }
 {
-    if a == m + 1 {
-        if a < end {
-            return look(t, m, a, f, HOP_AT, n);
-        }
+    if leg.at == m.at + 1 && leg.at < m.frame.end {
+        return look(m.at, leg, HOP_AT, n);
     }
-    Told::Kept(n)
+    Ok(n)
 }
 
-// Its deadline, where it is the last leg of that stream.
-fn deadline(t: &[u32], m: usize, end: usize, a: usize, f: Frame, n: usize) -> Told
-    requires later { Later t.now m end a f }
-    requires looked_to { LookedTo t.now m a 2 n }
-    ensures { StepTold t.now m a own_places result }
+/// Looks at its deadline, if it is the last leg of that stream.
+fn deadline(m: &TimedLeg, leg: &TimedLeg, n: usize) -> Result<usize, BrokenAfter>
+    requires later { Later m.now leg.now }
+    requires looked_to { LookedTo leg.now.plan.now m.now.at leg.now.at 2 n }
+    ensures { StepTold leg.now.plan.now m.now.at leg.now.at own_places result }
 {
-    if a + 1 == end {
-        return look(t, m, a, f, DEADLINE_AT, n);
+    if leg.at + 1 == m.frame.end {
+        return look(m.at, leg, DEADLINE_AT, n);
     }
-    Told::Kept(n)
+    Ok(n)
 }
 
-// Its places with leg m.
-fn pairs(t: &[u32], m: usize, end: usize, a: usize, f: Frame, n: usize) -> Told
-    requires later { Later t.now m end a f }
-    requires looked_to { LookedTo t.now m a own_places n }
-    ensures { StepTold t.now m a (places_of a) result }
+/// Looks at its places with leg m.
+fn pairs(m: &TimedLeg, leg: &TimedLeg, n: usize) -> Result<usize, BrokenAfter>
+    requires later { Later m.now leg.now }
+    requires looked_to { LookedTo leg.now.plan.now m.now.at leg.now.at own_places n }
+    ensures { StepTold leg.now.plan.now m.now.at leg.now.at (places_of leg.now.at) result }
 {
-    look(t, m, a, f, rules::place::pair_place(m), n)
+    look(m.at, leg, rules::place::pair_place(m.at), n)
 }
 
-// The rest of a later leg's places at which leg m can be read.
-fn after_hop(t: &[u32], m: usize, end: usize, a: usize, f: Frame, n: usize) -> Told
-    requires later { Later t.now m end a f }
-    requires looked_to { LookedTo t.now m a 2 n }
-    ensures { StepTold t.now m a (places_of a) result }
+/// Looks at all places of a leg a of a later stream at which leg m can be read. The links are compared first, before more of leg a is read.
+fn beyond(m: &TimedLeg, a: usize, n: usize) -> Result<usize, BrokenAfter>
+    requires end_value { end_of m.now.plan.now m.now.at ≤ a }
+    requires above { (m.now.at < a) × (a < leg_count m.now.plan.now) }
+    requires looked_to { LookedTo m.now.plan.now m.now.at a 0 n }
+    ensures { StepTold m.now.plan.now m.now.at a (places_of a) result }
 {
-    let told = deadline(t, m, end, a, f, n);
-    match told {
-        Told::Broken(p, rule, k) => Told::Broken(p, rule, k),
-        Told::Kept(k) => pairs(t, m, end, a, f, k),
+    if m.plan.leg(a).link != m.frame.link {
+        return Ok(n + 1);
     }
+    pairs(m, &TimedLeg::of(m.plan, a), n)
 }
 
-// All places of a leg a of a later stream at which leg m, which takes this link, can be read. The links are compared first, before more of leg a is read.
-fn beyond(t: &[u32], m: usize, link: u32, end: usize, a: usize, n: usize) -> Told
-    requires leg_in { LegIn t.now m × (link ≡ (leg_at t.now m).link) }
-    requires end_value { (end ≡ end_of t.now m) × (end ≤ a) }
-    requires leg_in_2 { LegIn t.now a × (m < a) }
-    requires looked_to { LookedTo t.now m a 0 n }
-    ensures { StepTold t.now m a (places_of a) result }
+/// Looks at all places of a later leg a of the same stream at which leg m can be read.
+fn later(m: &TimedLeg, a: usize, n: usize) -> Result<usize, BrokenAfter>
+    requires above { (m.now.at < a) × (a < leg_count m.now.plan.now) }
+    requires looked_to { LookedTo m.now.plan.now m.now.at a 0 n }
+    ensures { StepTold m.now.plan.now m.now.at a (places_of a) result }
 {
-    if rules::judge::link(t, a) != link {
-        return Told::Kept(n + 1);
+    let leg = TimedLeg::of(m.plan, a);
+    let n = hop(m, &leg, n)?;
+    let n = deadline(m, &leg, n)?;
+    pairs(m, &leg, n)
+}
+
+/// Looks at all places of a later leg a at which leg m can be read.
+fn after_moved(m: &TimedLeg, a: usize, n: usize) -> Result<usize, BrokenAfter>
+    requires above { (m.now.at < a) × (a < leg_count m.now.plan.now) }
+    requires looked_to { LookedTo m.now.plan.now m.now.at a 0 n }
+    ensures { StepTold m.now.plan.now m.now.at a (places_of a) result }
+{
+    if m.frame.end <= a {
+        return beyond(m, a, n);
     }
-    let f = rules::times::frame(t, a);
-    pairs(t, m, end, a, f, n)
+    later(m, a, n)
 }
 
-// All places of a later leg a of the same stream at which leg m can be read.
-fn later(t: &[u32], m: usize, end: usize, a: usize, n: usize) -> Told
-    requires leg_in { LegIn t.now m × (end ≡ end_of t.now m) }
-    requires leg_in_2 { LegIn t.now a × (m < a) }
-    requires looked_to { LookedTo t.now m a 0 n }
-    ensures { StepTold t.now m a (places_of a) result }
+/// Looks at all places at which leg m can be read, leg by leg from m on.
+fn all_legs(m: &TimedLeg) -> Result<usize, BrokenAfter>
+    ensures { StepTold m.now.plan.now m.now.at (leg_count m.now.plan.now) 0 result }
 {
-    let f = rules::times::frame(t, a);
-    let first = hop(t, m, end, a, f, n);
-    match first {
-        Told::Broken(p, rule, k) => Told::Broken(p, rule, k),
-        Told::Kept(k) => after_hop(t, m, end, a, f, k),
+    let legs = m.plan.legs();
+    let mut n = own(m)?;
+    for a in m.at + 1..legs {
+        n = after_moved(m, a, n)?;
     }
+    Ok(n)
 }
 
-// All places of a later leg a at which leg m, which takes this link, can be read.
-fn after_moved(t: &[u32], m: usize, link: u32, end: usize, a: usize, n: usize) -> Told
-    requires leg_in { LegIn t.now m × (link ≡ (leg_at t.now m).link) }
-    requires end_value { end ≡ end_of t.now m }
-    requires leg_in_2 { LegIn t.now a × (m < a) }
-    requires looked_to { LookedTo t.now m a 0 n }
-    ensures { StepTold t.now m a (places_of a) result }
+/// Internal: a recheck of a leg that can be rechecked.
+pub fn looked(plan: &Plan, leg: u32) -> Rechecked
+    requires { CanRecheck plan.now leg }
+    ensures { VerdictOf plan.now leg result }
 {
-    if end <= a {
-        return beyond(t, m, link, end, a, n);
-    }
-    later(t, m, end, a, n)
-}
-
-// Leg by leg after m, which takes this link, once its own places are looked at.
-fn looked_on(t: &[u32], m: usize, link: u32, end: usize, passed: usize) -> RecheckAnswer
-    requires can_recheck { CanRecheck t.now m }
-    requires link_value { (link ≡ (leg_at t.now m).link) × (end ≡ end_of t.now m) }
-    requires looked_to { LookedTo t.now m (m + 1) 0 passed }
-    ensures { Rechecks t.now m result }
-{
-    let legs = table::wide(t[table::LEGS_AT]);
-    let mut a = m + 1;
-    let mut n = passed;
-    while a < legs {
-        let told = after_moved(t, m, link, end, a, n);
-        match told {
-            Told::Broken(p, rule, k) => {
-                return violated(a, p, rule, k);
-            }
-            Told::Kept(k) => {
-                n = k;
-            }
-        }
-        a = a + 1;
-    }
-    RecheckAnswer::NothingViolated(n as u32)
-}
-
-// Internal: a recheck of a leg that can be rechecked.
-pub fn looked(t: &[u32], leg: u32) -> RecheckAnswer
-    requires { CanRecheck t.now leg }
-    ensures { Rechecks t.now leg result }
-{
-    let m = table::wide(leg);
-    let f = rules::times::frame(t, m);
-    let told = own(t, m, f);
-    match told {
-        Told::Broken(p, rule, n) => violated(m, p, rule, n),
-        Told::Kept(n) => looked_on(t, m, f.link, f.end, n),
+    let m = TimedLeg::of(&*plan, leg as usize);
+    match all_legs(&m) {
+        Ok(n) => Rechecked::NothingViolated(n as u32),
+        Err(broken) => Rechecked::Violated(
+            Place {
+                leg: broken.leg as u32,
+                place: broken.place as u32,
+            },
+            broken.rule,
+            broken.looked as u32,
+        ),
     }
 }

@@ -1,30 +1,21 @@
 // Whether two tables are the same but for one leg.
-ghost use Rattle.std.specs.Prelude.{◌<◌};
-ghost use Rattle.basics.specs.Tells.{Tells};
+ghost use Rattle.std.specs.Prelude.{◌<◌, IsTrue, ◌↔◌};
 ghost use Rattle.table.specs.Layout.{leg_count, Sized};
 ghost use Rattle.recheck.specs.Premise.{SameButLeg};
 
-use basics::Holds;
-
-// Internal: whether u differs from a well-formed table t at most in the revision and in the offset and the period word of a leg.
-pub fn same_but_leg(t: &[u32], u: &[u32], leg: u32) -> Holds
+/// Internal: whether u differs from a well-formed table t at most in the revision and in the offset and the period word of a leg.
+pub fn same_but_leg(t: &[u32], u: &[u32], leg: u32) -> bool
     requires { Sized t.now × (leg < leg_count t.now) }
-    ensures { Tells (SameButLeg t.now u.now leg) result }
+    ensures { IsTrue result ↔ SameButLeg t.now u.now leg }
 {
     if t.len() != u.len() {
-        return Holds::No;
+        return false;
     }
-    let offset = table::parts::offset_at(t, table::wide(leg));
-    let mut i = table::REVISION_AT + 1;
-    while i < t.len() {
-        if t[i] != u[i] {
-            if i != offset {
-                if i != offset + 1 {
-                    return Holds::No;
-                }
-            }
+    let offset = table::parts::offset_at(t, leg as usize);
+    for i in table::REVISION_AT + 1..t.len() {
+        if t[i] != u[i] && i != offset && i != offset + 1 {
+            return false;
         }
-        i = i + 1;
     }
-    Holds::Yes
+    true
 }

@@ -8,7 +8,6 @@ use native.Mathlib.Nat.{mul-zero}
 use native.Mathlib.Omega.{arith}
 use Rattle.numbers.specs.Number.{bytes_of}
 use Rattle.numbers.specs.Calls.{NumberStands}
-use Rattle.numbers.specs.declared.Number.TheVariants as number
 use Rattle.numbers.proofs.Computed.{file_bytes, file_is, small_words, row_in_front}
 use Rattle.numbers.proofs.Rows.{file_one}
 use Rattle.table.specs.Layout.{current, first_layout, SizedIn}
@@ -17,7 +16,7 @@ use Rattle.files.proofs.OneAnswer.{file_no_fault}
 use Rattle.seen.specs.Seen.{Kept, PlanFile, Copy}
 use Rattle.seen.specs.Editions.{mark, Under, KnownUnder, CopyUnder, OnlyUnder, OfEdition}
 use Rattle.seen.specs.Theorems.{empty_plan, kept_under_two, kept_under_none, leg_under_none, leg_of_today, two_plans, too_long, left_over, CopiesAtNumbers}
-use Rattle.seen.proofs.Laws.{kept_once, cut_after}
+use Rattle.seen.proofs.Laws.{kept_once, cut_kept}
 use Rattle.seen.proofs.Fronts.{under_once, no_small_mark, plan_bytes, copy_not_under}
 
 number_is : (v : ℕ) → bytes_of v ≡ file_bytes (v ∷ [])
@@ -73,7 +72,7 @@ under_too_long = record { word = omega arith; whole = rw (number_is mark, number
 too_long_lem : (e : ℕ) → OfEdition too_long e → ⊥
 too_long_lem e (inl n) =
     let same = (under_once too_long n.under under_too_long).1 in
-    cut_after (0x06 ∷ empty_plan) {r = number.Value 6 1} refl six {w = 6} refl (omega arith) n.first n.other (rw same at n.kept)
+    cut_kept (0x06 ∷ empty_plan) six (inr (omega arith)) n.first n.other (rw same at n.kept)
 too_long_lem e (inr c) = copy_not_under too_long c.1 under_too_long
 
 -- What is known is one of the two parts.

@@ -1,33 +1,23 @@
 -- What stands in front is two numbers, and a number is read in one way: so there is one edition in front, and one thing after it. Where a number
 -- that is not the mark stands in front, as in a copy without an edition, no edition does. Assumes nothing.
 use Prim.Native.Nat.{ℕ, ◌+◌, ◌-◌, ◌≤◌, ◌<◌}
-use mathlib.Core.Path.{◌≡◌, refl, ◌∙◌, sym, ap, subst}
+use mathlib.Core.Path.{◌≡◌, refl, ◌∙◌, sym, ap}
 use mathlib.Core.List.{List, [], ◌∷◌, ◌++◌}
 use mathlib.Core.Logic.{inl, inr}
-use lib.ListN.{length, take, drop, length-drop, length-append, drop_of_length-le}
-use lib.Seq.{take_all, drop-drop}
+use lib.ListN.{length, take, drop, length-drop, length-append}
 use native.Mathlib.Omega.{arith}
-use Rattle.basics.specs.declared.Holds.{Holds}
-use Rattle.basics.specs.declared.Holds.TheVariants as holds
-use Rattle.basics.specs.Tells.{Tells}
-use Rattle.numbers.specs.Number.{bytes_of}
+use Rattle.std.specs.Prelude.{None, ◌↔◌}
+use Rattle.basics.specs.declared.Cause.{Cause}
+use Rattle.numbers.specs.Number.{bytes_of, NoNumber}
 use Rattle.numbers.specs.Series.{file_of}
-use Rattle.numbers.specs.Calls.{NumberStands, ReadsNumber}
-use Rattle.numbers.specs.declared.Number.{Number}
-use Rattle.numbers.specs.declared.Number.TheVariants as number
-use Rattle.numbers.proofs.OneNumber.{read_number_one_answer, number_bytes_at_most, word_not_refused}
+use Rattle.numbers.specs.Calls.{NumberStands}
+use Rattle.numbers.proofs.OneNumber.{same_word, number_bytes_at_most, word_not_refused}
 use Rattle.numbers.proofs.Rows.{stands_after, file_cons, file_length}
 use Rattle.table.specs.Layout.{current, first_layout, head_words}
 use Rattle.table.specs.declared.Edition.{Edition}
 use Rattle.seen.specs.Seen.{Kept, Known, PlanFile, Copy, Splits}
-use Rattle.seen.specs.Editions.{mark, first_edition, Under, KnownUnder, CopyUnder, OnlyUnder, Names, OfEdition, FrontTold, RestTold}
-use Rattle.seen.specs.declared.Front.{Front}
-use Rattle.seen.specs.declared.Front.TheVariants as front
-use Rattle.seen.specs.declared.Parts.{Parts}
-use Rattle.seen.specs.declared.Parts.TheVariants as parts
-use Rattle.seen.specs.declared.Rest.{Rest}
-use Rattle.seen.specs.declared.Rest.TheVariants as rest
-use Rattle.seen.proofs.Laws.{after, kept_number, kept_once}
+use Rattle.seen.specs.Editions.{mark, Under, KnownUnder, CopyUnder, OnlyUnder, OfEdition}
+use Rattle.seen.proofs.Laws.{kept_number, kept_once}
 
 -- What comes after a number that stands at a position.
 number_after : (s : List ℕ) {at v next : ℕ} (h : NumberStands s at v next) → drop next s ≡ h.stands.rest
@@ -42,8 +32,8 @@ number_within s {at} {v} {next} h =
 -- Two readings of the number at a position are one.
 number_once : (s : List ℕ) {at v next w end : ℕ} → NumberStands s at v next → NumberStands s at w end → (v ≡ w) × (next ≡ end)
 number_once s {at} {v} {next} {w} {end} h k =
-    let one = read_number_one_answer s at (number.Value v next) (number.Value w end) h k in
-    (cc, cc)
+    let one = same_word s at v w h.word k.word h.stands k.stands in
+    (one, h.ends ∙ ap (λ (x : ℕ). at + length (bytes_of x)) one ∙ sym k.ends)
 
 -- The two numbers of what is kept under an edition.
 mark_end : ℕ
@@ -104,140 +94,58 @@ pub copy_not_under : (s : List ℕ) {e : ℕ} {q : List ℕ} → Copy first_layo
 copy_not_under s c = no_small_mark s (kept_number c.kept) (plan_short c.plan)
 
 -- The two numbers in front, as they were read.
-module _ (s : List ℕ) {r : Number} where
-  pub no_mark : {k p : ℕ} → r ≡ number.Refused k p → ReadsNumber s 0 r → (e : ℕ) (q : List ℕ) → Under s e q → ⊥
-  no_mark {k} {p} is told e q u = word_not_refused s 0 mark k (omega arith) (under_mark u).stands (subst (ReadsNumber s 0) is told).1
+module _ (s : List ℕ) where
+  pub no_mark : {k : Cause} → NoNumber s 0 k → (e : ℕ) (q : List ℕ) → Under s e q → ⊥
+  no_mark {k} none e q u = word_not_refused s 0 mark k (omega arith) (under_mark u).stands none
 
-  module _ {v at : ℕ} (is : r ≡ number.Value v at) (told : ReadsNumber s 0 r) where
-    first_is : NumberStands s 0 v at
-    first_is = subst (ReadsNumber s 0) is told
+  pub other_mark : {v at : ℕ} → NumberStands s 0 v at → (v ≡ mark → ⊥) → (e : ℕ) (q : List ℕ) → Under s e q → ⊥
+  other_mark first n e q u = n (number_once s first (under_mark u)).0
 
-    pub other_mark : (v ≡ mark → ⊥) → (e : ℕ) (q : List ℕ) → Under s e q → ⊥
-    other_mark n e q u = n (number_once s first_is (under_mark u)).0
+  module _ {v at : ℕ} (first : NumberStands s 0 v at) (m : v ≡ mark) where
+    mark_is : NumberStands s 0 mark at
+    mark_is = rw m at first
 
-    module _ (m : v ≡ mark) where
-      mark_is : NumberStands s 0 mark at
-      mark_is = rw m at first_is
+    pub no_edition : {k : Cause} → NoNumber s at k → (e : ℕ) (q : List ℕ) → Under s e q → ⊥
+    no_edition {k} none e q u =
+        let end : at ≡ mark_end = (number_once s mark_is (under_mark u)).1 in
+        word_not_refused s mark_end e k u.word (under_edition u).stands (rw end at none)
 
-      pub no_edition : {t : Number} {k p : ℕ} → t ≡ number.Refused k p → ReadsNumber s at t → (e : ℕ) (q : List ℕ) → Under s e q → ⊥
-      no_edition {k} {p} is2 told2 e q u =
-          let end : at ≡ mark_end = (number_once s mark_is (under_mark u)).1 in
-          word_not_refused s mark_end e k u.word (under_edition u).stands (rw end at (subst (ReadsNumber s at) is2 told2).1)
+    pub front_read : {e next : ℕ} → NumberStands s at e next → (next ≤ length s) × Under s e (drop next s)
+    front_read second = (number_within s second, two_numbers s mark_is second)
 
-      pub front_start : {t : Number} {e next : ℕ} → t ≡ number.Value e next → ReadsNumber s at t → next ≤ length s
-      front_start is2 told2 = number_within s (subst (ReadsNumber s at) is2 told2)
+-- s is kept under one edition and no other.
+pub named_other : (s : List ℕ) {d e : ℕ} {r : List ℕ} → Under s d r → (d ≡ e → ⊥) → (q : List ℕ) → Under s e q → ⊥
+named_other s u n q v = n (under_once s u v).0
 
-      pub front_read : {t : Number} {e next : ℕ} → t ≡ number.Value e next → ReadsNumber s at t → Under s e (drop next s)
-      front_read is2 told2 = two_numbers s mark_is (subst (ReadsNumber s at) is2 told2)
+-- What comes after the edition tells.
+module _ (s : List ℕ) {e : ℕ} {r : List ℕ} (u : Under s e r) where
+  pub rest_known : {p : List ℕ} {R : Type 0} → R ↔ Known r p → R ↔ KnownUnder s e p
+  rest_known told = (
+    λ t. record { rest = r; under = u; known = told.0 t },
+    λ k. let same = (under_once s k.under u).1 in told.1 (rw same at k.known),
+  )
 
--- A copy with nothing in front of it is of the first edition.
-pub copy_first : (s : List ℕ) {r : Holds} → r ≡ holds.Yes → Tells (Copy first_layout s) r → OfEdition s first_edition
-copy_first s is told = inr (refl, subst (Tells (Copy first_layout s)) is told)
+  pub rest_copied : {R : Type 0} → R ↔ Copy current r → R ↔ CopyUnder s e
+  rest_copied told = (
+    λ t. record { rest = r; under = u; copy = told.0 t },
+    λ k. let same = (under_once s k.under u).1 in told.1 (rw same at k.copy),
+  )
 
--- What stands in front, as it was told.
-module _ (s : List ℕ) {f : Front} where
-  pub none_under : f ≡ front.Unnamed → FrontTold s f → (e : ℕ) (q : List ℕ) → Under s e q → ⊥
-  none_under is told = subst (FrontTold s) is told
+  kept_after_front : {q o t : List ℕ} → Under s e t → Kept t q o → Kept r q o
+  kept_after_front v k = let same = (under_once s v u).1 in rw same at k
 
-  pub unnamed_under : {e : ℕ} → f ≡ front.Unnamed → FrontTold s f → (q : List ℕ) → Under s e q → ⊥
-  unnamed_under {e} is told = none_under is told e
+  pub named_nothing : Splits r None → (d : ℕ) → OfEdition s d → ⊥
+  named_nothing none d (inl n) = let same = (under_once s n.under u).1 in none n.first n.other (rw same at n.kept)
+  named_nothing none d (inr c) = copy_not_under s c.1 u
 
-  pub unnamed_nothing : {r : Holds} → f ≡ front.Unnamed → FrontTold s f → r ≡ holds.No → Tells (Copy first_layout s) r → (e : ℕ) → OfEdition s e → ⊥
-  unnamed_nothing is told refused none e (inl n) = none_under is told e n.rest n.under
-  unnamed_nothing is told refused none e (inr c) = subst (Tells (Copy first_layout s)) refused none c.1
+  pub none_only : Splits r None → (q : List ℕ) → OnlyUnder s e q → ⊥
+  none_only none q k = none q [] (kept_after_front k.under k.kept)
 
-  module _ {d next : ℕ} (is : f ≡ front.Named d next) (told : FrontTold s f) where
-    named_is : FrontTold s (front.Named d next)
-    named_is = subst (FrontTold s) is told
-
-    pub named_start : next ≤ length s
-    named_start = named_is.0
-
-    pub named_under : {e : ℕ} → d ≡ e → Under s e (drop next s)
-    named_under i = rw i at named_is.1
-
-    pub named_other : {e : ℕ} → (d ≡ e → ⊥) → (q : List ℕ) → Under s e q → ⊥
-    named_other n q u = n (under_once s named_is.1 u).0
-
-    -- What comes after it, as it was split.
-    pub named_form : {p : Parts} {at n : ℕ} → p ≡ parts.At at n → Splits (take (length s - next) (drop next s)) p → Names s d
-    named_form {at = at} {n = n} i split =
-        let parted : Splits (drop next s) (parts.At at n) = rw (after s next named_start) at (subst (Splits (take (length s - next) (drop next s))) i split) in
-        record { rest = drop next s; first = _; other = _; under = named_is.1; kept = parted.2 }
-
-    pub named_nothing : {p : Parts} → p ≡ parts.Nowhere → Splits (take (length s - next) (drop next s)) p → (e : ℕ) → OfEdition s e → ⊥
-    named_nothing i split e (inl n) =
-        let parted : Splits (drop next s) parts.Nowhere = rw (after s next named_start) at (subst (Splits (take (length s - next) (drop next s))) i split) in
-        let same = (under_once s n.under named_is.1).1 in
-        parted n.first n.other (rw same at n.kept)
-    named_nothing i split e (inr c) = copy_not_under s c.1 named_is.1
-
--- Where what was seen under an edition begins, as it was told.
-module _ (s : List ℕ) (e : ℕ) {t : Rest} where
-  none_rest : t ≡ rest.Nowhere → RestTold s e t → (q : List ℕ) → Under s e q → ⊥
-  none_rest is told = subst (RestTold s e) is told
-
-  pub nowhere_known : {p : List ℕ} → t ≡ rest.Nowhere → RestTold s e t → KnownUnder s e p → ⊥
-  nowhere_known is told k = none_rest is told k.rest k.under
-
-  pub nowhere_copied : t ≡ rest.Nowhere → RestTold s e t → CopyUnder s e → ⊥
-  nowhere_copied is told k = none_rest is told k.rest k.under
-
-  pub nowhere_only : t ≡ rest.Nowhere → RestTold s e t → (p : List ℕ) → OnlyUnder s e p → ⊥
-  nowhere_only is told p k = none_rest is told k.rest k.under
-
-  module _ {next : ℕ} (is : t ≡ rest.At next) (told : RestTold s e t) where
-    rest_is : RestTold s e (rest.At next)
-    rest_is = subst (RestTold s e) is told
-
-    pub rest_start : next ≤ length s
-    rest_start = rest_is.0
-
-    pub rest_known : (p : List ℕ) (r : Holds) → Tells (Known (take (length s - next) (drop next s)) p) r → Tells (KnownUnder s e p) r
-    rest_known p holds.Yes k = record { rest = drop next s; under = rest_is.1; known = rw (after s next rest_start) at k }
-    rest_known p holds.No none = λ k.
-        let same = (under_once s k.under rest_is.1).1 in
-        none (rw (after s next rest_start) (rw same at k.known))
-
-    pub rest_copied : (r : Holds) → Tells (Copy current (take (length s - next) (drop next s))) r → Tells (CopyUnder s e) r
-    rest_copied holds.Yes k = record { rest = drop next s; under = rest_is.1; copy = rw (after s next rest_start) at k }
-    rest_copied holds.No none = λ k.
-        let same = (under_once s k.under rest_is.1).1 in
-        none (rw (after s next rest_start) (rw same at k.copy))
-
-    kept_after_front : {q o r : List ℕ} → Under s e r → Kept r q o → Kept (drop next s) q o
-    kept_after_front u k = let same = (under_once s u rest_is.1).1 in rw same at k
-
-    -- What comes after it, as it was split.
-    module _ {p : Parts} where
-      split_none : p ≡ parts.Nowhere → Splits (take (length s - next) (drop next s)) p → Splits (drop next s) parts.Nowhere
-      split_none i split = rw (after s next rest_start) at (subst (Splits (take (length s - next) (drop next s))) i split)
-
-      pub none_only : p ≡ parts.Nowhere → Splits (take (length s - next) (drop next s)) p → (q : List ℕ) → OnlyUnder s e q → ⊥
-      none_only i split q k = split_none i split q [] (kept_after_front k.under k.kept)
-
-      module _ {at n : ℕ} (i : p ≡ parts.At at n) (split : Splits (take (length s - next) (drop next s)) p) where
-        parted : Splits (drop next s) (parts.At at n)
-        parted = rw (after s next rest_start) at (subst (Splits (take (length s - next) (drop next s))) i split)
-
-        pub only_within : at ≤ length s - next
-        only_within = omega (arith, parted.0, length-drop next s)
-
-        pub only_room : n ≤ length s - next - at
-        only_room = omega (arith, parted.0, parted.1, length-drop next s, length-drop at (drop next s))
-
-        -- It is the only plan where nothing is left after it.
-        pub only_there : length s - next - at ≡ n → OnlyUnder s e (drop (length s - n) s)
-        only_there l =
-            let whole : length (drop at (drop next s)) ≡ n = omega (arith, length-drop next s, length-drop at (drop next s)) in
-            let from : next + at ≡ length s - n = omega (arith, rest_start, only_within) in
-            let first : take n (drop at (drop next s)) ≡ drop at (drop next s) = take_all n (drop at (drop next s)) (omega arith) in
-            let none : drop n (drop at (drop next s)) ≡ [] = drop_of_length-le (drop at (drop next s)) {i = n} (omega arith) in
-            let there : drop at (drop next s) ≡ drop (length s - n) s = drop-drop at next s ∙ ap (λ (k : ℕ). drop k s) from in
-            record { rest = drop next s; under = rest_is.1; kept = rw (none, first, there) at parted.2 }
-
-        pub only_other : (length s - next - at ≡ n → ⊥) → (q : List ℕ) → OnlyUnder s e q → ⊥
-        only_other more q k =
-            let one = kept_once (drop next s) _ _ q [] parted.2 (kept_after_front k.under k.kept) in
-            let none = ap length one.1 in
-            more (omega (arith, only_room, length-drop next s, length-drop at (drop next s), length-drop n (drop at (drop next s))))
+-- The plan that was kept alone, where n bytes are to follow from next + at on.
+module _ (s : List ℕ) {e next at n : ℕ} (u : Under s e (drop next s)) (within : next ≤ length s) (start : at ≤ length (drop next s)) (room : n ≤ length (drop at (drop next s)))
+    (kept : Kept (drop next s) (take n (drop at (drop next s))) (drop n (drop at (drop next s)))) where
+  pub only_other : (length s - next - at ≡ n → ⊥) → (q : List ℕ) → OnlyUnder s e q → ⊥
+  only_other more q k =
+      let one = kept_once (drop next s) _ _ q [] kept (kept_after_front s u k.under k.kept) in
+      let none = ap length one.1 in
+      more (omega (arith, room, length-drop next s, length-drop at (drop next s), length-drop n (drop at (drop next s))))

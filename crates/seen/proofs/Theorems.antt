@@ -6,7 +6,7 @@ use mathlib.Core.Logic.{inl, inr}
 use lib.ListN.{length, take}
 use Rattle.numbers.specs.Number.{max_word, bytes_of}
 use Rattle.numbers.specs.Series.{file_of}
-use Rattle.numbers.specs.declared.Written.TheVariants as written
+use Rattle.std.specs.Prelude.{Ok}
 use Rattle.numbers.proofs.Overlay.{overlaid_taken}
 use Rattle.numbers.proofs.Rows.{file_cons, file_one}
 use Rattle.seen.specs.Seen.{Kept}
@@ -29,7 +29,7 @@ editions_part_copies = record {
 }
 
 -- What is written in front, and what comes after it.
-front_written : (edition n : ℕ) (p o b b' : List ℕ) → edition ≤ max_word → WritesFront edition (length p) b (written.Bytes n) b'
+front_written : (edition n : ℕ) (p o b b' : List ℕ) → edition ≤ max_word → WritesFront edition (length p) b (Ok n) b'
     → Under (take n b' ++ (p ++ o)) edition (bytes_of (length p) ++ (p ++ o))
 front_written edition n p o b b' word laid =
     let front = file_of (mark ∷ edition ∷ length p ∷ []) in

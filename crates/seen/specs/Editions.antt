@@ -1,17 +1,11 @@
 -- What was last seen, and the edition of the rules under which it was seen. The present edition is always an argument.
-use Rattle.std.specs.Prelude.{ℕ, ◌≤◌, ◌≡◌, List, [], ◌∷◌, ◌++◌, ◌⊎◌, length, drop}
+use Rattle.std.specs.Prelude.{ℕ, ◌≤◌, ◌≡◌, List, [], ◌∷◌, ◌++◌, ◌⊎◌, length, drop, Result, Ok, Err, Option, Some, None}
+use Rattle.basics.specs.declared.Refusal.{Refusal}
 use Rattle.numbers.specs.Number.{max_word, bytes_of}
 use Rattle.numbers.specs.Series.{file_of, Laid, TooSmall}
-use Rattle.numbers.specs.declared.Written.{Written}
-use Rattle.numbers.specs.declared.Written.TheVariants as written
 use Rattle.table.specs.Layout.{current, first_layout}
 use Rattle.seen.specs.Seen.{Kept, Known, Copy}
 use Rattle.seen.specs.declared.Front.{Front}
-use Rattle.seen.specs.declared.Front.TheVariants as front
-use Rattle.seen.specs.declared.Of.{Of}
-use Rattle.seen.specs.declared.Of.TheVariants as of
-use Rattle.seen.specs.declared.Rest.{Rest}
-use Rattle.seen.specs.declared.Rest.TheVariants as rest
 
 -- The number that stands before the edition, by which our file is known. What was kept before editions were named begins with how many bytes a plan file has, and none has
 -- so many. A plan file that somebody put in its place would begin so only at this very revision.
@@ -29,9 +23,9 @@ pub record Under (s : List ℕ) (edition : ℕ) (rest : List ℕ) : Type 0 where
 
 -- Writing what stands in front of the first plan, which has so many bytes, to the bytes b, which makes them b': the three numbers lie in the first bytes, and the answer is
 -- how many; or there is too little room.
-abbrev pub WritesFront : ℕ → ℕ → List ℕ → Written → List ℕ → Type 0
-WritesFront edition size b (written.Bytes n) b' = Laid b 0 (file_of (mark ∷ edition ∷ size ∷ [])) n b'
-WritesFront edition size b (written.Refused k p) b' = TooSmall b 0 (file_of (mark ∷ edition ∷ size ∷ [])) k p b'
+abbrev pub WritesFront : ℕ → ℕ → List ℕ → Result ℕ Refusal → List ℕ → Type 0
+WritesFront edition size b (Ok n) b' = Laid b 0 (file_of (mark ∷ edition ∷ size ∷ [])) n b'
+WritesFront edition size b (Err r) b' = TooSmall b 0 (file_of (mark ∷ edition ∷ size ∷ [])) r.cause r.at b'
 
 -- The plan p is one of those that were seen under this edition.
 pub record KnownUnder (s : List ℕ) (edition : ℕ) (p : List ℕ) : Type 0 where
@@ -59,19 +53,19 @@ abbrev pub OfEdition : List ℕ → ℕ → Type 0
 OfEdition s edition = Names s edition ⊎ ((edition ≡ first_edition) × Copy first_layout s)
 
 -- Of which edition s is, if of any.
-abbrev pub EditionTold : List ℕ → Of → Type 0
-EditionTold s (of.Edition e) = OfEdition s e
-EditionTold s of.Nothing = (e : ℕ) → OfEdition s e → ⊥
+abbrev pub EditionTold : List ℕ → Option ℕ → Type 0
+EditionTold s (Some e) = OfEdition s e
+EditionTold s None = (e : ℕ) → OfEdition s e → ⊥
 
 -- The edition that s names in front and the position after it; or s names none.
-abbrev pub FrontTold : List ℕ → Front → Type 0
-FrontTold s (front.Named e next) = (next ≤ length s) × Under s e (drop next s)
-FrontTold s front.Unnamed = (e : ℕ) (r : List ℕ) → Under s e r → ⊥
+abbrev pub FrontTold : List ℕ → Option Front → Type 0
+FrontTold s (Some f) = (f.next ≤ length s) × Under s f.edition (drop f.next s)
+FrontTold s None = (e : ℕ) (r : List ℕ) → Under s e r → ⊥
 
 -- Where what was seen under this edition begins in s; or s is not kept under it.
-abbrev pub RestTold : List ℕ → ℕ → Rest → Type 0
-RestTold s edition (rest.At next) = (next ≤ length s) × Under s edition (drop next s)
-RestTold s edition rest.Nowhere = (r : List ℕ) → Under s edition r → ⊥
+abbrev pub RestTold : List ℕ → ℕ → Option ℕ → Type 0
+RestTold s edition (Some next) = (next ≤ length s) × Under s edition (drop next s)
+RestTold s edition None = (r : List ℕ) → Under s edition r → ⊥
 
 -- The plan p was kept alone under this edition.
 pub record OnlyUnder (s : List ℕ) (edition : ℕ) (p : List ℕ) : Type 0 where
@@ -80,6 +74,6 @@ pub record OnlyUnder (s : List ℕ) (edition : ℕ) (p : List ℕ) : Type 0 wher
   pub kept : Kept rest p []
 
 -- Where the plan that was kept alone under this edition begins in s: it is all that follows; or none was kept so.
-abbrev pub OnlyTold : List ℕ → ℕ → Rest → Type 0
-OnlyTold s edition (rest.At next) = (next ≤ length s) × OnlyUnder s edition (drop next s)
-OnlyTold s edition rest.Nowhere = (p : List ℕ) → OnlyUnder s edition p → ⊥
+abbrev pub OnlyTold : List ℕ → ℕ → Option ℕ → Type 0
+OnlyTold s edition (Some next) = (next ≤ length s) × OnlyUnder s edition (drop next s)
+OnlyTold s edition None = (p : List ℕ) → OnlyUnder s edition p → ⊥

@@ -1,11 +1,10 @@
 -- What was last seen of a plan.
-use Rattle.std.specs.Prelude.{ℕ, ◌≤◌, ◌≡◌, List, [], ◌++◌, ◌⊎◌, length, take, drop}
+use Rattle.std.specs.Prelude.{ℕ, ◌≤◌, ◌≡◌, List, [], ◌++◌, ◌⊎◌, length, take, drop, Option, Some, None}
 use Rattle.numbers.specs.Number.{max_word, bytes_of}
 use Rattle.table.specs.Layout.{SizedIn}
 use Rattle.table.specs.declared.Edition.{Edition}
 use Rattle.files.specs.Reading.{IsFile}
 use Rattle.seen.specs.declared.Parts.{Parts}
-use Rattle.seen.specs.declared.Parts.TheVariants as parts
 
 -- What was seen is how many bytes the first plan has, as a number, then that plan, then the other one or nothing.
 pub record Kept (s first other : List ℕ) : Type 0 where
@@ -41,6 +40,6 @@ abbrev pub PlanParts : Edition → List ℕ → ℕ → Type 0
 PlanParts e s at = PlanFile e (take at s) × ((drop at s ≡ []) ⊎ PlanFile e (drop at s))
 
 -- Where the first plan begins in s and how many bytes it has; or s does not have the form of what was seen.
-abbrev pub Splits : List ℕ → Parts → Type 0
-Splits s (parts.At next n) = (next ≤ length s) × (n ≤ length (drop next s)) × Kept s (take n (drop next s)) (drop n (drop next s))
-Splits s parts.Nowhere = (first other : List ℕ) → Kept s first other → ⊥
+abbrev pub Splits : List ℕ → Option Parts → Type 0
+Splits s (Some p) = (p.at ≤ length s) × (p.size ≤ length (drop p.at s)) × Kept s (take p.size (drop p.at s)) (drop p.size (drop p.at s))
+Splits s None = (first other : List ℕ) → Kept s first other → ⊥

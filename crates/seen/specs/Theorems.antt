@@ -1,7 +1,6 @@
 -- What is proved of what was last seen and of its edition.
-use Rattle.std.specs.Prelude.{ℕ, ◌≤◌, ◌≡◌, List, [], ◌∷◌, ◌++◌, length, take}
+use Rattle.std.specs.Prelude.{ℕ, ◌≤◌, ◌≡◌, List, [], ◌∷◌, ◌++◌, length, take, Ok}
 use Rattle.numbers.specs.Number.{max_word}
-use Rattle.numbers.specs.declared.Written.TheVariants as written
 use Rattle.table.specs.Layout.{first_layout}
 use Rattle.seen.specs.Seen.{Copy}
 use Rattle.seen.specs.Editions.{WritesFront, KnownUnder, CopyUnder, OnlyUnder, OfEdition}
@@ -20,7 +19,7 @@ pub record EditionsPartCopies : Type 0 where
 -- What is written is known: after the front, a plan of that length and another one or nothing.
 abbrev pub WrittenIsKnown : Type 0
 WrittenIsKnown =
-    (edition n : ℕ) (p o b b' : List ℕ) → edition ≤ max_word → length p ≤ max_word → WritesFront edition (length p) b (written.Bytes n) b'
+    (edition n : ℕ) (p o b b' : List ℕ) → edition ≤ max_word → length p ≤ max_word → WritesFront edition (length p) b (Ok n) b'
     → KnownUnder (take n b' ++ (p ++ o)) edition p × KnownUnder (take n b' ++ (p ++ o)) edition o
 
 -- A plan file, of revision 9 and nothing else; the copy of it under edition 2; and the one without an edition.

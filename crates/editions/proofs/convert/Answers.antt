@@ -10,14 +10,14 @@ fill-requires-clause-all_numbers c = let u = c.requires.old_file in header_numbe
 pub returns-then-words-size : goal.returns-then-words-size
 returns-then-words-size c =
     let u = c.requires.old_file in
-    let w = rw c.in-Within.is at c.header_words-told.ensures in
+    let w = c.in-Some.ensures in
     let n = size_today u.0 u.1 c.fill.ensures refl c.requires.older w.1 in
-    (inr (refl, refl, record { table = u.0; file = u.1; long = omega arith }), refl)
+    rw c.at-then-words-size.ensures (inr (refl, refl, record { table = u.0; file = u.1; long = omega arith }), refl)
 
 pub put_converted-requires-clause-counted : goal.put_converted-requires-clause-counted
 put_converted-requires-clause-counted c = let o = c.requires.older in
     let u = c.requires.old_file in
-    let w = rw c.in-Within.is at c.header_words-told.ensures in
+    let w = c.in-Some.ensures in
     let h = old_header u.0 u.1 c.fill.ensures refl in
     let n = size_today u.0 u.1 c.fill.ensures refl o w.1 in
     let l = converted_long o u.0 u.1.complete in record {
@@ -29,15 +29,15 @@ put_converted-requires-clause-counted c = let o = c.requires.older in
       fits = omega arith;
     }
 
-pub returns-in-Above : goal.returns-in-Above
-returns-in-Above c =
+pub returns-in_default : goal.returns-in_default
+returns-in_default c =
     let u = c.requires.old_file in
-    let w = rw c.in-Above.is at c.header_words-told.ensures in
+    let w = c.in_default.ensures in
     absurd (limits_kept u.0 u.1 c.fill.ensures refl c.requires.older w)
 
-pub returns-else-words-size : goal.returns-else-words-size
-returns-else-words-size c =
+pub returns : goal.returns
+returns c =
     let v = c.put_converted.ensures in
-    let w = rw c.in-Within.is at c.header_words-told.ensures in
+    let w = c.in-Some.ensures in
     let n = size_today v.table v.file c.fill.ensures refl c.requires.older w.1 in
     (v.table, v.file, record { count = n; room = omega arith; after = v.after })

@@ -6,7 +6,7 @@ pub loop-at-init : goal.loop-at-init
 loop-at-init c = counting_start _
 
 pub loop-at-smaller : goal.loop-at-smaller
-loop-at-smaller c = search counting_less
+loop-at-smaller c = counting_less c.loop-at.invariant c.loop-at-test.true c.in_ok-at.ensures
 
 pub loop-at-preserved : goal.loop-at-preserved
-loop-at-preserved c = search counting_next
+loop-at-preserved c = counting_next c.loop-at.invariant c.in_ok-at.ensures

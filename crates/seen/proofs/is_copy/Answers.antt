@@ -1,8 +1,7 @@
 -- `seen::is_copy` meets its contract: there is one front, and what comes after it tells. Assumes nothing.
+use Rattle.seen.proofs.Laws.{after}
 use Rattle.seen.proofs.Fronts.{rest_copied}
 use Rattle.seen.proofs.is_copy.Goals as goal
 
-pub returns-in-At : goal.returns-in-At
-returns-in-At c =
-    let a = c.args in
-    rest_copied a.seen.now a.edition c.in-At.is c.rest_under-rest.ensures c.is_copy_in.result c.is_copy_in.ensures
+pub returns : goal.returns
+returns c = rest_copied _ c.in-Some.ensures.1 (rw (after c.args.seen.now c.in-Some.next c.in-Some.ensures.0) at c.is_copy_in.ensures)

@@ -1,8 +1,7 @@
 -- `seen::known` meets its contract: there is one front, and what comes after it tells. Assumes nothing.
+use Rattle.seen.proofs.Laws.{after}
 use Rattle.seen.proofs.Fronts.{rest_known}
 use Rattle.seen.proofs.known.Goals as goal
 
-pub returns-in-At : goal.returns-in-At
-returns-in-At c =
-    let a = c.args in
-    rest_known a.seen.now a.edition c.in-At.is c.rest_under-rest.ensures a.plan.now c.known_in.result c.known_in.ensures
+pub returns : goal.returns
+returns c = rest_known _ c.in-Some.ensures.1 (rw (after c.args.seen.now c.in-Some.next c.in-Some.ensures.0) at c.known_in.ensures)

@@ -1,9 +1,10 @@
 -- `seen::split` meets its contract: the number in front says where the first plan ends. Assumes nothing.
-use Rattle.seen.proofs.Laws.{none_read, cut_after}
+use Rattle.std.proofs.Common.{inr}
+use Rattle.seen.proofs.Laws.{none_kept, cut_kept}
 use Rattle.seen.proofs.split.Goals as goal
 
-pub returns-then-seen-next-2 : goal.returns-then-seen-next-2
-returns-then-seen-next-2 c = search cut_after
+pub returns-in_default : goal.returns-in_default
+returns-in_default c = none_kept _ _ c.in_default.ensures.1
 
-pub returns-in-Refused : goal.returns-in-Refused
-returns-in-Refused c = search none_read
+pub returns-then-seen-at-2 : goal.returns-then-seen-at-2
+returns-then-seen-at-2 c = cut_kept _ c.in-Ok.ensures (inr c.if-seen-at-2.true)
