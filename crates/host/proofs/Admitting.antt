@@ -1,5 +1,10 @@
 -- What an admission to the table of a plan file found, carried to the call's statement. The words that a call lends of its own are enough, since no enlarged table has more words than the
 -- largest table, and no number of its file more than 5 bytes. Assumes nothing.
+use Rattle.admission.specs.declared.Admitted.{Admitted}
+use Rattle.std.specs.Prelude.{Result, Ok, Err, Some, None}
+use Rattle.basics.specs.Cause.{number_of, refused}
+use Rattle.basics.specs.declared.Cause.{Cause}
+use Rattle.basics.specs.declared.Refusal.{Refusal}
 use Prim.Native.Nat.{ℕ, ◌/◌, ◌≤◌}
 use mathlib.Core.Path.{◌≡◌, refl, ◌∙◌, sym, ap, subst}
 use mathlib.Core.List.{List}
@@ -13,8 +18,6 @@ use Rattle.numbers.proofs.Overlay.{overlaid_length, overlaid_taken}
 use Rattle.numbers.proofs.Rows.{file_length}
 use Rattle.table.specs.Layout.{max_table_words, Sized}
 use Rattle.files.specs.Plan.{InFront, TakesPlan}
-use Rattle.files.specs.declared.PlanRead.{PlanRead}
-use Rattle.files.specs.declared.PlanRead.TheVariants as plan
 use Rattle.shape.specs.Shape.{WellFormedTable}
 use Rattle.shape.proofs.Refused.{shape_of_table}
 use Rattle.enlarge.specs.Enlarged.{enlarged, enlarged_words}
@@ -22,9 +25,7 @@ use Rattle.enlarge.specs.declared.Wanted.{Wanted}
 use Rattle.enlarge.proofs.Grown.{grown_long}
 use Rattle.enlarge.proofs.NewLegs.{from_length}
 use Rattle.enlarge.proofs.Ranges.{wanted_in_range}
-use Rattle.admission.specs.Admits.{CanAdd, MayAdmit, early_refusals, AdmittedAt, PieceTold, AdmitsBetween}
-use Rattle.admission.specs.declared.Admission.{Admission}
-use Rattle.admission.specs.declared.Admission.TheVariants.{Admitted, NoneYet, Refused}
+use Rattle.admission.specs.Admits.{CanAdd, MayAdmit, early_refusals, AdmittedAt, PieceTold, AdmitsBetween, Admission}
 use Rattle.host.specs.declared.Answer.{Answer}
 use Rattle.host.specs.declared.admit.AdmissionAnswer.{AdmissionAnswer}
 use Rattle.host.specs.Calls.{WritesFile}
@@ -45,7 +46,7 @@ module _ (t : List ℕ) (w : Wanted) (route : List ℕ) {bytes own : ℕ} (room 
   may_anyway m =
       record { shape = m.shape; rises = m.rises; can_add = m.can_add; has_room = omega (arith, m.has_room, room.in_the_file); rules = m.rules }
 
-  early_anyway : (k p : ℕ) → (early_refusals t w route own).Fault k p → (early_refusals t w route (bytes / max_number_bytes)).Fault k p
+  early_anyway : (k : Cause) (p : ℕ) → (early_refusals t w route own).Fault k p → (early_refusals t w route (bytes / max_number_bytes)).Fault k p
   early_anyway k p (inl f) = inl f
   early_anyway k p (inr (s, inl f)) = inr (s, inl f)
   early_anyway k p (inr (s, inr (r, inl f))) = inr (s, inr (r, inl f))
@@ -56,99 +57,99 @@ module _ (t : List ℕ) (w : Wanted) (route : List ℕ) {bytes own : ℕ} (room 
       inr (s, inr (r, inr (can, inr (more, f))))
 
   told_anyway : (from until : ℕ) (a : Admission) → PieceTold t w route own from until a → PieceTold t w route (bytes / max_number_bytes) from until a
-  told_anyway from until (Admitted x n) a = (record { may = may_anyway a.0.may; found = a.0.found; count = a.0.count }, a.1)
-  told_anyway from until NoneYet a = record { may = may_anyway a.may; none = a.none; not_the_end = a.not_the_end }
-  told_anyway from until (Refused k p) (inl f) = inl (early_anyway k p f)
-  told_anyway from until (Refused k p) (inr (m, f)) = inr (may_anyway m, f)
+  told_anyway from until (Ok (Some g)) a = (record { may = may_anyway a.0.may; found = a.0.found; count = a.0.count }, a.1)
+  told_anyway from until (Ok None) a = record { may = may_anyway a.may; none = a.none; not_the_end = a.not_the_end }
+  told_anyway from until (Err d) (inl f) = inl (early_anyway d.cause d.at f)
+  told_anyway from until (Err d) (inr (m, f)) = inr (may_anyway m, f)
 
 -- The number and the position of a refusal are small.
-early_small : (t : List ℕ) (w : Wanted) (route : List ℕ) (room k p : ℕ) → (early_refusals t w route room).Fault k p → SmallUnadmitted k p
+early_small : (t : List ℕ) (w : Wanted) (route : List ℕ) (room : ℕ) (k : Cause) (p : ℕ) → (early_refusals t w route room).Fault k p → SmallUnadmitted k p
 early_small t w route room k p (inl f) = let s = table_small (shape_of_table t k p f) in record { number = omega (arith, s.number); position = s.position }
-early_small t w route room k p (inr (s, inl f)) = record { number = omega (arith, f.0); position = omega (arith, f.1) }
-early_small t w route room k p (inr (s, inr (r, inl f))) = record { number = omega (arith, f.0); position = omega (arith, f.1) }
-early_small t w route room k p (inr (s, inr (r, inr (c, inl f)))) = record { number = omega (arith, f.0); position = omega (arith, f.1) }
-early_small t w route room k p (inr (s, inr (r, inr (c, inr (h, f))))) = record { number = omega (arith, f.0); position = omega (arith, f.1) }
+early_small t w route room k p (inr (s, inl f)) = record { number = omega (arith, ap number_of f.0); position = omega (arith, f.1) }
+early_small t w route room k p (inr (s, inr (r, inl f))) = record { number = omega (arith, ap number_of f.0); position = omega (arith, f.1) }
+early_small t w route room k p (inr (s, inr (r, inr (c, inl f)))) = record { number = omega (arith, ap number_of f.0); position = omega (arith, f.1) }
+early_small t w route room k p (inr (s, inr (r, inr (c, inr (h, f))))) = record { number = omega (arith, ap number_of f.0); position = omega (arith, f.1) }
 
-refused_small : (t : List ℕ) (w : Wanted) (route : List ℕ) (room from until k p : ℕ) → PieceTold t w route room from until (Refused k p) → SmallUnadmitted k p
+refused_small : (t : List ℕ) (w : Wanted) (route : List ℕ) (room from until : ℕ) (k : Cause) (p : ℕ) → PieceTold t w route room from until (refused k p) → SmallUnadmitted k p
 refused_small t w route room from until k p (inl f) = early_small t w route room k p f
-refused_small t w route room from until k p (inr (m, f)) = record { number = omega (arith, f.0); position = omega (arith, f.1) }
+refused_small t w route room from until k p (inr (m, f)) = record { number = omega (arith, ap number_of f.0); position = omega (arith, f.1) }
 
 -- What was given, and what is left in the call's own words.
 module _ (t : List ℕ) (w : Wanted) (route : List ℕ) (from until : ℕ) (own own' : List ℕ) {given : Admission} where
   this_given : (a : Admission) → given ≡ a → AdmitsBetween t w route from until own given own' → AdmitsBetween t w route from until own a own'
   this_given a e h = subst (λ (b : Admission). AdmitsBetween t w route from until own b own') e h
 
-  pub unadmitted_small : {k p : ℕ} → given ≡ Refused k p → AdmitsBetween t w route from until own given own' → SmallUnadmitted k p
-  unadmitted_small {k} {p} e h = refused_small t w route (length own) from until k p (this_given (Refused k p) e h).answer
+  pub unadmitted_small : {q : Refusal} → given ≡ Err q → AdmitsBetween t w route from until own given own' → SmallUnadmitted q.cause q.at
+  unadmitted_small {q} e h = refused_small t w route (length own) from until q.cause q.at (this_given (Err q) e h).answer
 
   module _ {file : List ℕ} (room : OwnRoom (length file) (length own)) where
-    pub table_refused : {a : AdmissionAnswer} {k p : ℕ} → given ≡ Refused k p → AdmitsBetween t w route from until own given own' → a ≡ unadmitted k p
+    pub table_refused : {a : AdmissionAnswer} {q : Refusal} → given ≡ Err q → AdmitsBetween t w route from until own given own' → a ≡ unadmitted q.cause q.at
         → AdmitsTable t w route from until file a file
-    table_refused {a} {k} {p} e h f =
-        record { given = Refused k p; told = told_anyway t w route room from until (Refused k p) (this_given (Refused k p) e h).answer; answer = f; after = refl }
+    table_refused {a} {q} e h f =
+        record { given = Err q; told = told_anyway t w route room from until (Err q) (this_given (Err q) e h).answer; answer = f; after = refl }
 
-    pub table_none_yet : given ≡ NoneYet → AdmitsBetween t w route from until own given own' → AdmitsTable t w route from until file (admission 1 0 until) file
+    pub table_none_yet : given ≡ Ok None → AdmitsBetween t w route from until own given own' → AdmitsTable t w route from until file (admission 1 0 until) file
     table_none_yet e h =
-        record { given = NoneYet; told = told_anyway t w route room from until NoneYet (this_given NoneYet e h).answer; answer = refl; after = refl }
+        record { given = Ok None; told = told_anyway t w route room from until (Ok None) (this_given (Ok None) e h).answer; answer = refl; after = refl }
 
   -- Admitted, the enlarged table lies in front. It is a table, and its file has room.
-  module _ {x n : ℕ} (e : given ≡ Admitted x n) (h : AdmitsBetween t w route from until own given own') where
-    at_x : AdmittedAt t w route (length own) from x n
-    at_x = (this_given (Admitted x n) e h).answer.0
+  module _ {g : Admitted} (e : given ≡ Ok (Some g)) (h : AdmitsBetween t w route from until own given own') where
+    at_x : AdmittedAt t w route (length own) from g.offset g.words
+    at_x = (this_given (Ok (Some g)) e h).answer.0
 
-    long : length (enlarged t w route x) ≡ enlarged_words t route
-    long = grown_long t w (length route) _ at_x.may.shape.sized (from_length t w x route)
+    long : length (enlarged t w route g.offset) ≡ enlarged_words t route
+    long = grown_long t w (length route) _ at_x.may.shape.sized (from_length t w g.offset route)
 
-    in_front : take n own' ≡ enlarged t w route x
+    in_front : take g.words own' ≡ enlarged t w route g.offset
     in_front =
-        ap (λ (m : ℕ). take m own') (at_x.count ∙ sym long) ∙ ap (take (length (enlarged t w route x))) (this_given (Admitted x n) e h).after
-        ∙ overlaid_taken own (enlarged t w route x)
+        ap (λ (m : ℕ). take m own') (at_x.count ∙ sym long) ∙ ap (take (length (enlarged t w route g.offset))) (this_given (Ok (Some g)) e h).after
+        ∙ overlaid_taken own (enlarged t w route g.offset)
 
-    pub admitted_inside : n ≤ length own'
+    pub admitted_inside : g.words ≤ length own'
     admitted_inside =
         omega (
           arith,
           at_x.count,
           at_x.may.has_room,
           long,
-          ap length (this_given (Admitted x n) e h).after,
-          overlaid_length own 0 (enlarged t w route x) (omega (arith, long, at_x.may.has_room)),
+          ap length (this_given (Ok (Some g)) e h).after,
+          overlaid_length own 0 (enlarged t w route g.offset) (omega (arith, long, at_x.may.has_room)),
         )
 
-    pub admitted_long : n ≡ length (take n own')
+    pub admitted_long : g.words ≡ length (take g.words own')
     admitted_long = at_x.count ∙ sym long ∙ sym (ap length in_front)
 
-    pub admitted_sized : Sized (take n own')
+    pub admitted_sized : Sized (take g.words own')
     admitted_sized = subst Sized (sym in_front) at_x.found.has.shape.sized
 
-    file_fits : (file : List ℕ) → OwnRoom (length file) (length own) → length (file_of (enlarged t w route x)) ≤ length file
+    file_fits : (file : List ℕ) → OwnRoom (length file) (length own) → length (file_of (enlarged t w route g.offset)) ≤ length file
     file_fits file room =
         let words : enlarged_words t route ≤ length file / max_number_bytes = omega (arith, at_x.may.has_room, room.in_the_file) in
-        omega (arith, file_length (enlarged t w route x), long)
+        omega (arith, file_length (enlarged t w route g.offset), long)
 
-    pub table_admitted : {file file' : List ℕ} {written : Answer} → OwnRoom (length file) (length own) → WritesFile (take n own') file written file'
-        → AdmitsTable t w route from until file (admission written.result written.beside x) file'
+    pub table_admitted : {file file' : List ℕ} {written : Answer} → OwnRoom (length file) (length own) → WritesFile (take g.words own') file written file'
+        → AdmitsTable t w route from until file (admission written.result written.beside g.offset) file'
     table_admitted {file} {file'} {written} room wrote = given_by (subst (λ (u : List ℕ). WritesFile u file written file') in_front wrote)
       where
-        given_by : WritesFile (enlarged t w route x) file written file' → AdmitsTable t w route from until file (admission written.result written.beside x) file'
+        given_by : WritesFile (enlarged t w route g.offset) file written file' → AdmitsTable t w route from until file (admission written.result written.beside g.offset) file'
         given_by (inl r) = absurd (r.fault.2 (file_fits file room))
         given_by (inr y) = record {
-          given = Admitted x n;
-          told = told_anyway t w route room from until (Admitted x n) (this_given (Admitted x n) e h).answer;
-          answer = ap (λ (b : Answer). admission b.result b.beside x) y.1.answer;
+          given = Ok (Some g);
+          told = told_anyway t w route room from until (Ok (Some g)) (this_given (Ok (Some g)) e h).answer;
+          answer = ap (λ (b : Answer). admission b.result b.beside g.offset) y.1.answer;
           after = y.1.after;
         }
 
 -- A plan file was read, or is refused.
-module _ (s v : List ℕ) {r : PlanRead} where
-  pub plan_unadmitted_small : {k p : ℕ} → r ≡ plan.Refused k p → TakesPlan s r v → SmallUnadmitted k p
-  plan_unadmitted_small {k} {p} e h = let x = plan_fault_small s k p (read_fault s v e h) in record { number = omega (arith, x.number); position = x.position }
+module _ (s v : List ℕ) {r : Result ℕ Refusal} where
+  pub plan_unadmitted_small : {q : Refusal} → r ≡ Err q → TakesPlan s r v → SmallUnadmitted q.cause q.at
+  plan_unadmitted_small {q} e h = let s = plan_fault_small s q.cause q.at (read_fault s v e h) in record { number = omega (arith, s.number); position = s.position }
 
   module _ (w : Wanted) (route : List ℕ) (from until : ℕ) {file : List ℕ} {a : AdmissionAnswer} where
-    pub plan_unadmitted : {k p : ℕ} → r ≡ plan.Refused k p → TakesPlan s r v → a ≡ unadmitted k p → HostAdmitsBetween s w route from until file a file
-    plan_unadmitted {k} {p} e h f = inl (record { number = k; at = p; fault = read_fault s v e h; answer = f; kept = refl })
+    pub plan_unadmitted : {q : Refusal} → r ≡ Err q → TakesPlan s r v → a ≡ unadmitted q.cause q.at → HostAdmitsBetween s w route from until file a file
+    plan_unadmitted {q} e h f = inl (record { cause = q.cause; at = q.at; fault = read_fault s v e h; answer = f; kept = refl })
 
-    pub admit_on : {file' : List ℕ} {n : ℕ} → r ≡ plan.Words n → TakesPlan s r v → AdmitsTable (take n v) w route from until file a file'
+    pub admit_on : {file' : List ℕ} {n : ℕ} → r ≡ Ok n → TakesPlan s r v → AdmitsTable (take n v) w route from until file a file'
         → HostAdmitsBetween s w route from until file a file'
     admit_on {file'} {n} e h x =
         let f = read_front s v e h in inr (f.table, f.file, subst (λ (t : List ℕ). AdmitsTable t w route from until file a file') f.is x)

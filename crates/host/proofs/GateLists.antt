@@ -1,26 +1,26 @@
 -- Each call for C on gate lists has one answer and leaves one memory, since what it rests on has. Each stage has its refusals. What is written is read back, since list files are. Assumes
 -- nothing.
+use Rattle.host.proofs.Laws.{number_once}
+use Rattle.std.specs.Prelude.{Result, Ok, Err}
+use Rattle.basics.specs.Cause.{number_of, refused}
+use Rattle.basics.specs.declared.Cause.{Cause}
+use Rattle.basics.specs.declared.Cause.TheVariants as cause
+use Rattle.basics.specs.declared.Refusal.{Refusal}
 use Prim.Native.Nat.{ℕ, ◌*◌, ◌≤◌}
 use mathlib.Core.Path.{◌≡◌, refl, ◌∙◌, sym, ap, subst}
 use mathlib.Core.List.{List}
 use mathlib.Core.Logic.{◌⊎◌, inl, inr, ⊎_elim}
 use native.Mathlib.Omega.{arith}
 use lib.ListN.{length, take}
-use Rattle.numbers.specs.Number.{bytes_end, unfit_number, no_room}
 use Rattle.numbers.specs.Series.{overlaid}
-use Rattle.numbers.specs.declared.Written.{Written}
-use Rattle.numbers.specs.declared.Written.TheVariants as written
 use Rattle.table.specs.Layout.{Sized}
-use Rattle.table.specs.Size.{above_limit}
-use Rattle.files.specs.Reading.{left_over, IsFile}
+use Rattle.files.specs.Reading.{IsFile}
 use Rattle.files.specs.Plan.{PlanFault}
 use Rattle.files.proofs.Refused.{plan_refused}
 use Rattle.shape.specs.Shape.{ShapeFault}
 use Rattle.shape.proofs.Refused.{sized_refused}
 use Rattle.gates.specs.Pairs.{max_pairs}
 use Rattle.gate_files.specs.ListFiles.{ReadsList}
-use Rattle.gate_files.specs.declared.ListRead.{ListRead}
-use Rattle.gate_files.specs.declared.ListRead.TheVariants as read
 use Rattle.gate_files.proofs.OneAnswer.{read_list_one_answer}
 use Rattle.gate_files.proofs.Refused.{list_file_refusals_are_these}
 use Rattle.gate_lists.specs.GateList.{IsGateList}
@@ -53,15 +53,15 @@ host_read_gates_one_answer list words a b x y u v =
     (u.answer ∙ ap read_gates_answered e.0 ∙ sym v.answer, e.1)
 
 -- A refusal writes nothing.
-written_keeps : (t : List ℕ) (l : ℕ) (list list' : List ℕ) (r : Written) (a : Answer) → WritesGateList t l list r list' → a ≡ gates_answered r
+written_keeps : (t : List ℕ) (l : ℕ) (list list' : List ℕ) (r : Result ℕ Refusal) (a : Answer) → WritesGateList t l list r list' → a ≡ gates_answered r
     → refused_result 0 ≤ a.result → list' ≡ list
-written_keeps t l list list' (written.Bytes n) a w e h = absurd (omega (arith, ap result_alone e, h))
-written_keeps t l list list' (written.Refused k p) a w e h = w.1
+written_keeps t l list list' (Ok n) a w e h = absurd (omega (arith, ap result_alone e, h))
+written_keeps t l list list' (Err d) a w e h = w.1
 
-read_keeps : (list words words' : List ℕ) (r : ListRead) (a : Answer) → ReadsList list words r words' → a ≡ read_gates_answered r
+read_keeps : (list words words' : List ℕ) (r : Result ℕ Refusal) (a : Answer) → ReadsList list words r words' → a ≡ read_gates_answered r
     → refused_result 0 ≤ a.result → words' ≡ words
-read_keeps list words words' (read.Words n) a w e h = absurd (omega (arith, ap result_alone e, h))
-read_keeps list words words' (read.Refused k p) a w e h = w.1
+read_keeps list words words' (Ok n) a w e h = absurd (omega (arith, ap result_alone e, h))
+read_keeps list words words' (Err d) a w e h = w.1
 
 pub host_gate_refusals_write_nothing : HostGateRefusalsWriteNothing
 host_gate_refusals_write_nothing = record {
@@ -75,9 +75,9 @@ host_gate_refusals_write_nothing = record {
 abbrev OfTable : ℕ → Type 0
 OfTable k = ((4 ≤ k) × (k ≤ 7)) ⊎ OfList k
 
-table_refusal : (t : List ℕ) (l room k p : ℕ) → Sized t → (list_refusals t l room).Fault k p → OfTable k
+table_refusal : (t : List ℕ) (l room : ℕ) (k : Cause) (p : ℕ) → Sized t → (list_refusals t l room).Fault k p → OfTable (number_of k)
 table_refusal t l room k p z f =
-    ⊎_elim (λ (g : ShapeFault t k p). inl (sized_refused t k p z g)) (λ (x : OfList k × (p ≡ 0)). inr x.0) (list_cause t l room k p f)
+    ⊎_elim (λ (g : ShapeFault t k p). inl (sized_refused t k p z g)) (λ (x : OfList (number_of k) × (p ≡ 0)). inr x.0) (list_cause t l room k p f)
 
 abbrev OfFile : ℕ → Type 0
 OfFile k = (k ≡ 2) ⊎ ((12 ≤ k) × (k ≤ 14))
@@ -92,17 +92,18 @@ none_in_common k (inr e) (inr (inl x)) = omega (arith, e.1, x)
 none_in_common k (inr e) (inr (inr (inl x))) = omega (arith, e.1, x)
 none_in_common k (inr e) (inr (inr (inr x))) = omega (arith, e.1, x.0)
 
-not_given : (t : List ℕ) (l : ℕ) (list list' : List ℕ) (k p : ℕ) (r : Written) → Sized t → OfFile k → WritesGateList t l list r list' → refusal k p ≡ gates_answered r → ⊥
-not_given t l list list' k p (written.Bytes n) z f w e = omega (arith, ap result_alone e)
-not_given t l list list' k p (written.Refused j q) z f w e =
-    let same : j ≡ k = omega (arith, ap result_alone e) in none_in_common k f (subst OfTable same (table_refusal t l (length list) j q z w.0))
+not_given : (t : List ℕ) (l : ℕ) (list list' : List ℕ) (k : Cause) (p : ℕ) (r : Result ℕ Refusal) → Sized t → OfFile (number_of k) → WritesGateList t l list r list' → refusal k p ≡ gates_answered r → ⊥
+not_given t l list list' k p (Ok n) z f w e = omega (arith, ap result_alone e)
+not_given t l list list' k p (Err d) z f w e =
+    let same : number_of d.cause ≡ number_of k = omega (arith, ap result_alone e) in
+    none_in_common (number_of k) f (subst OfTable same (table_refusal t l (length list) d.cause d.at z w.0))
 
 -- A fault of the plan file comes first.
-of_the_file : (plan : List ℕ) (l : ℕ) (list : List ℕ) (k p : ℕ) (list' : List ℕ) → OfFile k → HostListsGates plan l list (refusal k p) list' → PlanFault plan k p
+of_the_file : (plan : List ℕ) (l : ℕ) (list : List ℕ) (k : Cause) (p : ℕ) (list' : List ℕ) → OfFile (number_of k) → HostListsGates plan l list (refusal k p) list' → PlanFault plan k p
 of_the_file plan l list k p list' f (inl x) =
-    let e : x.number ≡ k = omega (arith, ap result_alone x.answer) in
+    let e : x.cause ≡ k = number_once x.cause k (omega (arith, ap result_alone x.answer)) in
     let at : x.at ≡ p = sym (ap (λ (a : Answer). a.beside) x.answer) in
-    subst (λ (q : ℕ). PlanFault plan k q) at (subst (λ (j : ℕ). PlanFault plan j x.at) e x.fault)
+    subst (λ (q : ℕ). PlanFault plan k q) at (subst (λ (j : Cause). PlanFault plan j x.at) e x.fault)
 of_the_file plan l list k p list' f (inr (t, g, x)) = absurd (not_given t l list list' k p x.given g.complete f x.writes x.answer)
 
 pub plan_faults_before_gates : PlanFaultsBeforeGates
@@ -112,28 +113,28 @@ plan_faults_before_gates = record {
 }
 
 -- Room.
-table_room : (t : List ℕ) (l : ℕ) (list list' : List ℕ) (r : Written) (a : Answer) → max_list_bytes ≤ length list
-    → WritesGateList t l list r list' → a ≡ gates_answered r → a.result ≡ refused_result no_room → ⊥
-table_room t l list list' (written.Bytes n) a h w e i = omega (arith, ap result_alone e, i)
-table_room t l list list' (written.Refused k p) a h w e i =
-    let same : k ≡ no_room = omega (arith, ap result_alone e, i) in
-    list_room_is_enough.enough t l p list list' h (subst (λ (j : ℕ). WritesGateList t l list (written.Refused j p) list') same w)
+table_room : (t : List ℕ) (l : ℕ) (list list' : List ℕ) (r : Result ℕ Refusal) (a : Answer) → max_list_bytes ≤ length list
+    → WritesGateList t l list r list' → a ≡ gates_answered r → a.result ≡ refused_result (number_of cause.NoRoom) → ⊥
+table_room t l list list' (Ok n) a h w e i = omega (arith, ap result_alone e, i)
+table_room t l list list' (Err d) a h w e i =
+    let same : d.cause ≡ cause.NoRoom = number_once d.cause cause.NoRoom (omega (arith, ap result_alone e, i)) in
+    list_room_is_enough.enough t l d.at list list' h (subst (λ (j : Cause). WritesGateList t l list (refused j d.at) list') same w)
 
 pub gate_room_is_enough : GateRoomIsEnough
-gate_room_is_enough plan l list a list' h (inl x) i = not_of_the_file (plan_refused plan x.number x.at x.fault)
+gate_room_is_enough plan l list a list' h (inl x) i = not_of_the_file (plan_refused plan x.cause x.at x.fault)
   where
-    not_of_the_file : (x.number ≡ above_limit) ⊎ ((bytes_end ≤ x.number) × (x.number ≤ left_over)) → ⊥
+    not_of_the_file : (number_of x.cause ≡ 2) ⊎ ((12 ≤ number_of x.cause) × (number_of x.cause ≤ 14)) → ⊥
     not_of_the_file (inl y) = omega (arith, ap result_alone x.answer, i, y)
     not_of_the_file (inr y) = omega (arith, ap result_alone x.answer, i, y.1)
 gate_room_is_enough plan l list a list' h (inr (t, f, x)) i = table_room t l list list' x.given a h x.writes x.answer i
 
 -- What was written is read back.
-same_given : (r : Written) (n : ℕ) → answered 0 n ≡ gates_answered r → r ≡ written.Bytes n
-same_given (written.Bytes m) n e = ap (λ (i : ℕ). written.Bytes i) (sym (ap (λ (a : Answer). a.beside) e))
-same_given (written.Refused k p) n e = absurd (omega (arith, ap result_alone e))
+same_given : (r : Result ℕ Refusal) (n : ℕ) → answered 0 n ≡ gates_answered r → r ≡ Ok n
+same_given (Ok m) n e = ap Ok (sym (ap (λ (a : Answer). a.beside) e))
+same_given (Err d) n e = absurd (omega (arith, ap result_alone e))
 
 back_again : (plan t : List ℕ) (l : ℕ) (list list' words words' : List ℕ) (n : ℕ) (a : Answer) → IsFile Sized plan t
-    → WritesGateList t l list (written.Bytes n) list' → HostReadsGates (take n list') words a words' → 2 * max_pairs ≤ length words
+    → WritesGateList t l list (Ok n) list' → HostReadsGates (take n list') words a words' → 2 * max_pairs ≤ length words
     → (t : List ℕ) × (ws : List ℕ) × IsFile Sized plan t × IsGateList t l ws × (a ≡ answered 0 (length ws)) × (words' ≡ overlaid words 0 ws)
 back_again plan t l list list' words words' n a file w x h =
     let back = gate_lists_come_back t l n list list' words words' x.given w x.reads h in
@@ -144,10 +145,10 @@ back_again plan t l list list' words words' n a file w x h =
 pub host_lists_come_back : HostListsComeBack
 host_lists_come_back plan l list list' words words' n a (inl y) x h = absurd (omega (arith, ap result_alone y.answer))
 host_lists_come_back plan l list list' words words' n a (inr (t, file, y)) x h =
-    back_again plan t l list list' words words' n a file (subst (λ (r : Written). WritesGateList t l list r list') (same_given y.given n y.answer) y.writes) x h
+    back_again plan t l list list' words words' n a file (subst (λ (r : Result ℕ Refusal). WritesGateList t l list r list') (same_given y.given n y.answer) y.writes) x h
 
 -- Which results there are.
-file_is : (k : ℕ) → (k ≡ above_limit) ⊎ ((bytes_end ≤ k) × (k ≤ left_over)) → GateRefusal k
+file_is : (k : Cause) → (number_of k ≡ 2) ⊎ ((12 ≤ number_of k) × (number_of k ≤ 14)) → GateRefusal (number_of k)
 file_is k (inl x) = inl x
 file_is k (inr x) = inr (inr (inl (omega (arith, x.0), omega (arith, x.1))))
 
@@ -157,28 +158,28 @@ table_is k (inr (inl x)) = inr (inr (inl (omega (arith, x), omega (arith, x))))
 table_is k (inr (inr (inl x))) = inr (inr (inr (inl x)))
 table_is k (inr (inr (inr x))) = inr (inr (inr (inr x)))
 
-given_result : (t : List ℕ) (l : ℕ) (list list' : List ℕ) (r : Written) (a : Answer) → Sized t → WritesGateList t l list r list' → a ≡ gates_answered r
+given_result : (t : List ℕ) (l : ℕ) (list list' : List ℕ) (r : Result ℕ Refusal) (a : Answer) → Sized t → WritesGateList t l list r list' → a ≡ gates_answered r
     → (a.result ≡ 0) ⊎ TellsGateRefusal a.result
-given_result t l list list' (written.Bytes n) a z w e = inl (ap result_alone e)
-given_result t l list list' (written.Refused k p) a z w e =
-    inr (record { number = k; is = table_is k (table_refusal t l (length list) k p z w.0); told = ap result_alone e })
+given_result t l list list' (Ok n) a z w e = inl (ap result_alone e)
+given_result t l list list' (Err d) a z w e =
+    inr (record { number = number_of d.cause; is = table_is (number_of d.cause) (table_refusal t l (length list) d.cause d.at z w.0); told = ap result_alone e })
 
 gate_results : (plan : List ℕ) (l : ℕ) (list : List ℕ) (a : Answer) (list' : List ℕ) → HostListsGates plan l list a list' → (a.result ≡ 0) ⊎ TellsGateRefusal a.result
 gate_results plan l list a list' (inl x) =
-    inr (record { number = x.number; is = file_is x.number (plan_refused plan x.number x.at x.fault); told = ap result_alone x.answer })
+    inr (record { number = number_of x.cause; is = file_is x.cause (plan_refused plan x.cause x.at x.fault); told = ap result_alone x.answer })
 gate_results plan l list a list' (inr (t, f, x)) = given_result t l list list' x.given a f.complete x.writes x.answer
 
 abbrev ReadResult : ℕ → Type 0
 ReadResult r = (r ≡ 0) ⊎ ((r ≡ 112) ⊎ ((r ≡ 113) ⊎ (r ≡ 115)))
 
-read_result : (list words words' : List ℕ) (r : ListRead) (a : Answer) → ReadsList list words r words' → a ≡ read_gates_answered r → ReadResult a.result
-read_result list words words' (read.Words n) a w e = inl (ap result_alone e)
-read_result list words words' (read.Refused k p) a w e = refused (list_file_refusals_are_these.read list words words' k p w)
+read_result : (list words words' : List ℕ) (r : Result ℕ Refusal) (a : Answer) → ReadsList list words r words' → a ≡ read_gates_answered r → ReadResult a.result
+read_result list words words' (Ok n) a w e = inl (ap result_alone e)
+read_result list words words' (Err d) a w e = by (list_file_refusals_are_these.read list words words' d.cause d.at w)
   where
-    refused : (k ≡ bytes_end) ⊎ ((k ≡ unfit_number) ⊎ (k ≡ no_room)) → ReadResult a.result
-    refused (inl x) = inr (inl (omega (arith, ap result_alone e, x)))
-    refused (inr (inl x)) = inr (inr (inl (omega (arith, ap result_alone e, x))))
-    refused (inr (inr x)) = inr (inr (inr (omega (arith, ap result_alone e, x))))
+    by : (d.cause ≡ cause.BytesEnd) ⊎ ((d.cause ≡ cause.UnfitNumber) ⊎ (d.cause ≡ cause.NoRoom)) → ReadResult a.result
+    by (inl x) = inr (inl (omega (arith, ap result_alone e, ap number_of x)))
+    by (inr (inl x)) = inr (inr (inl (omega (arith, ap result_alone e, ap number_of x))))
+    by (inr (inr x)) = inr (inr (inr (omega (arith, ap result_alone e, ap number_of x))))
 
 pub gate_results_are_these : GateResultsAreThese
 gate_results_are_these = record {

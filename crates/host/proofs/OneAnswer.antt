@@ -1,13 +1,17 @@
 -- Each call for C has one answer and leaves one memory, since each stage has one. Assumes nothing.
+use Rattle.files.specs.declared.Returned.{Returned}
+use Rattle.std.specs.Prelude.{Result, Ok, Err}
+use Rattle.basics.specs.Cause.{refused}
+use Rattle.basics.specs.declared.Cause.{Cause}
+use Rattle.basics.specs.declared.Cause.TheVariants as cause
+use Rattle.basics.specs.declared.Refusal.{Refusal}
 use Prim.Native.Nat.{ℕ, ◌≤◌}
 use mathlib.Core.Path.{◌≡◌, ◌∙◌, sym, ap, subst}
 use mathlib.Core.List.{List}
 use mathlib.Core.Logic.{inl, inr}
-use native.Mathlib.Omega.{arith}
 use lib.ListN.{length}
 use Rattle.basics.specs.Refusals.{unless}
 use Rattle.basics.proofs.Refusals.{unless_one}
-use Rattle.numbers.specs.Number.{no_room}
 use Rattle.numbers.specs.Series.{file_of}
 use Rattle.table.specs.Layout.{current, first_layout, SizedIn}
 use Rattle.table.specs.declared.Edition.{Edition}
@@ -17,12 +21,8 @@ use Rattle.files.specs.Cursors.{ReadsCursor}
 use Rattle.files.specs.Plan.{PlanFaultIn}
 use Rattle.files.specs.Theorems.{max_cursor_bytes}
 use Rattle.files.specs.declared.Cursor.{Cursor}
-use Rattle.files.specs.declared.CursorRead.{CursorRead}
-use Rattle.files.specs.declared.CursorRead.TheVariants as read
 use Rattle.files.proofs.OneAnswer.{plan_fault_one, file_no_fault, same_file, read_cursor_one_answer}
 use Rattle.places.specs.Order.{place_count}
-use Rattle.checker.specs.declared.Grant.{Grant}
-use Rattle.checker.specs.declared.Grant.TheVariants as grant
 use Rattle.checker.proofs.OneAnswer.{start_one_answer, slice_one_answer, move_one_answer}
 use Rattle.editions.specs.Converted.{converted}
 use Rattle.host.specs.declared.Answer.{Answer}
@@ -31,46 +31,41 @@ use Rattle.host.specs.Refusals.{CursorUnread, After, With, AfterPlanIn, AfterPla
 use Rattle.host.specs.Calls.{Lent, AfterMove, BothWritten, FileWritten, WritesFile, Started, Sliced, MovedLeg, StartsTable, SlicesTable, MovesTable}
 use Rattle.host.specs.Theorems.{OneAnswer, HostStartOneAnswer, HostSliceFullOneAnswer, HostSliceOneAnswer, HostMoveOneAnswer, HostConvertOneAnswer, SliceGivesTheResult}
 
--- What was read of a cursor, as numbers and a cursor.
-number_of : CursorRead → ℕ
-number_of (read.Saved c) = 0
-number_of (read.Refused k p) = k
+-- What was read of a cursor: its parts.
+cause_of : Result Cursor Refusal → Cause
+cause_of (Ok c) = cause.LeftOver
+cause_of (Err e) = e.cause
 
-position_of : CursorRead → ℕ
-position_of (read.Saved c) = 0
-position_of (read.Refused k p) = p
+position_of : Result Cursor Refusal → ℕ
+position_of (Ok c) = 0
+position_of (Err e) = e.at
 
-cursor_of_lem : CursorRead → Cursor
-cursor_of_lem (read.Saved c) = c
-cursor_of_lem (read.Refused k p) = record { revision = 0; leg = 0; place = 0 }
+cursor_of_lem : Result Cursor Refusal → Cursor
+cursor_of_lem (Ok c) = c
+cursor_of_lem (Err e) = record { revision = 0; leg = 0; place = 0 }
 
-is_saved : CursorRead → ℕ
-is_saved (read.Saved c) = 1
-is_saved (read.Refused k p) = 0
+unread_one : (s : List ℕ) (k : Cause) (p : ℕ) (l : Cause) (q : ℕ) → CursorUnread s k p → CursorUnread s l q → (k ≡ l) × (p ≡ q)
+unfolding cause_of position_of
+unread_one s k p l q f g = let e = read_cursor_one_answer s (refused k p) (refused l q) f g in (ap cause_of e, ap position_of e)
 
-unread_one : (s : List ℕ) (k p l q : ℕ) → CursorUnread s k p → CursorUnread s l q → (k ≡ l) × (p ≡ q)
-unfolding number_of position_of
-unread_one s k p l q f g = let e = read_cursor_one_answer s (read.Refused k p) (read.Refused l q) f g in (ap number_of e, ap position_of e)
-
-pub saved_one : (s : List ℕ) (c d : Cursor) → ReadsCursor s (read.Saved c) → ReadsCursor s (read.Saved d) → c ≡ d
+pub saved_one : (s : List ℕ) (c d : Cursor) → ReadsCursor s (Ok c) → ReadsCursor s (Ok d) → c ≡ d
 unfolding cursor_of_lem
-saved_one s c d f g = ap cursor_of_lem (read_cursor_one_answer s (read.Saved c) (read.Saved d) f g)
+saved_one s c d f g = ap cursor_of_lem (read_cursor_one_answer s (Ok c) (Ok d) f g)
 
-pub saved_not_unread : (s : List ℕ) (c : Cursor) (k p : ℕ) → ReadsCursor s (read.Saved c) → CursorUnread s k p → ⊥
-unfolding is_saved
-saved_not_unread s c k p f g = let e : ◌≡◌ {A = ℕ} 1 0 = ap is_saved (read_cursor_one_answer s (read.Saved c) (read.Refused k p) f g) in omega arith
+pub saved_not_unread : (s : List ℕ) (c : Cursor) (k : Cause) (p : ℕ) → ReadsCursor s (Ok c) → CursorUnread s k p → ⊥
+saved_not_unread s c k p f g = let e = read_cursor_one_answer s (Ok c) (refused k p) f g in absurd (cc)
 
 -- The stages. Two refusals are one, none is due where the next one speaks, and that has one answer.
 module _ (M : Type 0) (m : M) where
-  after_one : (Fault : ℕ → ℕ → Type 0) (Next : Answer → M → Type 0) → ((k p l q : ℕ) → Fault k p → Fault l q → (k ≡ l) × (p ≡ q))
-      → ((a : Answer) (x : M) (k p : ℕ) → Next a x → Fault k p → ⊥) → OneAnswer Answer M Next → OneAnswer Answer M (After M Fault m Next)
+  after_one : (Fault : Cause → ℕ → Type 0) (Next : Answer → M → Type 0) → ((k : Cause) (p : ℕ) (l : Cause) (q : ℕ) → Fault k p → Fault l q → (k ≡ l) × (p ≡ q))
+      → ((a : Answer) (x : M) (k : Cause) (p : ℕ) → Next a x → Fault k p → ⊥) → OneAnswer Answer M Next → OneAnswer Answer M (After M Fault m Next)
   after_one Fault Next one none next a b x y (inl u) (inl v) =
-      let e = one u.number u.at v.number v.at u.fault v.fault in (
-        u.answer ∙ ap (λ (k : ℕ). refusal k u.at) e.0 ∙ ap (refusal v.number) e.1 ∙ sym v.answer,
+      let e = one u.cause u.at v.cause v.at u.fault v.fault in (
+        u.answer ∙ ap (λ (k : Cause). refusal k u.at) e.0 ∙ ap (refusal v.cause) e.1 ∙ sym v.answer,
         u.kept ∙ sym v.kept,
       )
-  after_one Fault Next one none next a b x y (inl u) (inr v) = absurd (none b y u.number u.at v u.fault)
-  after_one Fault Next one none next a b x y (inr u) (inl v) = absurd (none a x v.number v.at u v.fault)
+  after_one Fault Next one none next a b x y (inl u) (inr v) = absurd (none b y u.cause u.at v u.fault)
+  after_one Fault Next one none next a b x y (inr u) (inl v) = absurd (none a x v.cause v.at u v.fault)
   after_one Fault Next one none next a b x y (inr u) (inr v) = next a b x y u v
 
   with_one : (Value : Type 0) (Clear : Value → Type 0) (Then : Value → Answer → M → Type 0) → ((v w : Value) → Clear v → Clear w → v ≡ w)
@@ -88,14 +83,14 @@ module _ (M : Type 0) (m : M) where
 
   after_cursor_one : (s : List ℕ) (Then : Cursor → Answer → M → Type 0) → ((c : Cursor) → OneAnswer Answer M (Then c)) → OneAnswer Answer M (AfterCursor M s m Then)
   after_cursor_one s Then one =
-      let Clear : Cursor → Type 0 = λ c. ReadsCursor s (read.Saved c) in
+      let Clear : Cursor → Type 0 = λ c. ReadsCursor s (Ok c) in
       after_one (CursorUnread s) (With M Cursor Clear Then) (unread_one s) (λ a x k p c f. saved_not_unread s c.0 k p c.1 f)
       (with_one Cursor Clear Then (saved_one s) one)
 
   after_room_one : (room needed : ℕ) (Then : Answer → M → Type 0) → OneAnswer Answer M Then → OneAnswer Answer M (AfterRoom M room needed m Then)
   after_room_one room needed Then one =
-      let none = unless_one no_room (needed ≤ room) in
-      after_one (unless no_room (needed ≤ room)).Fault (λ a x. (needed ≤ room) × Then a x) (λ k p l q f g. none.one f g) (λ a x k p c f. f.2 c.0)
+      let none = unless_one cause.NoRoom (needed ≤ room) in
+      after_one (unless cause.NoRoom (needed ≤ room)).Fault (λ a x. (needed ≤ room) × Then a x) (λ k p l q f g. none.one f g) (λ a x k p c f. f.2 c.0)
       (λ a b x y u v. one a b x y u.1 v.1)
 
 -- The calls.
@@ -112,15 +107,15 @@ sliced_one t c budget out a b x y u v =
 written_one : (u : List ℕ) (d : Cursor) (m : Lent) → OneAnswer Answer Lent (BothWritten u d m)
 written_one u d m a b x y v w = (v.answer ∙ sym w.answer, v.after ∙ sym w.after)
 
-after_move_one : (g : Grant) (u : List ℕ) (m : Lent) → OneAnswer Answer Lent (AfterMove g u m)
-after_move_one (grant.Granted d) u m a b x y v w =
+after_move_one : (g : Result Cursor Returned) (u : List ℕ) (m : Lent) → OneAnswer Answer Lent (AfterMove g u m)
+after_move_one (Ok d) u m a b x y v w =
     after_room_one Lent m (length m.file) (length (file_of u)) (BothWritten u d m) (written_one u d m) a b x y v w
-after_move_one (grant.Refused k p d) u m a b x y v w = (v.0 ∙ sym w.0, v.1 ∙ sym w.1)
+after_move_one (Err d) u m a b x y v w = (v.0 ∙ sym w.0, v.1 ∙ sym w.1)
 
 move_made_one : (t : List ℕ) (c : Cursor) (mv : Move) (m : Lent) → OneAnswer Answer Lent (MovedLeg t c mv m)
 move_made_one t c mv m a b x y u v =
     let e = move_one_answer t c mv v.given u.given v.table u.table v.moves u.moves in
-    let w = subst (λ (g : Grant). AfterMove g v.table m b y) e.0 v.after in
+    let w = subst (λ (g : Result Cursor Returned). AfterMove g v.table m b y) e.0 v.after in
     after_move_one u.given u.table m a b x y u.after (subst (λ (z : List ℕ). AfterMove u.given z m b y) e.1 w)
 
 pub host_start_one_answer : HostStartOneAnswer

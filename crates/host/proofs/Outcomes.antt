@@ -1,4 +1,10 @@
 -- What holds of every outcome of a call for C: a refusal writes nothing, each other result is below 100, and a fault of the plan file comes first. Assumes nothing.
+use Rattle.host.proofs.Laws.{number_once}
+use Rattle.files.specs.declared.Returned.{Returned}
+use Rattle.std.specs.Prelude.{Result, Ok, Err}
+use Rattle.basics.specs.Cause.{number_of}
+use Rattle.basics.specs.declared.Cause.{Cause}
+use Rattle.basics.specs.declared.Cause.TheVariants as cause
 use Prim.Native.Nat.{ℕ, ◌≤◌, ◌<◌}
 use mathlib.Core.Path.{◌≡◌, refl, ◌∙◌, sym, ap, subst}
 use mathlib.Core.List.{List}
@@ -6,7 +12,6 @@ use mathlib.Core.Logic.{inl, inr}
 use native.Mathlib.Omega.{arith}
 use lib.ListN.{length}
 use Rattle.basics.specs.Refusals.{unless}
-use Rattle.numbers.specs.Number.{no_room}
 use Rattle.files.specs.Plan.{PlanFaultIn, PlanFault}
 use Rattle.files.specs.Theorems.{max_cursor_bytes}
 use Rattle.files.specs.declared.Cursor.{Cursor}
@@ -19,8 +24,6 @@ use Rattle.rules.specs.declared.Rule.{Rule}
 use Rattle.rules.specs.declared.Rule.TheVariants as rule
 use Rattle.places.specs.Order.{place_count}
 use Rattle.checker.specs.Slices.{Starts}
-use Rattle.checker.specs.declared.Grant.{Grant}
-use Rattle.checker.specs.declared.Grant.TheVariants as grant
 use Rattle.checker.specs.declared.SliceAnswer.{SliceAnswer}
 use Rattle.checker.specs.declared.SliceAnswer.TheVariants as answer
 use Rattle.editions.specs.Converted.{converted}
@@ -32,7 +35,7 @@ use Rattle.host.specs.Theorems.{Keeps, HostRefusalsWriteNothing, PlanFaultsComeF
 
 -- A refusal at any stage keeps the memory, so what comes after the stage decides.
 module _ (M : Type 0) (m : M) where
-  after_keeps : (Fault : ℕ → ℕ → Type 0) (Next : Answer → M → Type 0) → Keeps M m Next → Keeps M m (After M Fault m Next)
+  after_keeps : (Fault : Cause → ℕ → Type 0) (Next : Answer → M → Type 0) → Keeps M m Next → Keeps M m (After M Fault m Next)
   after_keeps Fault Next keeps a m' (inl x) h = x.kept
   after_keeps Fault Next keeps a m' (inr x) h = keeps a m' x h
 
@@ -46,7 +49,7 @@ module _ (M : Type 0) (m : M) where
   after_cursor_keeps s Then keeps = after_keeps (CursorUnread s) _ (λ a m' x h. keeps x.0 a m' x.2 h)
 
   after_room_keeps : (room needed : ℕ) (Then : Answer → M → Type 0) → Keeps M m Then → Keeps M m (AfterRoom M room needed m Then)
-  after_room_keeps room needed Then keeps = after_keeps (unless no_room (needed ≤ room)).Fault _ (λ a m' x h. keeps a m' x.1 h)
+  after_room_keeps room needed Then keeps = after_keeps (unless cause.NoRoom (needed ≤ room)).Fault _ (λ a m' x h. keeps a m' x.1 h)
 
 -- The results of the calls themselves: those that are no refusals are below 100.
 rule_small : (x : Rule) → rule_result x < refused_result 0
@@ -55,20 +58,20 @@ rule_small rule.Hop = omega arith
 rule_small rule.Deadline = omega arith
 rule_small rule.Overlap = omega arith
 
-start_keeps : (out out' : List ℕ) (n : ℕ) (g : Grant) (a : Answer) → a ≡ start_answered n g → out' ≡ bytes_after_start out g → refused_result 0 ≤ a.result → out' ≡ out
-start_keeps out out' n (grant.Granted d) a e f h = absurd (omega (arith, ap result_alone e, h))
-start_keeps out out' n (grant.Refused k p d) a e f h = f
+start_keeps : (out out' : List ℕ) (n : ℕ) (g : Result Cursor Returned) (a : Answer) → a ≡ start_answered n g → out' ≡ bytes_after_start out g → refused_result 0 ≤ a.result → out' ≡ out
+start_keeps out out' n (Ok d) a e f h = absurd (omega (arith, ap result_alone e, h))
+start_keeps out out' n (Err d) a e f h = f
 
 slice_keeps : (out out' : List ℕ) (x : SliceAnswer) (a : Answer) → a ≡ slice_answered x → out' ≡ bytes_after_slice out x → refused_result 0 ≤ a.result → out' ≡ out
 slice_keeps out out' (answer.Violated d n r) a e f h = absurd (omega (arith, ap result_alone e, h, rule_small r))
 slice_keeps out out' (answer.NothingViolated d n) a e f h = absurd (omega (arith, ap result_alone e, h))
 slice_keeps out out' (answer.Paused d n) a e f h = absurd (omega (arith, ap result_alone e, h))
-slice_keeps out out' (answer.Refused k p d) a e f h = f
+slice_keeps out out' (answer.Refused q d) a e f h = f
 
-move_keeps : (m : Lent) (g : Grant) (u : List ℕ) → Keeps Lent m (AfterMove g u m)
-move_keeps m (grant.Granted d) u a m' (inl x) h = x.kept
-move_keeps m (grant.Granted d) u a m' (inr x) h = absurd (omega (arith, ap result_alone x.1.answer, h))
-move_keeps m (grant.Refused k p d) u a m' x h = x.1
+move_keeps : (m : Lent) (g : Result Cursor Returned) (u : List ℕ) → Keeps Lent m (AfterMove g u m)
+move_keeps m (Ok d) u a m' (inl x) h = x.kept
+move_keeps m (Ok d) u a m' (inr x) h = absurd (omega (arith, ap result_alone x.1.answer, h))
+move_keeps m (Err d) u a m' x h = x.1
 
 slices_keep : (plan cursor : List ℕ) (budget : ℕ) (out : List ℕ) → Keeps (List ℕ) out (HostSlices plan cursor budget out)
 slices_keep plan cursor budget out =
@@ -97,25 +100,25 @@ host_refusals_write_nothing = record {
 }
 
 -- A fault of the plan file.
-pub first_fault : (M : Type 0) (m : M) (s : List ℕ) (Then : List ℕ → Answer → M → Type 0) (k p : ℕ) (a : Answer) (m' : M)
+pub first_fault : (M : Type 0) (m : M) (s : List ℕ) (Then : List ℕ → Answer → M → Type 0) (k : Cause) (p : ℕ) (a : Answer) (m' : M)
     → PlanFault s k p → AfterPlan M s m Then a m' → a ≡ refusal k p
 first_fault M m s Then k p a m' f (inl x) =
-    let e = plan_fault_one s x.number x.at k p x.fault f in
-    x.answer ∙ ap (λ (l : ℕ). refusal l x.at) e.0 ∙ ap (refusal k) e.1
+    let e = plan_fault_one s x.cause x.at k p x.fault f in
+    x.answer ∙ ap (λ (l : Cause). refusal l x.at) e.0 ∙ ap (refusal k) e.1
 first_fault M m s Then k p a m' f (inr (t, g, x)) = absurd (file_no_fault g f)
 
 -- After the plan reader a start is refused with 15 or as a table is, which is with none of 12 to 14.
-not_granted_lem : (t : List ℕ) (n k p : ℕ) (g : Grant) → 12 ≤ k → k ≤ 14 → Starts t g → refusal k p ≡ start_answered n g → ⊥
-not_granted_lem t n k p (grant.Granted d) h l s e = omega (arith, ap result_alone e)
-not_granted_lem t n k p (grant.Refused j q d) h l s e =
-    let i = ap result_alone e in (shape_of_table t j q s.0).not_of_bytes (omega arith, omega arith)
+not_granted_lem : (t : List ℕ) (n : ℕ) (k : Cause) (p : ℕ) (g : Result Cursor Returned) → 12 ≤ number_of k → number_of k ≤ 14 → Starts t g → refusal k p ≡ start_answered n g → ⊥
+not_granted_lem t n k p (Ok d) h l s e = omega (arith, ap result_alone e)
+not_granted_lem t n k p (Err d) h l s e =
+    let i = ap result_alone e in (shape_of_table t d.refusal.cause d.refusal.at s.0).not_of_bytes (omega arith, omega arith)
 
-of_the_plan : (plan out : List ℕ) (k p : ℕ) (out' : List ℕ) → 12 ≤ k → k ≤ 14 → HostStarts plan out (refusal k p) out' → PlanFault plan k p
+of_the_plan : (plan out : List ℕ) (k : Cause) (p : ℕ) (out' : List ℕ) → 12 ≤ number_of k → number_of k ≤ 14 → HostStarts plan out (refusal k p) out' → PlanFault plan k p
 of_the_plan plan out k p out' h l (inl x) =
-    let e : x.number ≡ k = omega (arith, ap result_alone x.answer) in
+    let e : x.cause ≡ k = number_once x.cause k (omega (arith, ap result_alone x.answer)) in
     let f : x.at ≡ p = sym (ap (λ (a : Answer). a.beside) x.answer) in
-    subst (λ (q : ℕ). PlanFault plan k q) f (subst (λ (j : ℕ). PlanFault plan j x.at) e x.fault)
-of_the_plan plan out k p out' h l (inr (t, g, inl x)) = absurd (omega (arith, ap result_alone x.answer, x.fault.0))
+    subst (λ (q : ℕ). PlanFault plan k q) f (subst (λ (j : Cause). PlanFault plan j x.at) e x.fault)
+of_the_plan plan out k p out' h l (inr (t, g, inl x)) = absurd (omega (arith, ap result_alone x.answer, ap number_of x.fault.0))
 of_the_plan plan out k p out' h l (inr (t, g, inr x)) = absurd (not_granted_lem t (place_count t) k p x.1.given h l x.1.starts x.1.answer)
 
 pub plan_faults_come_first : PlanFaultsComeFirst
@@ -136,9 +139,9 @@ results_of_the_paper = record {
   hop = λ d n. refl;
   deadline = λ d n. refl;
   overlap = λ d n. refl;
-  refused = λ k p d. refl;
+  refused = λ e d. refl;
   started = λ n d. refl;
-  not_started = λ n k p d. refl;
+  not_started = λ n r. refl;
   room = refl;
   largest = refl;
 }

@@ -1,5 +1,5 @@
 -- What the calls for C promise: the answer, and every lent byte (document 01, "Files"). out is lent for the cursor that comes back, and out' is out after the call.
-use Rattle.std.specs.Prelude.{ℕ, ◌≡◌, List, length}
+use Rattle.std.specs.Prelude.{ℕ, ◌≡◌, List, length, Result, Ok, Err}
 use Rattle.numbers.specs.Series.{file_of, overlaid}
 use Rattle.table.specs.Layout.{first_layout}
 use Rattle.table.specs.declared.Move.{Move}
@@ -8,8 +8,7 @@ use Rattle.files.specs.declared.Cursor.{Cursor}
 use Rattle.places.specs.Order.{place_count}
 use Rattle.checker.specs.Slices.{Starts, Slices}
 use Rattle.checker.specs.Moves.{Moves}
-use Rattle.checker.specs.declared.Grant.{Grant}
-use Rattle.checker.specs.declared.Grant.TheVariants as grant
+use Rattle.files.specs.declared.Returned.{Returned}
 use Rattle.checker.specs.declared.SliceAnswer.{SliceAnswer}
 use Rattle.host.specs.declared.Answer.{Answer}
 use Rattle.host.specs.Answers.{answered, refusal, slice_answered, start_answered, with_cursor, bytes_after_slice, bytes_after_start, result_alone}
@@ -18,7 +17,7 @@ use Rattle.host.specs.Refusals.{AfterPlanIn, AfterPlan, AfterCursor, AfterRoom}
 
 -- A start of the table t: given is what it gives. Granted, the number of places stands beside the result.
 pub record Started (t : List ℕ) (out : List ℕ) (a : Answer) (out' : List ℕ) : Type 0 where
-  pub given : Grant
+  pub given : Result Cursor Returned
   pub starts : Starts t given
   pub answer : a ≡ start_answered (place_count t) given
   pub after : out' ≡ bytes_after_start out given
@@ -49,13 +48,13 @@ abbrev pub WritesBoth : List ℕ → Cursor → Lent → Answer → Lent → Typ
 WritesBoth u d m = AfterRoom Lent (length m.file) (length (file_of u)) m (BothWritten u d m)
 
 -- A granted move writes both, where there is room; a refused one writes nothing.
-abbrev pub AfterMove : Grant → List ℕ → Lent → Answer → Lent → Type 0
-AfterMove (grant.Granted d) u m a m' = WritesBoth u d m a m'
-AfterMove (grant.Refused k p d) u m a m' = (a ≡ refusal k p) × (m' ≡ m)
+abbrev pub AfterMove : Result Cursor Returned → List ℕ → Lent → Answer → Lent → Type 0
+AfterMove (Ok d) u m a m' = WritesBoth u d m a m'
+AfterMove (Err r) u m a m' = (a ≡ refusal r.refusal.cause r.refusal.at) × (m' ≡ m)
 
 -- A move of one leg of the table t: given is what it gives, and table is what t becomes.
 pub record MovedLeg (t : List ℕ) (c : Cursor) (mv : Move) (m : Lent) (a : Answer) (m' : Lent) : Type 0 where
-  pub given : Grant
+  pub given : Result Cursor Returned
   pub table : List ℕ
   pub moves : Moves t c mv given table
   pub after : AfterMove given table m a m'

@@ -1,16 +1,14 @@
 -- What is proved of the calls for C that explain a place: of first meetings, margins and nearest offsets.
-use Rattle.std.specs.Prelude.{ℕ, ◌+◌, ◌≤◌, ◌≡◌, List, ◌⊎◌}
+use Rattle.std.specs.Prelude.{ℕ, ◌+◌, ◌≤◌, ◌≡◌, List, ◌⊎◌, Ok, Some, None}
+use Rattle.basics.specs.Cause.{number_of, refused}
+use Rattle.basics.specs.declared.Cause.{Cause}
 use Rattle.table.specs.Layout.{Sized}
 use Rattle.files.specs.Reading.{IsFile}
 use Rattle.rules.specs.Places.{rule_at, PlaceHolds}
 use Rattle.rules.specs.declared.Rule.{Rule}
 use Rattle.rules.specs.declared.Rule.TheVariants as rule
-use Rattle.meeting.specs.declared.MeetingAnswer.TheVariants as meeting
 use Rattle.margins.specs.declared.Margin.TheVariants as margin
 use Rattle.margins.specs.declared.Spare.TheVariants as spare
-use Rattle.margins.specs.declared.MarginAnswer.TheVariants as answer
-use Rattle.margins.specs.declared.Offset.TheVariants as offset
-use Rattle.margins.specs.declared.NearestAnswer.TheVariants as nearest
 use Rattle.host.specs.declared.first_meeting.MeetingNumbers.{MeetingNumbers}
 use Rattle.host.specs.declared.place_margin.MarginNumbers.{MarginNumbers}
 use Rattle.host.specs.declared.near_offsets.NearestNumbers.{NearestNumbers}
@@ -55,21 +53,21 @@ pub record HostMarginsDecide : Type 0 where
 
 -- The answers at numbers. Each field of what C gets is fixed: 0 and 1 of a meeting, 0 and 2 to 5 of a margin, 0 of the nearest offsets, and 100 plus the refusal number with the position.
 pub record ExplanationsInNumbers : Type 0 where
-  pub never : meeting_numbers meeting.Never ≡ record { result = 0; position = 0; first = 0; second = 0; instant = 0 }
-  pub met : (k m x : ℕ) → meeting_numbers (meeting.Met (record { first = k; second = m; instant = x })) ≡ record { result = 1; position = 0; first = k; second = m; instant = x }
-  pub unmet : (k p : ℕ) → meeting_numbers (meeting.Refused k p) ≡ record { result = 100 + k; position = p; first = 0; second = 0; instant = 0 }
-  pub window_left : (n h l : ℕ) → margin_numbers rule.Window (answer.At (margin.Sides (record { needs = n; has = h })) (spare.Left l))
+  pub never : meeting_numbers (Ok None) ≡ record { result = 0; position = 0; first = 0; second = 0; instant = 0 }
+  pub met : (k m x : ℕ) → meeting_numbers (Ok (Some (record { first = k; second = m; instant = x }))) ≡ record { result = 1; position = 0; first = k; second = m; instant = x }
+  pub unmet : (k : Cause) (p : ℕ) → meeting_numbers (refused k p) ≡ record { result = 100 + number_of k; position = p; first = 0; second = 0; instant = 0 }
+  pub window_left : (n h l : ℕ) → margin_numbers rule.Window (Ok (record { margin = margin.Sides (record { needs = n; has = h }); spare = spare.Left l }))
       ≡ record { result = 0; position = 0; rule = 2; asked = 1; left = l; lacks = 0; needs = n; has = h; divisor = 0; after = 0; hold = 0; other = 0 }
-  pub hop_free : margin_numbers rule.Hop (answer.At margin.Free spare.Free)
+  pub hop_free : margin_numbers rule.Hop (Ok (record { margin = margin.Free; spare = spare.Free }))
       ≡ record { result = 0; position = 0; rule = 3; asked = 0; left = 0; lacks = 0; needs = 0; has = 0; divisor = 0; after = 0; hold = 0; other = 0 }
-  pub deadline_lacks : (n h l : ℕ) → margin_numbers rule.Deadline (answer.At (margin.Sides (record { needs = n; has = h })) (spare.Lacks l))
+  pub deadline_lacks : (n h l : ℕ) → margin_numbers rule.Deadline (Ok (record { margin = margin.Sides (record { needs = n; has = h }); spare = spare.Lacks l }))
       ≡ record { result = 4; position = 0; rule = 4; asked = 1; left = 0; lacks = l; needs = n; has = h; divisor = 0; after = 0; hold = 0; other = 0 }
-  pub overlap_lacks : (d a h o l : ℕ) → margin_numbers rule.Overlap (answer.At (margin.Turns (record { divisor = d; after = a; hold = h; other = o })) (spare.Lacks l))
+  pub overlap_lacks : (d a h o l : ℕ) → margin_numbers rule.Overlap (Ok (record { margin = margin.Turns (record { divisor = d; after = a; hold = h; other = o }); spare = spare.Lacks l }))
       ≡ record { result = 5; position = 0; rule = 5; asked = 1; left = 0; lacks = l; needs = 0; has = 0; divisor = d; after = a; hold = h; other = o }
-  pub margin_refused : (x : Rule) (k p : ℕ) → margin_numbers x (answer.Refused k p)
-      ≡ record { result = 100 + k; position = p; rule = 0; asked = 0; left = 0; lacks = 0; needs = 0; has = 0; divisor = 0; after = 0; hold = 0; other = 0 }
-  pub both : (x y : ℕ) → nearest_numbers (nearest.At (record { below = offset.At x; above = offset.At y }))
+  pub margin_refused : (x : Rule) (k : Cause) (p : ℕ) → margin_numbers x (refused k p)
+      ≡ record { result = 100 + number_of k; position = p; rule = 0; asked = 0; left = 0; lacks = 0; needs = 0; has = 0; divisor = 0; after = 0; hold = 0; other = 0 }
+  pub both : (x y : ℕ) → nearest_numbers (Ok (record { below = Some x; above = Some y }))
       ≡ record { result = 0; position = 0; lower = 1; below = x; higher = 1; above = y }
-  pub below_alone : (x : ℕ) → nearest_numbers (nearest.At (record { below = offset.At x; above = offset.None }))
+  pub below_alone : (x : ℕ) → nearest_numbers (Ok (record { below = Some x; above = None }))
       ≡ record { result = 0; position = 0; lower = 1; below = x; higher = 0; above = 0 }
-  pub nearest_refused : (k p : ℕ) → nearest_numbers (nearest.Refused k p) ≡ record { result = 100 + k; position = p; lower = 0; below = 0; higher = 0; above = 0 }
+  pub nearest_refused : (k : Cause) (p : ℕ) → nearest_numbers (refused k p) ≡ record { result = 100 + number_of k; position = p; lower = 0; below = 0; higher = 0; above = 0 }

@@ -1,17 +1,15 @@
 -- What is proved of the calls for C that write and read gate lists.
-use Rattle.std.specs.Prelude.{ℕ, ◌+◌, ◌*◌, ◌≤◌, ◌≡◌, List, [], ◌∷◌, ◌⊎◌, length, take}
-use Rattle.numbers.specs.Number.{no_room}
+use Rattle.std.specs.Prelude.{ℕ, ◌+◌, ◌*◌, ◌≤◌, ◌≡◌, List, [], ◌∷◌, ◌⊎◌, length, take, Ok}
+use Rattle.basics.specs.Cause.{number_of, refused}
+use Rattle.basics.specs.declared.Cause.{Cause}
+use Rattle.basics.specs.declared.Cause.TheVariants as cause
 use Rattle.numbers.specs.Series.{file_of, overlaid}
-use Rattle.numbers.specs.declared.Written.TheVariants as written
 use Rattle.table.specs.Layout.{Sized}
 use Rattle.table.specs.PlanA.{plan_a}
 use Rattle.files.specs.Reading.{IsFile}
 use Rattle.files.specs.Plan.{PlanFault}
-use Rattle.checker.specs.Accepted.{not_accepted}
 use Rattle.gates.specs.Pairs.{max_pairs}
-use Rattle.gate_files.specs.declared.ListRead.TheVariants as read
 use Rattle.gate_lists.specs.GateList.{IsGateList}
-use Rattle.gate_lists.specs.Lists.{long_cycle, too_many_pairs, no_link}
 use Rattle.gate_lists.specs.Theorems.{max_list_bytes}
 use Rattle.gate_lists.specs.AtNumbers.{accepted_a, list_of_a, comb, slow_a}
 use Rattle.host.specs.declared.Answer.{Answer}
@@ -33,15 +31,15 @@ pub record HostGateRefusalsWriteNothing : Type 0 where
 
 -- A fault of the plan file comes before all else, and 2, 12, 13 and 14 are told for such a fault alone.
 pub record PlanFaultsBeforeGates : Type 0 where
-  pub first : (plan : List ℕ) (l : ℕ) (list : List ℕ) (k p : ℕ) (a : Answer) (list' : List ℕ) → PlanFault plan k p → HostListsGates plan l list a list' → a ≡ refusal k p
-  pub no_other : (plan : List ℕ) (l : ℕ) (list : List ℕ) (k p : ℕ) (list' : List ℕ)
-      → (k ≡ 2) ⊎ ((12 ≤ k) × (k ≤ 14)) → HostListsGates plan l list (refusal k p) list' → PlanFault plan k p
+  pub first : (plan : List ℕ) (l : ℕ) (list : List ℕ) (k : Cause) (p : ℕ) (a : Answer) (list' : List ℕ) → PlanFault plan k p → HostListsGates plan l list a list' → a ≡ refusal k p
+  pub no_other : (plan : List ℕ) (l : ℕ) (list : List ℕ) (k : Cause) (p : ℕ) (list' : List ℕ)
+      → (number_of k ≡ 2) ⊎ ((12 ≤ number_of k) × (number_of k ≤ 14)) → HostListsGates plan l list (refusal k p) list' → PlanFault plan k p
 
 -- Room: 10,240 bytes are enough for any list file.
 abbrev pub GateRoomIsEnough : Type 0
 GateRoomIsEnough =
     (plan : List ℕ) (l : ℕ) (list : List ℕ) (a : Answer) (list' : List ℕ) → max_list_bytes ≤ length list
-    → HostListsGates plan l list a list' → a.result ≡ refused_result no_room → ⊥
+    → HostListsGates plan l list a list' → a.result ≡ refused_result (number_of cause.NoRoom) → ⊥
 
 -- BACK AGAIN. The bytes that conepalhui_gates wrote are read by conepalhui_read_gates as the gate list of the link, where there is room for 2,048 words.
 abbrev pub HostListsComeBack : Type 0
@@ -68,15 +66,15 @@ pub record GateResultsAreThese : Type 0 where
 
 -- The answers at the paper's numbers, and the refusals' numbers. A number that a word holds is told as it is, and each larger one as the largest word.
 pub record GatesOfThePaper : Type 0 where
-  pub listed : (n : ℕ) → gates_answered (written.Bytes n) ≡ answered 0 n
-  pub not_listed : (k p : ℕ) → gates_answered (written.Refused k p) ≡ answered (100 + k) p
-  pub taken : (n : ℕ) → n ≤ 4294967295 → read_gates_answered (read.Words n) ≡ answered 0 n
-  pub not_taken : (k p : ℕ) → p ≤ 4294967295 → read_gates_answered (read.Refused k p) ≡ answered (100 + k) p
+  pub listed : (n : ℕ) → gates_answered (Ok n) ≡ answered 0 n
+  pub not_listed : (k : Cause) (p : ℕ) → gates_answered (refused k p) ≡ answered (100 + number_of k) p
+  pub taken : (n : ℕ) → n ≤ 4294967295 → read_gates_answered (Ok n) ≡ answered 0 n
+  pub not_taken : (k : Cause) (p : ℕ) → p ≤ 4294967295 → read_gates_answered (refused k p) ≡ answered (100 + number_of k) p
   pub past_a_word : (n : ℕ) → 4294967296 ≤ n → in_word n ≡ 4294967295
-  pub not_accepted_lem : not_accepted ≡ 19
-  pub long_cycle_is : long_cycle ≡ 21
-  pub too_many : too_many_pairs ≡ 22
-  pub no_link_is : no_link ≡ 23
+  pub not_accepted_lem : number_of cause.NotAccepted ≡ 19
+  pub long_cycle_is : number_of cause.LongCycle ≡ 21
+  pub too_many : number_of cause.TooManyPairs ≡ 22
+  pub no_link_is : number_of cause.NoLink ≡ 23
   pub room : max_list_bytes ≡ 10240
 
 -- At numbers, with the plans of crates/gate_lists/specs/AtNumbers.antt. The file of Plan A with leg 2 at 672: the list of link 0 has 32 bytes, 31 are too few, and 16 words are read

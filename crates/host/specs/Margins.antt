@@ -1,5 +1,8 @@
 -- What the call for C promises that tells the numbers of the rule at a place of the plan of a plan file.
-use Rattle.std.specs.Prelude.{ℕ, List}
+use Rattle.std.specs.Prelude.{ℕ, List, Result, Ok, Err}
+use Rattle.basics.specs.Cause.{number_of, refused}
+use Rattle.basics.specs.declared.Cause.{Cause}
+use Rattle.basics.specs.declared.Refusal.{Refusal}
 use Rattle.rules.specs.Places.{rule_at}
 use Rattle.rules.specs.declared.Rule.{Rule}
 use Rattle.margins.specs.Margins.{Margins}
@@ -9,8 +12,7 @@ use Rattle.margins.specs.declared.Margin.{Margin}
 use Rattle.margins.specs.declared.Margin.TheVariants as margin
 use Rattle.margins.specs.declared.Spare.{Spare}
 use Rattle.margins.specs.declared.Spare.TheVariants as spare
-use Rattle.margins.specs.declared.MarginAnswer.{MarginAnswer}
-use Rattle.margins.specs.declared.MarginAnswer.TheVariants.{At, Refused}
+use Rattle.margins.specs.declared.At.{At}
 use Rattle.host.specs.declared.place_margin.MarginNumbers.{MarginNumbers}
 use Rattle.host.specs.Answers.{refused_result, rule_result}
 use Rattle.host.specs.OfPlans.{OfPlan, InNumbers}
@@ -68,9 +70,9 @@ told_numbers x m s = record {
 }
 
 -- Refused: 100 plus the number, and the position.
-abbrev pub untold_numbers : ℕ → ℕ → MarginNumbers
+abbrev pub untold_numbers : Cause → ℕ → MarginNumbers
 untold_numbers k p = record {
-  result = refused_result k;
+  result = refused_result (number_of k);
   position = p;
   rule = 0;
   asked = 0;
@@ -85,19 +87,19 @@ untold_numbers k p = record {
 }
 
 -- What is told of a place of the rule x.
-abbrev pub margin_numbers : Rule → MarginAnswer → MarginNumbers
-margin_numbers x (At m s) = told_numbers x m s
-margin_numbers x (Refused k p) = untold_numbers k p
+abbrev pub margin_numbers : Rule → Result At Refusal → MarginNumbers
+margin_numbers x (Ok a) = told_numbers x a.margin a.spare
+margin_numbers x (Err e) = untold_numbers e.cause e.at
 
 -- The margin at a place of the plan. The refusals in their order: 12, 13, 2 and 14 of the plan file, then 4 to 7 of its table, then 9.
-abbrev pub PlanMargins : List ℕ → ℕ → ℕ → MarginAnswer → Type 0
-PlanMargins plan leg place = OfPlan MarginAnswer Refused (λ (t : List ℕ). Margins t leg place) plan
+abbrev pub PlanMargins : List ℕ → ℕ → ℕ → Result At Refusal → Type 0
+PlanMargins plan leg place = OfPlan (Result At Refusal) refused (λ (t : List ℕ). Margins t leg place) plan
 
 -- A MARGIN, in numbers.
 abbrev pub HostMargins : List ℕ → ℕ → ℕ → MarginNumbers → Type 0
-HostMargins plan leg place = InNumbers MarginAnswer MarginNumbers (PlanMargins plan leg place) (margin_numbers (rule_at place))
+HostMargins plan leg place = InNumbers (Result At Refusal) MarginNumbers (PlanMargins plan leg place) (margin_numbers (rule_at place))
 
 -- A refusal is small enough to be told.
-abbrev pub SmallMargin : MarginAnswer → Type 0
-SmallMargin (At m s) = Unit {0}
-SmallMargin (Refused k p) = Small k p
+abbrev pub SmallMargin : Result At Refusal → Type 0
+SmallMargin (Ok a) = Unit {0}
+SmallMargin (Err e) = Small e.cause e.at

@@ -1,9 +1,12 @@
 -- What is proved of the call for C that rechecks one leg.
-use Rattle.std.specs.Prelude.{ℕ, ◌+◌, ◌≤◌, ◌≡◌, List, ◌⊎◌}
+use Rattle.std.specs.Prelude.{ℕ, ◌+◌, ◌≤◌, ◌≡◌, List, ◌⊎◌, Ok, Err}
+use Rattle.basics.specs.Cause.{number_of}
+use Rattle.basics.specs.declared.Refusal.{Refusal}
+use Rattle.basics.specs.declared.Cause.{Cause}
 use Rattle.files.specs.Plan.{PlanFault}
 use Rattle.rules.specs.declared.Rule.TheVariants as rule
 use Rattle.recheck.specs.Listed.{place_at}
-use Rattle.recheck.specs.declared.RecheckAnswer.TheVariants.{Violated, NothingViolated, Refused}
+use Rattle.recheck.specs.declared.Rechecked.TheVariants.{Violated, NothingViolated}
 use Rattle.host.specs.declared.late_move.RecheckedAnswer.{RecheckedAnswer}
 use Rattle.host.specs.Answers.{refused_result}
 use Rattle.host.specs.Rechecks.{rechecked, unrechecked, recheck_answered, HostRechecks}
@@ -14,8 +17,8 @@ HostRecheckOneAnswer = (plan : List ℕ) (m : ℕ) (a b : RecheckedAnswer) → H
 
 -- A fault of the plan file comes before all else, and 2, 12, 13 and 14 are told for such a fault alone.
 pub record PlanFaultsBeforeRechecks : Type 0 where
-  pub first : (plan : List ℕ) (m k p : ℕ) (a : RecheckedAnswer) → PlanFault plan k p → HostRechecks plan m a → a ≡ unrechecked k p
-  pub no_other : (plan : List ℕ) (m k p : ℕ) → (k ≡ 2) ⊎ ((12 ≤ k) × (k ≤ 14)) → HostRechecks plan m (unrechecked k p) → PlanFault plan k p
+  pub first : (plan : List ℕ) (m : ℕ) (k : Cause) (p : ℕ) (a : RecheckedAnswer) → PlanFault plan k p → HostRechecks plan m a → a ≡ unrechecked k p
+  pub no_other : (plan : List ℕ) (m : ℕ) (k : Cause) (p : ℕ) → (number_of k ≡ 2) ⊎ ((12 ≤ number_of k) × (number_of k ≤ 14)) → HostRechecks plan m (unrechecked k p) → PlanFault plan k p
 
 -- The refusals of a recheck: 2, 4 to 7, 10, and 12 to 14.
 abbrev pub RecheckRefusal : ℕ → Type 0
@@ -38,9 +41,9 @@ pub record RecheckResultsAreThese : Type 0 where
 -- The answers at the paper's numbers: 2 to 5 violated (window, hop, deadline, overlap), with how many places were looked at, and the place; 0 nothing violated, with how many; 100 plus the
 -- refusal number, with the position.
 pub record RechecksOfThePaper : Type 0 where
-  pub window : (a p n : ℕ) → recheck_answered (Violated (place_at a p) rule.Window n) ≡ rechecked 2 n a p
-  pub hop : (a p n : ℕ) → recheck_answered (Violated (place_at a p) rule.Hop n) ≡ rechecked 3 n a p
-  pub deadline : (a p n : ℕ) → recheck_answered (Violated (place_at a p) rule.Deadline n) ≡ rechecked 4 n a p
-  pub overlap : (a p n : ℕ) → recheck_answered (Violated (place_at a p) rule.Overlap n) ≡ rechecked 5 n a p
-  pub nothing_violated : (n : ℕ) → recheck_answered (NothingViolated n) ≡ rechecked 0 n 0 0
-  pub refused : (k p : ℕ) → recheck_answered (Refused k p) ≡ rechecked (100 + k) p 0 0
+  pub window : (a p n : ℕ) → recheck_answered (Ok (Violated (place_at a p) rule.Window n)) ≡ rechecked 2 n a p
+  pub hop : (a p n : ℕ) → recheck_answered (Ok (Violated (place_at a p) rule.Hop n)) ≡ rechecked 3 n a p
+  pub deadline : (a p n : ℕ) → recheck_answered (Ok (Violated (place_at a p) rule.Deadline n)) ≡ rechecked 4 n a p
+  pub overlap : (a p n : ℕ) → recheck_answered (Ok (Violated (place_at a p) rule.Overlap n)) ≡ rechecked 5 n a p
+  pub nothing_violated : (n : ℕ) → recheck_answered (Ok (NothingViolated n)) ≡ rechecked 0 n 0 0
+  pub refused : (e : Refusal) → recheck_answered (Err e) ≡ rechecked (100 + number_of e.cause) e.at 0 0

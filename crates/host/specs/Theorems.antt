@@ -1,13 +1,16 @@
 -- What is proved of the calls for C.
-use Rattle.std.specs.Prelude.{ℕ, ◌+◌, ◌-◌, ◌≤◌, ◌≡◌, List, ◌⊎◌, length}
-use Rattle.numbers.specs.Number.{no_room}
+use Rattle.std.specs.Prelude.{ℕ, ◌+◌, ◌-◌, ◌≤◌, ◌≡◌, List, ◌⊎◌, length, Ok, Err}
+use Rattle.basics.specs.Cause.{number_of}
+use Rattle.basics.specs.declared.Cause.{Cause}
+use Rattle.basics.specs.declared.Cause.TheVariants as cause
+use Rattle.basics.specs.declared.Refusal.{Refusal}
 use Rattle.table.specs.declared.Move.{Move}
 use Rattle.shape.specs.OfTables.{RefusalNumber, max_refusal}
 use Rattle.files.specs.Plan.{PlanFault}
 use Rattle.files.specs.Theorems.{max_file_bytes, max_cursor_bytes}
 use Rattle.files.specs.declared.Cursor.{Cursor}
 use Rattle.rules.specs.declared.Rule.TheVariants as rule
-use Rattle.checker.specs.declared.Grant.TheVariants as grant
+use Rattle.files.specs.declared.Returned.{Returned}
 use Rattle.checker.specs.declared.SliceAnswer.TheVariants as answer
 use Rattle.host.specs.declared.Answer.{Answer}
 use Rattle.host.specs.Answers.{refused_result, answered, refusal, slice_answered, start_answered, result_alone}
@@ -53,12 +56,12 @@ pub record HostRefusalsWriteNothing : Type 0 where
 -- Which file a refusal 12, 13 or 14 lies in: in every call a fault of the plan file comes before all else, and a start gives 12, 13 and 14 for such a fault alone.
 -- So it lies in the plan file exactly when a start gives it too.
 pub record PlanFaultsComeFirst : Type 0 where
-  pub start : (plan out : List ℕ) (k p : ℕ) (a : Answer) (out' : List ℕ) → PlanFault plan k p → HostStarts plan out a out' → a ≡ refusal k p
-  pub slice : (plan cursor : List ℕ) (budget : ℕ) (out : List ℕ) (k p : ℕ) (a : Answer) (out' : List ℕ)
+  pub start : (plan out : List ℕ) (k : Cause) (p : ℕ) (a : Answer) (out' : List ℕ) → PlanFault plan k p → HostStarts plan out a out' → a ≡ refusal k p
+  pub slice : (plan cursor : List ℕ) (budget : ℕ) (out : List ℕ) (k : Cause) (p : ℕ) (a : Answer) (out' : List ℕ)
       → PlanFault plan k p → HostSlices plan cursor budget out a out' → a ≡ refusal k p
-  pub move_leg : (plan cursor : List ℕ) (mv : Move) (m : Lent) (k p : ℕ) (a : Answer) (m' : Lent)
+  pub move_leg : (plan cursor : List ℕ) (mv : Move) (m : Lent) (k : Cause) (p : ℕ) (a : Answer) (m' : Lent)
       → PlanFault plan k p → HostMoves plan cursor mv m a m' → a ≡ refusal k p
-  pub no_other : (plan out : List ℕ) (k p : ℕ) (out' : List ℕ) → 12 ≤ k → k ≤ 14 → HostStarts plan out (refusal k p) out' → PlanFault plan k p
+  pub no_other : (plan out : List ℕ) (k : Cause) (p : ℕ) (out' : List ℕ) → 12 ≤ number_of k → number_of k ≤ 14 → HostStarts plan out (refusal k p) out' → PlanFault plan k p
 
 -- A move makes a plan file longer by 5 bytes at the most: 4 for the offset and 1 for the revision; a period word has one byte. So whoever lends that much more than the plan has for the new
 -- file, and 15 bytes for the cursor, is not refused with 15.
@@ -69,20 +72,20 @@ abbrev pub MoveRoomIsEnough : Type 0
 MoveRoomIsEnough =
     (plan cursor : List ℕ) (mv : Move) (m : Lent) (a : Answer) (m' : Lent)
     → max_cursor_bytes ≤ length m.out → length plan + move_bytes ≤ length m.file
-    → HostMoves plan cursor mv m a m' → a.result ≡ refused_result no_room → ⊥
+    → HostMoves plan cursor mv m a m' → a.result ≡ refused_result (number_of cause.NoRoom) → ⊥
 
 -- Nor is whoever lends as many bytes for the new file as the longest plan file may have, and 15 for the cursor, whatever the plan.
 abbrev pub FullRoomIsEnough : Type 0
 FullRoomIsEnough =
     (plan cursor : List ℕ) (mv : Move) (m : Lent) (a : Answer) (m' : Lent)
     → max_cursor_bytes ≤ length m.out → max_file_bytes ≤ length m.file
-    → HostMoves plan cursor mv m a m' → a.result ≡ refused_result no_room → ⊥
+    → HostMoves plan cursor mv m a m' → a.result ≡ refused_result (number_of cause.NoRoom) → ⊥
 
 -- A conversion to as many bytes as the largest plan file has is not refused with 15.
 abbrev pub ConvertRoomIsEnough : Type 0
 ConvertRoomIsEnough =
     (old file : List ℕ) (a : Answer) (file' : List ℕ) → max_file_bytes ≤ length file
-    → HostConverts old file a file' → a.result ≡ refused_result no_room → ⊥
+    → HostConverts old file a file' → a.result ≡ refused_result (number_of cause.NoRoom) → ⊥
 
 -- The results of refusals: 102, 104 to 115, and 117. No call gives 101 or 103: they are of tables in memory, and a plan file that is read has the length that its header
 -- says.
@@ -113,8 +116,8 @@ pub record ResultsOfThePaper : Type 0 where
   pub hop : (d : Cursor) (n : ℕ) → slice_answered (answer.Violated d n rule.Hop) ≡ answered 3 n
   pub deadline : (d : Cursor) (n : ℕ) → slice_answered (answer.Violated d n rule.Deadline) ≡ answered 4 n
   pub overlap : (d : Cursor) (n : ℕ) → slice_answered (answer.Violated d n rule.Overlap) ≡ answered 5 n
-  pub refused : (k p : ℕ) (d : Cursor) → slice_answered (answer.Refused k p d) ≡ answered (100 + k) p
-  pub started : (n : ℕ) (d : Cursor) → start_answered n (grant.Granted d) ≡ answered 0 n
-  pub not_started : (n k p : ℕ) (d : Cursor) → start_answered n (grant.Refused k p d) ≡ answered (100 + k) p
+  pub refused : (e : Refusal) (d : Cursor) → slice_answered (answer.Refused e d) ≡ answered (100 + number_of e.cause) e.at
+  pub started : (n : ℕ) (d : Cursor) → start_answered n (Ok d) ≡ answered 0 n
+  pub not_started : (n : ℕ) (r : Returned) → start_answered n (Err r) ≡ answered (100 + number_of r.refusal.cause) r.refusal.at
   pub room : max_cursor_bytes ≡ 15
   pub largest : max_refusal ≡ 17

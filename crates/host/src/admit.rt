@@ -6,14 +6,13 @@ ghost use Rattle.host.specs.Steps.{OwnRoom, SmallUnadmitted};
 
 use crate::answers::REFUSED;
 use crate::{ANY_WORD, tables};
-use admission::Admission;
+use basics::Refusal;
 use enlarge::Wanted;
-use files::PlanRead;
 
 // What C gets of an admission, laid out as the struct in include/conepalhui.h: a result (0 is admitted, 1 is none yet), a number beside it, and an offset. Admitted, these are
 // the size of the new plan file and the first offset of the new stream; where none fits yet, 0 and where to look on; refused, the position and 0.
 #[repr(C)]
-#[derive(Clone, Copy)]
+#[derive(Clone, Copy, Debug, PartialEq, Eq)]
 pub struct AdmissionAnswer {
     pub result: u32,
     pub beside: u32,
@@ -27,13 +26,13 @@ const NUMBER_BYTES: usize = 5;
 const NONE_YET: u32 = 1;
 
 // A refusal, with its position.
-fn unadmitted_for(number: u32, at: usize) -> AdmissionAnswer
-    requires { SmallUnadmitted number at }
-    ensures { result ≡ unadmitted number at }
+fn unadmitted_for(r: Refusal) -> AdmissionAnswer
+    requires { SmallUnadmitted r.cause r.at }
+    ensures { result ≡ unadmitted r.cause r.at }
 {
     AdmissionAnswer {
-        result: REFUSED + number,
-        beside: at as u32,
+        result: REFUSED + u32::from(r.cause),
+        beside: r.at as u32,
         offset: 0,
     }
 }
@@ -42,11 +41,7 @@ fn unadmitted_for(number: u32, at: usize) -> AdmissionAnswer
 fn own_room(bytes: usize) -> usize
     ensures { OwnRoom bytes result }
 {
-    let words = bytes / NUMBER_BYTES;
-    if table::MAX_TABLE_WORDS < words {
-        return table::MAX_TABLE_WORDS;
-    }
-    words
+    table::MAX_TABLE_WORDS.min(bytes / NUMBER_BYTES)
 }
 
 // Admits one stream to a table, in so many words of the call's own, and writes the plan file of the enlarged table. For it there is room then.
@@ -63,20 +58,19 @@ fn admit_table(
     requires own_room { OwnRoom (length file.old) (length own.old) }
     ensures { AdmitsTable t.now w route.now from until file.old result file.new }
 {
-    let given = admission::admit_between(t, w, route, from, until, own);
-    match given {
-        Admission::Refused(number, at) => unadmitted_for(number, at),
-        Admission::NoneYet => AdmissionAnswer {
+    match admission::admit_between(t, w, route, from, until, own) {
+        Err(refusal) => unadmitted_for(refusal),
+        Ok(None) => AdmissionAnswer {
             result: NONE_YET,
             beside: 0,
             offset: until,
         },
-        Admission::Admitted(x, n) => {
-            let written = tables::write_file(&own[..n], file);
+        Ok(Some(admitted)) => {
+            let written = tables::write_file(&own[..admitted.words], file);
             AdmissionAnswer {
                 result: written.result,
                 beside: written.beside,
-                offset: x,
+                offset: admitted.offset,
             }
         }
     }
@@ -97,10 +91,9 @@ fn admit_plan(
     requires max_table_words_in_bounds_2 { max_table_words ≤ length own.old }
     ensures { HostAdmitsBetween plan.now w route.now from until file.old result file.new }
 {
-    let read = files::one_pass::take_plan(plan, words);
-    match read {
-        PlanRead::Refused(number, at) => unadmitted_for(number, at),
-        PlanRead::Words(n) => {
+    match files::one_pass::take_plan(plan, words) {
+        Err(refusal) => unadmitted_for(refusal),
+        Ok(n) => {
             let room = own_room(file.len());
             admit_table(&words[..n], w, route, from, until, &mut own[..room], file)
         }

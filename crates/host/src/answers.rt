@@ -5,6 +5,7 @@ ghost use Rattle.host.specs.Answers.{rule_result, refusal, with_cursor};
 ghost use Rattle.host.specs.Steps.{Small};
 
 use crate::Answer;
+use basics::Refusal;
 use files::Cursor;
 use rules::Rule;
 
@@ -12,13 +13,13 @@ use rules::Rule;
 pub(crate) const REFUSED: u32 = 100;
 
 // A refusal, with its position.
-pub(crate) fn refused(number: u32, at: usize) -> Answer
-    requires { Small number at }
-    ensures { result ≡ refusal number at }
+pub(crate) fn refused(r: Refusal) -> Answer
+    requires { Small r.cause r.at }
+    ensures { result ≡ refusal r.cause r.at }
 {
     Answer {
-        result: REFUSED + number,
-        beside: at as u32,
+        result: REFUSED + u32::from(r.cause),
+        beside: r.at as u32,
     }
 }
 
@@ -38,5 +39,5 @@ pub(crate) fn put_back(cursor: Cursor, out: &mut [u8])
     requires { max_cursor_bytes ≤ length out.old }
     ensures { out.new ≡ with_cursor out.old cursor }
 {
-    files::write_cursor(cursor, out);
+    let _ = files::write_cursor(cursor, out);
 }

@@ -5,13 +5,13 @@ ghost use Rattle.host.specs.Rechecks.{unrechecked, RechecksTable, HostRechecks};
 ghost use Rattle.host.specs.Steps.{Small};
 
 use crate::{ANY_WORD, answers};
-use files::PlanRead;
-use recheck::RecheckAnswer;
+use basics::Refusal;
+use recheck::Rechecked;
 
 // What C gets of a recheck, laid out as the struct in include/conepalhui.h: a result (0 is nothing violated at the places that were looked at), a number beside it, and the violated
 // place. The number is how many places were looked at; refused, the position. Where no place is violated, leg and place are 0.
 #[repr(C)]
-#[derive(Clone, Copy)]
+#[derive(Clone, Copy, Debug, PartialEq, Eq)]
 pub struct RecheckedAnswer {
     pub result: u32,
     pub beside: u32,
@@ -20,13 +20,13 @@ pub struct RecheckedAnswer {
 }
 
 // A refusal, with its position.
-fn unrechecked_for(number: u32, at: usize) -> RecheckedAnswer
-    requires { Small number at }
-    ensures { result ≡ unrechecked number at }
+fn unrechecked_for(r: Refusal) -> RecheckedAnswer
+    requires { Small r.cause r.at }
+    ensures { result ≡ unrechecked r.cause r.at }
 {
     RecheckedAnswer {
-        result: answers::REFUSED + number,
-        beside: at as u32,
+        result: answers::REFUSED + u32::from(r.cause),
+        beside: r.at as u32,
         leg: 0,
         place: 0,
     }
@@ -36,16 +36,15 @@ fn unrechecked_for(number: u32, at: usize) -> RecheckedAnswer
 fn recheck_table(t: &[u32], leg: u32) -> RecheckedAnswer
     ensures { RechecksTable t.now leg result }
 {
-    let told = recheck::recheck(t, leg);
-    match told {
-        RecheckAnswer::Refused(number, at) => unrechecked_for(number, at),
-        RecheckAnswer::Violated(at, rule, looked) => RecheckedAnswer {
+    match recheck::recheck(t, leg) {
+        Err(refusal) => unrechecked_for(refusal),
+        Ok(Rechecked::Violated(at, rule, looked)) => RecheckedAnswer {
             result: answers::rule_result(rule),
             beside: looked,
             leg: at.leg,
             place: at.place,
         },
-        RecheckAnswer::NothingViolated(looked) => RecheckedAnswer {
+        Ok(Rechecked::NothingViolated(looked)) => RecheckedAnswer {
             result: 0,
             beside: looked,
             leg: 0,
@@ -59,10 +58,9 @@ fn recheck_plan(plan: &[u8], leg: u32, words: &mut [u32]) -> RecheckedAnswer
     requires { max_table_words ≤ length words.old }
     ensures { HostRechecks plan.now leg result }
 {
-    let read = files::one_pass::take_plan(plan, words);
-    match read {
-        PlanRead::Refused(number, at) => unrechecked_for(number, at),
-        PlanRead::Words(n) => recheck_table(&words[..n], leg),
+    match files::one_pass::take_plan(plan, words) {
+        Err(refusal) => unrechecked_for(refusal),
+        Ok(n) => recheck_table(&words[..n], leg),
     }
 }
 

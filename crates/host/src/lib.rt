@@ -8,7 +8,8 @@ ghost use Rattle.table.specs.Records.{move_to};
 ghost use Rattle.host.specs.Calls.{lent, HostStarts, HostSlices, HostSliceResult, HostMoves, HostConverts};
 ghost use Rattle.host.specs.Steps.{Opens};
 
-use files::{Cursor, CursorRead, PlanRead};
+use basics::Refusal;
+use files::Cursor;
 use table::Move;
 
 pub mod admit;
@@ -27,45 +28,39 @@ pub(crate) const ANY_WORD: u32 = 1;
 // What C gets, laid out as the struct in include/conepalhui.h: a result (0 is nothing violated after a slice, and granted after a start, a move or a conversion), and a
 // number beside it. Refused, that is the position; after a slice the steps, after a start the number of places, after a move or a conversion the size of the new plan file.
 #[repr(C)]
-#[derive(Clone, Copy)]
+#[derive(Clone, Copy, Debug, PartialEq, Eq)]
 pub struct Answer {
     pub result: u32,
     pub beside: u32,
 }
 
-// A plan file and a saved cursor read: how many words the table has and the cursor, or a refusal's number and position.
-#[derive(Clone, Copy)]
-pub enum Opened {
-    Both(usize, Cursor),
-    Refused(u32, usize),
+/// A plan file and a saved cursor that were read: how many words the table has, and the cursor.
+#[derive(Clone, Copy, Debug, PartialEq, Eq)]
+pub struct Opened {
+    pub words: usize,
+    pub cursor: Cursor,
 }
 
 // Reads a plan file into the call's own words, which have room for any table, and a saved cursor.
-fn open_both(plan: &[u8], cursor: &[u8], words: &mut [u32]) -> Opened
+fn open_both(plan: &[u8], cursor: &[u8], words: &mut [u32]) -> Result<Opened, Refusal>
     requires { max_table_words ≤ length words.old }
     ensures { Opens plan.now cursor.now result words.new }
 {
-    let read = files::one_pass::take_plan(plan, words);
-    match read {
-        PlanRead::Refused(number, at) => Opened::Refused(number, at),
-        PlanRead::Words(n) => {
-            let saved = files::read_cursor(cursor);
-            match saved {
-                CursorRead::Refused(number, at) => Opened::Refused(number, at),
-                CursorRead::Saved(c) => Opened::Both(n, c),
-            }
-        }
-    }
+    let n = files::one_pass::take_plan(plan, words)?;
+    let saved = files::read_cursor(cursor)?;
+    Ok(Opened {
+        words: n,
+        cursor: saved,
+    })
 }
 
 fn start_plan(plan: &[u8], out: &mut [u8], words: &mut [u32]) -> Answer
     requires { max_table_words ≤ length words.old }
     ensures { HostStarts plan.now out.old result out.new }
 {
-    let read = files::one_pass::take_plan(plan, words);
-    match read {
-        PlanRead::Refused(number, at) => answers::refused(number, at),
-        PlanRead::Words(n) => tables::start_table(&words[..n], out),
+    match files::one_pass::take_plan(plan, words) {
+        Err(refusal) => answers::refused(refusal),
+        Ok(n) => tables::start_table(&words[..n], out),
     }
 }
 
@@ -73,10 +68,9 @@ fn slice_plan(plan: &[u8], cursor: &[u8], budget: u32, out: &mut [u8], words: &m
     requires { max_table_words ≤ length words.old }
     ensures { HostSlices plan.now cursor.now budget out.old result out.new }
 {
-    let read = open_both(plan, cursor, words);
-    match read {
-        Opened::Refused(number, at) => answers::refused(number, at),
-        Opened::Both(n, c) => tables::slice_table(&words[..n], c, budget, out),
+    match open_both(plan, cursor, words) {
+        Err(refusal) => answers::refused(refusal),
+        Ok(opened) => tables::slice_table(&words[..opened.words], opened.cursor, budget, out),
     }
 }
 
@@ -91,10 +85,11 @@ fn move_plan(
     requires { max_table_words ≤ length words.old }
     ensures { HostMoves plan.now cursor.now mv (lent file.old out.old) result (lent file.new out.new) }
 {
-    let read = open_both(plan, cursor, words);
-    match read {
-        Opened::Refused(number, at) => answers::refused(number, at),
-        Opened::Both(n, c) => tables::move_table(&mut words[..n], c, mv, file, out),
+    match open_both(plan, cursor, words) {
+        Err(refusal) => answers::refused(refusal),
+        Ok(opened) => {
+            tables::move_table(&mut words[..opened.words], opened.cursor, mv, file, out)
+        }
     }
 }
 
@@ -102,10 +97,9 @@ fn convert_plan(old: &[u8], file: &mut [u8], words: &mut [u32]) -> Answer
     requires { max_table_words ≤ length words.old }
     ensures { HostConverts old.now file.old result file.new }
 {
-    let read = editions::read_first(old, words);
-    match read {
-        PlanRead::Refused(number, at) => answers::refused(number, at),
-        PlanRead::Words(n) => tables::write_file(&words[..n], file),
+    match editions::read_first(old, words) {
+        Err(refusal) => answers::refused(refusal),
+        Ok(n) => tables::write_file(&words[..n], file),
     }
 }
 

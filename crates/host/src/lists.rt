@@ -1,14 +1,11 @@
 // The calls for C that write the gate list of a link as a list file, and that read a list file.
 ghost use Rattle.std.specs.Prelude.{◌≡◌, ◌≤◌, length};
 ghost use Rattle.table.specs.Layout.{max_table_words};
-ghost use Rattle.gate_lists.specs.Lists.{no_link};
 ghost use Rattle.host.specs.Answers.{refusal};
 ghost use Rattle.host.specs.GateLists.{in_word, ListsGates, HostListsGates, HostReadsGates};
 
 use crate::{ANY_WORD, Answer, answers};
-use files::PlanRead;
-use gate_files::ListRead;
-use numbers::Written;
+use basics::Cause;
 
 // The largest word.
 const MAX_WORD: usize = 4294967295;
@@ -24,12 +21,11 @@ fn in_word(n: usize) -> u32
 }
 
 // A refusal, with its position.
-fn unlisted_for(number: u32, at: u32) -> Answer
-    requires { number ≤ no_link }
-    ensures { result ≡ refusal number at }
+fn unlisted_for(cause: Cause, at: u32) -> Answer
+    ensures { result ≡ refusal cause at }
 {
     Answer {
-        result: answers::REFUSED + number,
+        result: answers::REFUSED + u32::from(cause),
         beside: at,
     }
 }
@@ -38,10 +34,9 @@ fn unlisted_for(number: u32, at: u32) -> Answer
 fn list_table(t: &[u32], link: u32, list: &mut [u8]) -> Answer
     ensures { ListsGates t.now link list.old result list.new }
 {
-    let told = gate_lists::write_gate_list(t, link, list);
-    match told {
-        Written::Refused(number, at) => unlisted_for(number, at as u32),
-        Written::Bytes(n) => Answer {
+    match gate_lists::write_gate_list(t, link, list) {
+        Err(r) => unlisted_for(r.cause, r.at as u32),
+        Ok(n) => Answer {
             result: 0,
             beside: n as u32,
         },
@@ -53,10 +48,9 @@ fn list_plan(plan: &[u8], link: u32, list: &mut [u8], words: &mut [u32]) -> Answ
     requires { max_table_words ≤ length words.old }
     ensures { HostListsGates plan.now link list.old result list.new }
 {
-    let read = files::one_pass::take_plan(plan, words);
-    match read {
-        PlanRead::Refused(number, at) => answers::refused(number, at),
-        PlanRead::Words(n) => list_table(&words[..n], link, list),
+    match files::one_pass::take_plan(plan, words) {
+        Err(refusal) => answers::refused(refusal),
+        Ok(n) => list_table(&words[..n], link, list),
     }
 }
 
@@ -72,10 +66,9 @@ pub fn conepalhui_gates_3(plan: &[u8], link: u32, list: &mut [u8]) -> Answer
 pub fn conepalhui_read_gates(list: &[u8], words: &mut [u32]) -> Answer
     ensures { HostReadsGates list.now words.old result words.new }
 {
-    let read = gate_files::read_list(list, words);
-    match read {
-        ListRead::Refused(number, at) => unlisted_for(number, in_word(at)),
-        ListRead::Words(n) => Answer {
+    match gate_files::read_list(list, words) {
+        Err(r) => unlisted_for(r.cause, in_word(r.at)),
+        Ok(n) => Answer {
             result: 0,
             beside: in_word(n),
         },

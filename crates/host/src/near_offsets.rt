@@ -4,13 +4,13 @@ ghost use Rattle.table.specs.Layout.{max_table_words};
 ghost use Rattle.host.specs.NearOffsets.{there_is, offset_in, offset_numbers, nearest_numbers, PlanNears, HostNears, SmallNearest};
 
 use crate::{ANY_WORD, answers};
-use files::PlanRead;
-use margins::{Nearest, NearestAnswer, Offset};
+use basics::Refusal;
+use margins::Nearest;
 
 // What C gets of the nearest offsets, laid out as the struct in include/conepalhui.h: a result (0), refused the position; whether there is a lower offset (1, or 0) and which,
 // and whether there is a higher one and which. What is not told is 0.
 #[repr(C)]
-#[derive(Clone, Copy)]
+#[derive(Clone, Copy, Debug, PartialEq, Eq)]
 pub struct NearestNumbers {
     pub result: u32,
     pub position: u32,
@@ -20,50 +20,45 @@ pub struct NearestNumbers {
     pub above: u32,
 }
 
-fn there_is(o: Offset) -> u32
+fn there_is(o: Option<u32>) -> u32
     ensures { result ≡ there_is o }
 {
     match o {
-        Offset::At(x) => 1,
-        Offset::None => 0,
+        Some(_) => 1,
+        None => 0,
     }
 }
 
-fn offset_in(o: Offset) -> u32
+fn offset_in(o: Option<u32>) -> u32
     ensures { result ≡ offset_in o }
 {
-    match o {
-        Offset::At(x) => x,
-        Offset::None => 0,
-    }
+    o.unwrap_or(0)
 }
 
 // Two offsets, in numbers.
 fn offsets_in(n: Nearest) -> NearestNumbers
     ensures { result ≡ offset_numbers n }
 {
-    let below = n.below;
-    let above = n.above;
     NearestNumbers {
         result: 0,
         position: 0,
-        lower: there_is(below),
-        below: offset_in(below),
-        higher: there_is(above),
-        above: offset_in(above),
+        lower: there_is(n.below),
+        below: offset_in(n.below),
+        higher: there_is(n.above),
+        above: offset_in(n.above),
     }
 }
 
 // What is told, in numbers.
-fn in_numbers(told: NearestAnswer) -> NearestNumbers
+fn in_numbers(told: Result<Nearest, Refusal>) -> NearestNumbers
     requires { SmallNearest told }
     ensures { result ≡ nearest_numbers told }
 {
     match told {
-        NearestAnswer::At(n) => offsets_in(n),
-        NearestAnswer::Refused(number, at) => NearestNumbers {
-            result: answers::REFUSED + number,
-            position: at as u32,
+        Ok(n) => offsets_in(n),
+        Err(r) => NearestNumbers {
+            result: answers::REFUSED + u32::from(r.cause),
+            position: r.at as u32,
             lower: 0,
             below: 0,
             higher: 0,
@@ -73,15 +68,12 @@ fn in_numbers(told: NearestAnswer) -> NearestNumbers
 }
 
 // The nearest offsets at a place of a plan file, which is read into words that have room for any table.
-fn near_in_plan(plan: &[u8], leg: u32, place: u32, words: &mut [u32]) -> NearestAnswer
+fn near_in_plan(plan: &[u8], leg: u32, place: u32, words: &mut [u32]) -> Result<Nearest, Refusal>
     requires { max_table_words ≤ length words.old }
     ensures { PlanNears plan.now leg place result }
 {
-    let read = files::one_pass::take_plan(plan, words);
-    match read {
-        PlanRead::Refused(number, at) => NearestAnswer::Refused(number, at),
-        PlanRead::Words(n) => margins::nearest_at(&words[..n], leg, place),
-    }
+    let n = files::one_pass::take_plan(plan, words)?;
+    margins::nearest_at(&words[..n], leg, place)
 }
 
 // Tells the nearest offsets of a leg with which a place of it holds. Its name ends in the edition of the rules; in the header it is conepalhui_nearest.

@@ -5,14 +5,14 @@ ghost use Rattle.rules.specs.Places.{rule_at};
 ghost use Rattle.host.specs.Margins.{asked_in, sides_in, turns_in, left_in, lacks_in, place_result, told_numbers, margin_numbers, PlanMargins, HostMargins, SmallMargin};
 
 use crate::{ANY_WORD, answers};
-use files::PlanRead;
-use margins::{Margin, MarginAnswer, Sides, Spare, Turns};
+use basics::Refusal;
+use margins::{At, Margin, Sides, Spare, Turns};
 use rules::Rule;
 
 // What C gets of a margin, laid out as the struct in include/conepalhui.h: a result (0 where the place holds, 2 to 5 where it does not), refused the position; the rule of the place, 2 to 5,
 // and whether it asks anything there (1, or 0); and times in nanoseconds: how much is left or lacking, and the numbers of the rule. What is not told is 0.
 #[repr(C)]
-#[derive(Clone, Copy)]
+#[derive(Clone, Copy, Debug, PartialEq, Eq)]
 pub struct MarginNumbers {
     pub result: u32,
     pub position: u32,
@@ -50,8 +50,8 @@ fn asked_in(m: Margin) -> u32
 {
     match m {
         Margin::Free => 0,
-        Margin::Sides(s) => 1,
-        Margin::Turns(s) => 1,
+        Margin::Sides(_) => 1,
+        Margin::Turns(_) => 1,
     }
 }
 
@@ -79,7 +79,7 @@ fn sides_in(m: Margin) -> Sides
     match m {
         Margin::Free => no_sides(),
         Margin::Sides(s) => s,
-        Margin::Turns(s) => no_sides(),
+        Margin::Turns(_) => no_sides(),
     }
 }
 
@@ -88,7 +88,7 @@ fn turns_in(m: Margin) -> Turns
 {
     match m {
         Margin::Free => no_turns(),
-        Margin::Sides(s) => no_turns(),
+        Margin::Sides(_) => no_turns(),
         Margin::Turns(s) => s,
     }
 }
@@ -99,7 +99,7 @@ fn left_in(s: Spare) -> u64
     match s {
         Spare::Free => 0,
         Spare::Left(n) => n,
-        Spare::Lacks(n) => 0,
+        Spare::Lacks(_) => 0,
     }
 }
 
@@ -108,7 +108,7 @@ fn lacks_in(s: Spare) -> u64
 {
     match s {
         Spare::Free => 0,
-        Spare::Left(n) => 0,
+        Spare::Left(_) => 0,
         Spare::Lacks(n) => n,
     }
 }
@@ -119,8 +119,8 @@ fn place_result(rule: Rule, s: Spare) -> u32
 {
     match s {
         Spare::Free => 0,
-        Spare::Left(n) => 0,
-        Spare::Lacks(n) => answers::rule_result(rule),
+        Spare::Left(_) => 0,
+        Spare::Lacks(_) => answers::rule_result(rule),
     }
 }
 
@@ -147,15 +147,15 @@ fn told_numbers(rule: Rule, m: Margin, s: Spare) -> MarginNumbers
 }
 
 // What is told of a place of this rule, in numbers.
-fn in_numbers(rule: Rule, told: MarginAnswer) -> MarginNumbers
+fn in_numbers(rule: Rule, told: Result<At, Refusal>) -> MarginNumbers
     requires { SmallMargin told }
     ensures { result ≡ margin_numbers rule told }
 {
     match told {
-        MarginAnswer::At(m, s) => told_numbers(rule, m, s),
-        MarginAnswer::Refused(number, at) => MarginNumbers {
-            result: answers::REFUSED + number,
-            position: at as u32,
+        Ok(at) => told_numbers(rule, at.margin, at.spare),
+        Err(r) => MarginNumbers {
+            result: answers::REFUSED + u32::from(r.cause),
+            position: r.at as u32,
             rule: 0,
             asked: 0,
             left: 0,
@@ -171,15 +171,12 @@ fn in_numbers(rule: Rule, told: MarginAnswer) -> MarginNumbers
 }
 
 // The margin at a place of a plan file, which is read into words that have room for any table.
-fn margin_in_plan(plan: &[u8], leg: u32, place: u32, words: &mut [u32]) -> MarginAnswer
+fn margin_in_plan(plan: &[u8], leg: u32, place: u32, words: &mut [u32]) -> Result<At, Refusal>
     requires { max_table_words ≤ length words.old }
     ensures { PlanMargins plan.now leg place result }
 {
-    let read = files::one_pass::take_plan(plan, words);
-    match read {
-        PlanRead::Refused(number, at) => MarginAnswer::Refused(number, at),
-        PlanRead::Words(n) => margins::margin_at(&words[..n], leg, place),
-    }
+    let n = files::one_pass::take_plan(plan, words)?;
+    margins::margin_at(&words[..n], leg, place)
 }
 
 // Tells the numbers of the rule at a place of a plan file. Its name ends in the edition of the rules; in the header it is conepalhui_margin.

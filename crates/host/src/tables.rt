@@ -5,9 +5,9 @@ ghost use Rattle.files.specs.Theorems.{max_cursor_bytes};
 ghost use Rattle.host.specs.Calls.{lent, WritesBoth, WritesFile, StartsTable, SlicesTable, MovesTable};
 
 use crate::{Answer, answers};
-use checker::{Grant, SliceAnswer};
+use basics::Cause;
+use checker::SliceAnswer;
 use files::Cursor;
-use numbers::Written;
 use table::Move;
 
 // How many bytes the caller has to lend for the cursor: any cursor fits.
@@ -17,16 +17,15 @@ pub(crate) fn start_table(t: &[u32], out: &mut [u8]) -> Answer
     ensures { StartsTable t.now out.old result out.new }
 {
     if out.len() < CURSOR_ROOM {
-        return answers::refused(numbers::NO_ROOM, 0);
+        return answers::refused(Cause::NoRoom.at(0));
     }
-    let told = checker::start(t);
-    match told {
-        Grant::Refused(number, at, none) => answers::refused(number, at),
-        Grant::Granted(first) => {
+    match checker::start(t) {
+        Err(returned) => answers::refused(returned.refusal),
+        Ok(first) => {
             answers::put_back(first, out);
             Answer {
                 result: 0,
-                beside: places::place_count(table::wide(t[table::LEGS_AT])) as u32,
+                beside: places::place_count(t[table::LEGS_AT] as usize) as u32,
             }
         }
     }
@@ -36,11 +35,10 @@ pub(crate) fn slice_table(t: &[u32], cursor: Cursor, budget: u32, out: &mut [u8]
     ensures { SlicesTable t.now cursor budget out.old result out.new }
 {
     if out.len() < CURSOR_ROOM {
-        return answers::refused(numbers::NO_ROOM, 0);
+        return answers::refused(Cause::NoRoom.at(0));
     }
-    let told = checker::slice(t, cursor, budget);
-    match told {
-        SliceAnswer::Refused(number, at, given) => answers::refused(number, at),
+    match checker::slice(t, cursor, budget) {
+        SliceAnswer::Refused(refusal, _) => answers::refused(refusal),
         SliceAnswer::Violated(at, steps, rule) => {
             answers::put_back(at, out);
             Answer {
@@ -71,10 +69,9 @@ fn write_both(t: &[u32], cursor: Cursor, file: &mut [u8], out: &mut [u8]) -> Ans
     requires max_cursor_bytes_in_bounds { max_cursor_bytes ≤ length out.old }
     ensures { WritesBoth t.now cursor (lent file.old out.old) result (lent file.new out.new) }
 {
-    let written = files::write_plan(t, file);
-    match written {
-        Written::Refused(number, at) => answers::refused(number, at),
-        Written::Bytes(n) => {
+    match files::write_plan(t, file) {
+        Err(refusal) => answers::refused(refusal),
+        Ok(n) => {
             answers::put_back(cursor, out);
             Answer {
                 result: 0,
@@ -95,12 +92,11 @@ pub(crate) fn move_table(
     ensures { MovesTable t.old cursor mv (lent file.old out.old) result (lent file.new out.new) }
 {
     if out.len() < CURSOR_ROOM {
-        return answers::refused(numbers::NO_ROOM, 0);
+        return answers::refused(Cause::NoRoom.at(0));
     }
-    let told = checker::move_leg(t, cursor, mv);
-    match told {
-        Grant::Refused(number, at, given) => answers::refused(number, at),
-        Grant::Granted(next) => write_both(t, next, file, out),
+    match checker::move_leg(t, cursor, mv) {
+        Err(returned) => answers::refused(returned.refusal),
+        Ok(next) => write_both(t, next, file, out),
     }
 }
 
@@ -109,10 +105,9 @@ pub(crate) fn write_file(t: &[u32], file: &mut [u8]) -> Answer
     requires { Sized t.now }
     ensures { WritesFile t.now file.old result file.new }
 {
-    let written = files::write_plan(t, file);
-    match written {
-        Written::Refused(number, at) => answers::refused(number, at),
-        Written::Bytes(n) => Answer {
+    match files::write_plan(t, file) {
+        Err(refusal) => answers::refused(refusal),
+        Ok(n) => Answer {
             result: 0,
             beside: n as u32,
         },

@@ -4,24 +4,24 @@ use Rattle.host.proofs.convert_plan.Goals as goal
 
 pub refused-requires : goal.refused-requires
 refused-requires c =
-    first_small _ _ _ c.in-Refused.is c.requires c.read_first-read.ensures
+    first_small _ _ _ c.in-Err.is c.requires c.read_first.ensures
 
 pub slice_bounds-write_file-end : goal.slice_bounds-write_file-end
 slice_bounds-write_file-end c =
-    (first_front _ _ _ c.in-Words.is c.read_first-read.ensures).inside
+    (first_front _ _ _ c.in-Ok.is c.read_first.ensures).inside
 
-pub slice_bounds-write_file-end-in-Words : goal.slice_bounds-write_file-end-in-Words
-slice_bounds-write_file-end-in-Words c =
-    converted_length (first_front _ _ _ c.in-Words.is c.read_first-read.ensures)
+pub slice_bounds-write_file-end-in-Ok : goal.slice_bounds-write_file-end-in-Ok
+slice_bounds-write_file-end-in-Ok c =
+    converted_length (first_front _ _ _ c.in-Ok.is c.read_first.ensures)
 
 pub write_file-requires : goal.write_file-requires
 write_file-requires c =
-    (first_front _ _ _ c.in-Words.is c.read_first-read.ensures).sized
+    (first_front _ _ _ c.in-Ok.is c.read_first.ensures).sized
 
-pub returns-in-Refused : goal.returns-in-Refused
-returns-in-Refused c =
-    convert_refused _ _ _ c.in-Refused.is c.requires c.read_first-read.ensures c.refused.ensures
+pub returns-in-Err : goal.returns-in-Err
+returns-in-Err c =
+    convert_refused _ _ _ c.in-Err.is c.requires c.read_first.ensures c.refused.ensures
 
-pub returns-in-Words : goal.returns-in-Words
-returns-in-Words c =
-    convert_on _ _ _ c.in-Words.is c.read_first-read.ensures c.write_file.ensures
+pub returns-in-Ok : goal.returns-in-Ok
+returns-in-Ok c =
+    convert_on _ _ _ c.in-Ok.is c.read_first.ensures c.write_file.ensures

@@ -1,17 +1,10 @@
 -- `host::open_both` meets its contract: a fault of the plan comes before one of the cursor. Assumes nothing.
-use Rattle.std.proofs.Common.{inl, inr}
-use Rattle.host.proofs.Steps.{read_front, read_fault, cursor_unread, cursor_saved}
+use Rattle.std.proofs.Common.{inr}
+use Rattle.std.proofs.lemmas.Result.{err_from_is_err_and}
 use Rattle.host.proofs.open_both.Goals as goal
 
-pub returns-in-Refused : goal.returns-in-Refused
-returns-in-Refused c =
-    inl (read_fault _ _ c.in-Refused.is c.take_plan-read.ensures)
-
-pub returns-in-Refused-saved : goal.returns-in-Refused-saved
-returns-in-Refused-saved c =
-    let front = read_front _ _ c.in-Words.is c.take_plan-read.ensures in
-    inr (front.table, front.file, cursor_unread c.in-Refused-saved.is c.read_cursor-saved.ensures)
-
-pub returns-in-Saved : goal.returns-in-Saved
-returns-in-Saved c =
-    (read_front _ _ c.in-Words.is c.take_plan-read.ensures, cursor_saved c.in-Saved.is c.read_cursor-saved.ensures)
+pub returns-in_err-saved : goal.returns-in_err-saved
+returns-in_err-saved c =
+    let p = err_from_is_err_and c.from_residual-in_err-saved.result c.from_residual-in_err-saved.ensures.1 in
+    let front = c.in_ok-n.ensures in
+    rw (p.1, p.2) (inr (front.table, front.file, c.in_err-saved.ensures))

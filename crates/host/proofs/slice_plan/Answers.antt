@@ -4,20 +4,20 @@ use Rattle.host.proofs.slice_plan.Goals as goal
 
 pub refused-requires : goal.refused-requires
 refused-requires c =
-    opened_small _ _ _ c.in-Refused.is c.open_both-read.ensures
+    opened_small _ _ _ c.in-Err.is c.open_both.ensures
 
 pub slice_bounds-slice_table-end : goal.slice_bounds-slice_table-end
 slice_bounds-slice_table-end c =
-    (both_opened _ _ _ c.in-Both.is c.open_both-read.ensures).0.inside
+    (both_opened _ _ _ c.in-Ok.is c.open_both.ensures).0.inside
 
-pub slice_bounds-slice_table-end-in-Both : goal.slice_bounds-slice_table-end-in-Both
-slice_bounds-slice_table-end-in-Both c =
-    front_length (both_opened _ _ _ c.in-Both.is c.open_both-read.ensures).0
+pub slice_bounds-slice_table-end-in-Ok : goal.slice_bounds-slice_table-end-in-Ok
+slice_bounds-slice_table-end-in-Ok c =
+    front_length (both_opened _ _ _ c.in-Ok.is c.open_both.ensures).0
 
-pub returns-in-Refused : goal.returns-in-Refused
-returns-in-Refused c =
-    slice_unopened _ _ _ c.in-Refused.is c.open_both-read.ensures c.refused.ensures
+pub returns-in-Err : goal.returns-in-Err
+returns-in-Err c =
+    slice_unopened _ _ _ c.in-Err.is c.open_both.ensures c.refused.ensures
 
-pub returns-in-Both : goal.returns-in-Both
-returns-in-Both c =
-    slice_on _ _ _ c.in-Both.is c.open_both-read.ensures c.slice_table.ensures
+pub returns-in-Ok : goal.returns-in-Ok
+returns-in-Ok c =
+    slice_on _ _ _ c.in-Ok.is c.open_both.ensures c.slice_table.ensures

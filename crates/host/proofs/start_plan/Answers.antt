@@ -5,20 +5,20 @@ use Rattle.host.proofs.start_plan.Goals as goal
 
 pub refused-requires : goal.refused-requires
 refused-requires c =
-    unread_small _ _ c.in-Refused.is c.take_plan-read.ensures
+    unread_small _ _ c.in-Err.is c.take_plan.ensures
 
 pub slice_bounds-start_table-end : goal.slice_bounds-start_table-end
 slice_bounds-start_table-end c =
-    (read_front _ _ c.in-Words.is c.take_plan-read.ensures).inside
+    (read_front _ _ c.in-Ok.is c.take_plan.ensures).inside
 
-pub slice_bounds-start_table-end-in-Words : goal.slice_bounds-start_table-end-in-Words
-slice_bounds-start_table-end-in-Words c =
-    front_length (read_front _ _ c.in-Words.is c.take_plan-read.ensures)
+pub slice_bounds-start_table-end-in-Ok : goal.slice_bounds-start_table-end-in-Ok
+slice_bounds-start_table-end-in-Ok c =
+    front_length (read_front _ _ c.in-Ok.is c.take_plan.ensures)
 
-pub returns-in-Refused : goal.returns-in-Refused
-returns-in-Refused c =
-    inl (unread_refused _ _ c.in-Refused.is c.take_plan-read.ensures c.refused.ensures)
+pub returns-in-Err : goal.returns-in-Err
+returns-in-Err c =
+    inl (unread_refused _ _ c.in-Err.is c.take_plan.ensures c.refused.ensures)
 
-pub returns-in-Words : goal.returns-in-Words
-returns-in-Words c =
-    start_on_is _ _ c.in-Words.is c.take_plan-read.ensures c.start_table.ensures
+pub returns-in-Ok : goal.returns-in-Ok
+returns-in-Ok c =
+    start_on_is _ _ c.in-Ok.is c.take_plan.ensures c.start_table.ensures

@@ -5,20 +5,20 @@ use Rattle.host.proofs.late_move.recheck_plan.Goals as goal
 
 pub unrechecked_for-requires : goal.unrechecked_for-requires
 unrechecked_for-requires c =
-    unread_small _ _ c.in-Refused.is c.take_plan-read.ensures
+    unread_small _ _ c.in-Err.is c.take_plan.ensures
 
 pub slice_bounds-recheck_table-end : goal.slice_bounds-recheck_table-end
 slice_bounds-recheck_table-end c =
-    (read_front _ _ c.in-Words.is c.take_plan-read.ensures).inside
+    (read_front _ _ c.in-Ok.is c.take_plan.ensures).inside
 
-pub slice_bounds-recheck_table-end-in-Words : goal.slice_bounds-recheck_table-end-in-Words
-slice_bounds-recheck_table-end-in-Words c =
-    front_length (read_front _ _ c.in-Words.is c.take_plan-read.ensures)
+pub slice_bounds-recheck_table-end-in-Ok : goal.slice_bounds-recheck_table-end-in-Ok
+slice_bounds-recheck_table-end-in-Ok c =
+    front_length (read_front _ _ c.in-Ok.is c.take_plan.ensures)
 
-pub returns-in-Refused : goal.returns-in-Refused
-returns-in-Refused c =
-    recheck_unread _ _ c.in-Refused.is c.take_plan-read.ensures c.unrechecked_for.ensures
+pub returns-in-Err : goal.returns-in-Err
+returns-in-Err c =
+    recheck_unread _ _ c.in-Err.is c.take_plan.ensures c.unrechecked_for.ensures
 
-pub returns-in-Words : goal.returns-in-Words
-returns-in-Words c =
-    recheck_on _ _ c.in-Words.is c.take_plan-read.ensures c.recheck_table.ensures
+pub returns-in-Ok : goal.returns-in-Ok
+returns-in-Ok c =
+    recheck_on _ _ c.in-Ok.is c.take_plan.ensures c.recheck_table.ensures

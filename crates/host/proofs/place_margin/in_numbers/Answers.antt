@@ -1,20 +1,16 @@
 -- `host::place_margin::in_numbers` meets its contract. Assumes nothing.
 use Rattle.std.proofs.Common.{arith}
-use Rattle.host.proofs.Telling.{small_untold, told_margin, untold_margin}
+use Rattle.host.proofs.Telling.{small_untold, untold_margin}
 use Rattle.host.proofs.place_margin.in_numbers.Goals as goal
 
 pub overflow_add-result : goal.overflow_add-result
 overflow_add-result c =
-    omega (arith, (small_untold c.in-Refused.is c.requires).number)
+    omega (arith, (small_untold c.in-Err.is c.requires).number)
 
 pub overflow_cast-result : goal.overflow_cast-result
 overflow_cast-result c =
-    omega (arith, (small_untold c.in-Refused.is c.requires).position)
+    omega (arith, (small_untold c.in-Err.is c.requires).position)
 
-pub returns-in-At : goal.returns-in-At
-returns-in-At c =
-    search (told_margin c.args.rule)
-
-pub returns-in-Refused : goal.returns-in-Refused
-returns-in-Refused c =
+pub returns-in-Err : goal.returns-in-Err
+returns-in-Err c =
     search (untold_margin c.args.rule)

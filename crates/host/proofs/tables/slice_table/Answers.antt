@@ -8,7 +8,7 @@ returns-then-out-lt-CURSOR_ROOM c = inl (search no_room_lem)
 
 pub refused-requires-in-Refused : goal.refused-requires-in-Refused
 refused-requires-in-Refused c =
-    slice_small _ _ _ c.in-Refused.is c.slice-told.ensures
+    slice_small _ _ _ c.in-Refused.is c.slice.ensures
 
 pub returns-in-Refused : goal.returns-in-Refused
 returns-in-Refused c = inr (search, search slice_refused)

@@ -5,14 +5,14 @@ use Rattle.host.proofs.tables.write_both.Goals as goal
 
 pub refused-requires : goal.refused-requires
 refused-requires c =
-    unwritten_small _ _ c.requires.sized c.in-Refused.is c.write_plan-written.ensures
+    unwritten_small _ _ c.requires.sized c.in-Err.is c.write_plan.ensures
 
 pub overflow_cast-result : goal.overflow_cast-result
 overflow_cast-result c =
-    omega (arith, file_small _ _ c.requires.sized c.in-Bytes.is c.write_plan-written.ensures)
+    omega (arith, file_small _ _ c.requires.sized c.in-Ok.is c.write_plan.ensures)
 
-pub returns-in-Refused : goal.returns-in-Refused
-returns-in-Refused c = search none_written
+pub returns-in-Err : goal.returns-in-Err
+returns-in-Err c = search none_written
 
-pub returns-in-Bytes : goal.returns-in-Bytes
-returns-in-Bytes c = search both_written
+pub returns-in-Ok : goal.returns-in-Ok
+returns-in-Ok c = search both_written
