@@ -1,4 +1,7 @@
 -- Admissions in demand 2's words: a table passes a whole check exactly when it is accepted. Assumes nothing.
+use Rattle.std.specs.Prelude.{Ok, Some}
+use Rattle.basics.specs.Cause.{number_of, refused}
+use Rattle.basics.specs.declared.Cause.TheVariants as cause
 use Prim.Native.Nat.{ℕ}
 use mathlib.Core.Path.{◌≡◌, ◌∙◌, sym, ap, subst}
 use mathlib.Core.List.{List}
@@ -13,8 +16,7 @@ use Rattle.enlarge.proofs.Grown.{grown_long}
 use Rattle.enlarge.proofs.NewLegs.{from_length}
 use Rattle.checker.specs.Accepted.{Accepted}
 use Rattle.checker.specs.declared.SliceAnswer.{SliceAnswer}
-use Rattle.admission.specs.Admits.{no_offset, SomeFits, WholeTold, Admits}
-use Rattle.admission.specs.declared.Admission.TheVariants.{Admitted, Refused}
+use Rattle.admission.specs.Admits.{SomeFits, WholeTold, Admits}
 use Rattle.demands.specs.Verdicts.{nothing_violated, Gives}
 use Rattle.demands.specs.DemandTwo.{WholeCheck}
 use Rattle.demands.specs.Admissions.{Passes, AdmissionsPass}
@@ -27,18 +29,18 @@ accepted_passes : (u : List ℕ) → Accepted u → (r : SliceAnswer) → WholeC
 accepted_passes u a r c = (demand_two.checks u r c).accepts a.rules
 
 module _ (t : List ℕ) (w : Wanted) (route out out' : List ℕ) where
-  laid : (x n : ℕ) → Admits t w route out (Admitted x n) out' → take n out' ≡ enlarged t w route x
+  laid : (x n : ℕ) → Admits t w route out (Ok (Some (record { offset = x; words = n }))) out' → take n out' ≡ enlarged t w route x
   laid x n a =
       let long : n ≡ length (enlarged t w route x) = a.answer.count ∙ sym (grown_long t w (length route) (legs_from t w x route) a.answer.may.shape.sized (from_length t w x route)) in
       ap (λ (m : ℕ). take m out') long ∙ ap (take (length (enlarged t w route x))) a.after ∙ overlaid_taken out (enlarged t w route x)
 
   -- 18 is told for one cause alone.
-  none_fits : (p : ℕ) → WholeTold t w route (length out) (Refused no_offset p) → SomeFits t w route 0 → ⊥
-  none_fits p (inl (inl f)) some = omega (arith, (shape_of_table t no_offset p f).small)
-  none_fits p (inl (inr (s, inl f))) some = omega (arith, f.0)
-  none_fits p (inl (inr (s, inr (r, inl f)))) some = omega (arith, f.0)
-  none_fits p (inl (inr (s, inr (r, inr (c, inl f))))) some = omega (arith, f.0)
-  none_fits p (inl (inr (s, inr (r, inr (c, inr (h, f)))))) some = omega (arith, f.0)
+  none_fits : (p : ℕ) → WholeTold t w route (length out) (refused cause.NoOffset p) → SomeFits t w route 0 → ⊥
+  none_fits p (inl (inl f)) some = omega (arith, (shape_of_table t cause.NoOffset p f).small)
+  none_fits p (inl (inr (s, inl f))) some = omega (arith, ap number_of f.0)
+  none_fits p (inl (inr (s, inr (r, inl f)))) some = omega (arith, ap number_of f.0)
+  none_fits p (inl (inr (s, inr (r, inr (c, inl f))))) some = omega (arith, ap number_of f.0)
+  none_fits p (inl (inr (s, inr (r, inr (c, inr (h, f)))))) some = omega (arith, ap number_of f.0)
   none_fits p (inr (m, f)) some = f.2 some
 
 pub admissions_pass : AdmissionsPass

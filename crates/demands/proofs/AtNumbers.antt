@@ -1,4 +1,6 @@
 -- Runs at numbers: which places of the tables hold is known, and so what each slice gives. Assumes nothing.
+use Rattle.std.specs.Prelude.{Ok}
+use Rattle.basics.specs.declared.Cause.TheVariants as cause
 use Prim.Native.Nat.{ℕ, ◌+◌, ◌≤◌, ◌<◌}
 use mathlib.Core.Path.{◌≡◌, refl, sym, ap, subst}
 use mathlib.Core.List.{List, ◌∷◌}
@@ -18,7 +20,6 @@ use Rattle.rules.proofs.AtNumbers.{gap_cases, starred_cases}
 use Rattle.places.specs.Order.{rank, PlaceOrEnd}
 use Rattle.places.proofs.Ranks.{below_none}
 use Rattle.checker.specs.Slices.{Starts, Slices}
-use Rattle.checker.specs.declared.Grant.TheVariants.{Granted}
 use Rattle.checker.specs.declared.SliceAnswer.TheVariants.{Violated, NothingViolated, Paused}
 use Rattle.checker.specs.declared.SliceAnswer.TheVariants as answer
 use Rattle.demands.specs.Verdicts.{nothing_violated}
@@ -53,7 +54,7 @@ to_the_end : Run (slice (at 0 1 2) 7 (NothingViolated (at 0 3 0) 7) ∷ begun) g
 to_the_end = (on_good, inl refl, ends _ _ _ (at_1_2 hold_a) (omega (arith, ranks)))
 
 -- A leg ahead is moved, to 700. A slice from the new cursor goes on, and the old one is refused.
-move_ahead : Run (move_leg (at 0 1 2) (move_to 2 700 0) (Granted (at 1 1 2)) ∷ begun) (moved good (move_to 2 700 0))
+move_ahead : Run (move_leg (at 0 1 2) (move_to 2 700 0) (Ok (at 1 1 2)) ∷ begun) (moved good (move_to 2 700 0))
 move_ahead = (
   good,
   on_good,
@@ -65,9 +66,9 @@ goes_on_ahead : (p b q : ℕ) → p < places_of 1 → b < 3 → q < places_of b 
 goes_on_ahead p b q k l h e le =
     on (at 1 1 p) 1 (Paused (at 1 b q) 1) (moved_2 (offsets_a 0 1176 hold_a) 700) (pause 1 0 1176 700 (rank 2 3) (before_2_3 1 700 (omega arith)) 1 p b q 1 (here 1 0 1176 700 1 p (omega arith) k) l h e le)
 
-stale_cursor_lem : Slices (moved good (move_to 2 700 0)) (at 0 1 2) 5 (answer.Refused 8 0 (at 0 1 2))
+stale_cursor_lem : Slices (moved good (move_to 2 700 0)) (at 0 1 2) 5 (answer.Refused (record { cause = cause.StaleCursor; at = 0 }) (at 0 1 2))
 stale_cursor_lem =
-    on (at 0 1 2) 5 (answer.Refused 8 0 (at 0 1 2)) (moved_2 (offsets_a 0 1176 hold_a) 700)
+    on (at 0 1 2) 5 (answer.Refused (record { cause = cause.StaleCursor; at = 0 }) (at 0 1 2)) (moved_2 (offsets_a 0 1176 hold_a) 700)
     (inr (shape 1 0 1176 700, inl (refl, refl, λ e. absurd (omega (arith, e)))), refl)
 
 pub runs_at_numbers : RunsAtNumbers
@@ -188,7 +189,7 @@ cases_as_runs = record {
     granted 0 0 1176 hold_a 1 2 (at_1_2 hold_a) 1 1200 (omega arith) (omega arith) 1 0 (inr (refl, refl)) (omega arith) (omega arith),
   );
   started_again = (
-    (run_12, subst (λ (t : List ℕ). Starts t (Granted (at 1 0 0))) (sym (moved_2 (offsets_a 0 1176 0) hold_a)) (shape 1 0 1176 hold_a, refl)),
+    (run_12, subst (λ (t : List ℕ). Starts t (Ok (at 1 0 0))) (sym (moved_2 (offsets_a 0 1176 0) hold_a)) (shape 1 0 1176 hold_a, refl)),
     inl refl,
     on (at 1 0 0) _ (NothingViolated (at 1 3 0) _) (moved_2 (offsets_a 0 1176 0) hold_a)
         (end 1 0 1176 hold_a (rank 3 0) (accepted 1) 0 0 _ (here 1 0 1176 hold_a 0 0 (omega arith) (omega arith)) (omega (arith, ranks)) (omega (arith, ranks))),

@@ -1,5 +1,6 @@
 -- Demand 3. A verdict is given from a cursor before which all places hold. And since the last start or granted move each slice that gave none went
 -- on by its whole budget. Assumes nothing.
+use Rattle.std.specs.Prelude.{Ok, Err}
 use Prim.Native.Nat.{ℕ, ◌+◌, ◌≤◌, ◌<◌}
 use mathlib.Core.Path.{◌≡◌, refl, ◌∙◌, sym, ap, subst}
 use mathlib.Core.List.{List, [], ◌∷◌, ◌++◌}
@@ -19,7 +20,6 @@ use Rattle.checker.specs.Cursors.{cursor_rank, CursorRight}
 use Rattle.checker.specs.Slices.{start_cursor, Starts, Slices, Went}
 use Rattle.checker.specs.Moves.{MoveRight}
 use Rattle.checker.proofs.OneAnswer.{right_no_fault, move_no_fault}
-use Rattle.checker.specs.declared.Grant.TheVariants.{Granted, Refused}
 use Rattle.checker.specs.declared.SliceAnswer.{SliceAnswer}
 use Rattle.checker.specs.declared.SliceAnswer.TheVariants as answer
 use Rattle.demands.specs.Verdicts.{Verdict, violated, nothing_violated, Gives, FirstViolated, RightVerdict}
@@ -56,7 +56,7 @@ one_right_verdict t nothing_violated nothing_violated h k = refl
 
 -- The answer of a whole check of a table of which a verdict is right.
 module _ (t : List ℕ) (shape : WellFormedTable t) where
-  begin : Starts t (Granted (start_cursor t))
+  begin : Starts t (Ok (start_cursor t))
   begin = (shape, refl)
 
   -- From the start on to a cursor all places before it were passed.
@@ -121,21 +121,21 @@ runs_are_sound (call ∷ earlier) t c b r v (run, out, s) g =
     verdict_right t c b (answer.Violated d n r) v k s g = right_verdict t c (k.held s.0.revision) b (answer.Violated d n r) v s g
     verdict_right t c b (answer.NothingViolated d n) v k s g = right_verdict t c (k.held s.0.revision) b (answer.NothingViolated d n) v s g
     verdict_right t c b (answer.Paused d n) v k s g = absurd g
-    verdict_right t c b (answer.Refused l p d) v k s g = absurd g
+    verdict_right t c b (answer.Refused refusal d) v k s g = absurd g
 
 -- The cursor of a start or of a granted move is right.
 pub renewed : (last : Call) (earlier : List Call) (t : List ℕ) → Run (last ∷ earlier) t → Renews last → CursorRight t (cursor_of last)
-renewed (start (Granted d)) [] t r n = start_right r
-renewed (start (Refused k p d)) [] t r n = absurd r
+renewed (start (Ok d)) [] t r n = start_right r
+renewed (start (Err d)) [] t r n = absurd r
 renewed (slice c b a) [] t r n = absurd r
 renewed (move_leg c mv g) [] t r n = absurd r
-renewed (start (Granted d)) (call ∷ earlier) t (r, s) n = start_right s
-renewed (start (Refused k p d)) (call ∷ earlier) t (r, s) n = absurd (well_no_fault (run_keeps (call ∷ earlier) t r).shape s.0)
+renewed (start (Ok d)) (call ∷ earlier) t (r, s) n = start_right s
+renewed (start (Err d)) (call ∷ earlier) t (r, s) n = absurd (well_no_fault (run_keeps (call ∷ earlier) t r).shape s.0)
 renewed (slice c b a) (call ∷ earlier) t r n = absurd n
-renewed (move_leg c mv (Granted d)) (call ∷ earlier) t (u, r, out, m) n =
+renewed (move_leg c mv (Ok d)) (call ∷ earlier) t (u, r, out, m) n =
     let e = m.table in
     subst (λ (v : List ℕ). CursorRight v d) (sym e) (right_moved u c d mv (subst (MoveRight u c mv d) e m))
-renewed (move_leg c mv (Refused k p d)) (call ∷ earlier) t r n = absurd n
+renewed (move_leg c mv (Err d)) (call ∷ earlier) t r n = absurd n
 
 -- How far the newest cursor has come where no verdict was given, by calls that were not refused.
 record Progress (t : List ℕ) (made : List Call) (last : Call) : Type 0 where
@@ -160,17 +160,17 @@ step : (call y : Call) (ys : List Call) (t : List ℕ) (part : List Call) (last 
     → Run (call ∷ y ∷ ys) t → Since (without_refused (call ∷ part)) last
     → (Run (y ∷ ys) t → Since (without_refused part) last → HasVerdict part ⊎ Progress t (without_refused part) last)
     → HasVerdict (call ∷ part) ⊎ Progress t (without_refused (call ∷ part)) last
-step (start (Granted d)) y ys t part last r s i = absurd s
-step (start (Refused k p d)) y ys t part last r s i = i r.0 s
+step (start (Ok d)) y ys t part last r s i = absurd s
+step (start (Err d)) y ys t part last r s i = i r.0 s
 step (slice c b (answer.Violated d n q)) y ys t part last r s i = inl (inl (violated d.leg d.place q, refl))
 step (slice c b (answer.NothingViolated d n)) y ys t part last r s i = inl (inl (nothing_violated, refl))
 step (slice c b (answer.Paused d n)) y ys t part last r s i =
     ⊎_elim (λ (v : HasVerdict part). inl (inr v)) (λ (g : Progress t (without_refused part) last). inr (paused_step t (without_refused part) last c b d n s.0 r.2 g))
     (i r.0 s.1)
-step (slice c b (answer.Refused k p d)) y ys t part last r s i =
+step (slice c b (answer.Refused refusal d)) y ys t part last r s i =
     ⊎_elim (λ (v : HasVerdict part). inl (inr v)) (λ (g : Progress t (without_refused part) last). inr g) (i r.0 s)
-step (move_leg c mv (Granted d)) y ys t part last r s i = absurd s
-step (move_leg c mv (Refused l p d)) y ys t part last (u, r, out, m) s i = i (subst (Run (y ∷ ys)) (sym m.2) r) s
+step (move_leg c mv (Ok d)) y ys t part last r s i = absurd s
+step (move_leg c mv (Err d)) y ys t part last (u, r, out, m) s i = i (subst (Run (y ∷ ys)) (sym m.2) r) s
 
 progress : (part : List Call) (last : Call) (earlier : List Call) (t : List ℕ)
     → Run (part ++ last ∷ earlier) t → Renews last → Since (without_refused part) last → HasVerdict part ⊎ Progress t (without_refused part) last
@@ -192,26 +192,26 @@ NewestRight t (latest ∷ before) = CursorRight t (cursor_of latest)
 
 newest_right : (calls : List Call) (t : List ℕ) → Run calls t → NewestRight t (without_refused calls)
 newest_right [] t r = absurd r
-newest_right (start (Granted d) ∷ []) t r = start_right r
-newest_right (start (Refused k p d) ∷ []) t r = absurd r
+newest_right (start (Ok d) ∷ []) t r = start_right r
+newest_right (start (Err d) ∷ []) t r = absurd r
 newest_right (slice c b a ∷ []) t r = absurd r
 newest_right (move_leg c mv g ∷ []) t r = absurd r
-newest_right (start (Granted d) ∷ call ∷ earlier) t (r, s) = start_right s
-newest_right (start (Refused k p d) ∷ call ∷ earlier) t (r, s) = newest_right (call ∷ earlier) t r
+newest_right (start (Ok d) ∷ call ∷ earlier) t (r, s) = start_right s
+newest_right (start (Err d) ∷ call ∷ earlier) t (r, s) = newest_right (call ∷ earlier) t r
 newest_right (slice c b (answer.Violated d n q) ∷ call ∷ earlier) t (r, out, s) =
     record { shape = s.0.shape; revision = s.1.went.revision; stands = inl s.1.place }
 newest_right (slice c b (answer.NothingViolated d n) ∷ call ∷ earlier) t (r, out, s) =
     record { shape = s.0.shape; revision = s.1.went.revision; stands = inr s.1.end }
 newest_right (slice c b (answer.Paused d n) ∷ call ∷ earlier) t (r, out, s) =
     record { shape = s.0.shape; revision = s.1.went.revision; stands = inl s.1.place }
-newest_right (slice c b (answer.Refused k p d) ∷ call ∷ earlier) t (r, out, s) = newest_right (call ∷ earlier) t r
-newest_right (move_leg c mv (Granted d) ∷ call ∷ earlier) t r = renewed (move_leg c mv (Granted d)) (call ∷ earlier) t r tt
-newest_right (move_leg c mv (Refused k p d) ∷ call ∷ earlier) t (u, r, out, m) = newest_right (call ∷ earlier) t (subst (Run (call ∷ earlier)) (sym m.2) r)
+newest_right (slice c b (answer.Refused refusal d) ∷ call ∷ earlier) t (r, out, s) = newest_right (call ∷ earlier) t r
+newest_right (move_leg c mv (Ok d) ∷ call ∷ earlier) t r = renewed (move_leg c mv (Ok d)) (call ∷ earlier) t r tt
+newest_right (move_leg c mv (Err d) ∷ call ∷ earlier) t (u, r, out, m) = newest_right (call ∷ earlier) t (subst (Run (call ∷ earlier)) (sym m.2) r)
 
 pub runs_go_on : RunsGoOn
 runs_go_on = record {
-  slice = λ calls t latest before b k p d r e s. right_no_fault (subst (NewestRight t) e (newest_right calls t r)) s.0;
-  move_leg = λ calls t latest before mv k p d u r e can m. move_no_fault (record { cursor = subst (NewestRight t) e (newest_right calls t r); can = can }) m.0;
+  slice = λ calls t latest before b f d r e s. right_no_fault (subst (NewestRight t) e (newest_right calls t r)) s.0;
+  move_leg = λ calls t latest before mv d u r e can m. move_no_fault (record { cursor = subst (NewestRight t) e (newest_right calls t r); can = can }) m.0;
 }
 
 pub runs_keep_shape : RunsKeepShape

@@ -1,4 +1,5 @@
 -- Demand 2: a whole check begins before every place, and its budget does not end before they do. Assumes nothing.
+use Rattle.std.specs.Prelude.{Ok}
 use Prim.Native.Nat.{ℕ, ◌≤◌}
 use mathlib.Core.Path.{◌≡◌, refl, ◌∙◌, sym, ap}
 use mathlib.Core.List.{List}
@@ -11,7 +12,6 @@ use Rattle.checker.specs.Cursors.{cursor_rank}
 use Rattle.checker.specs.Slices.{start_cursor, Starts, Slices}
 use Rattle.checker.proofs.OneAnswer.{start_one_answer}
 use Rattle.checker.proofs.Whole.{start_rank, few_places, not_paused, not_refused}
-use Rattle.checker.specs.declared.Grant.TheVariants.{Granted}
 use Rattle.checker.specs.declared.SliceAnswer.{SliceAnswer}
 use Rattle.checker.specs.declared.SliceAnswer.TheVariants as answer
 use Rattle.demands.specs.Verdicts.{Verdict, violated, nothing_violated, Gives, RightVerdict}
@@ -20,7 +20,7 @@ use Rattle.demands.specs.DemandTwo.{WholeCheckIsRight, DemandTwo}
 use Rattle.demands.proofs.Verdicts.{rules_keep_places, right_verdict}
 
 -- All places before a start's cursor hold: there are none.
-pub start_held : {t : List ℕ} {c : Cursor} → Starts t (Granted c) → HoldFrom t 0 (cursor_rank c)
+pub start_held : {t : List ℕ} {c : Cursor} → Starts t (Ok c) → HoldFrom t 0 (cursor_rank c)
 start_held s a p i from below = absurd (omega (arith, start_rank s))
 
 -- An answer gives one verdict, and so not both.
@@ -28,7 +28,7 @@ pub gives_same : (r : SliceAnswer) (v w : Verdict) → Gives r v → Gives r w �
 gives_same (answer.Violated d n r) v w g h = g ∙ sym h
 gives_same (answer.NothingViolated d n) v w g h = g ∙ sym h
 gives_same (answer.Paused d n) v w g h = absurd g
-gives_same (answer.Refused k p d) v w g h = absurd g
+gives_same (answer.Refused refusal d) v w g h = absurd g
 
 Violated? : Verdict → ℕ
 Violated? (violated a p r) = 1
@@ -39,11 +39,11 @@ unfolding Violated?
 gives_one a p s r g h = let e : ◌≡◌ {A = ℕ} 1 0 = ap Violated? (gives_same r (violated a p s) nothing_violated g h) in omega arith
 
 -- A whole check gives a verdict.
-whole_verdict : {t : List ℕ} (c : Cursor) (budget : ℕ) (r : SliceAnswer) → Starts t (Granted c) → place_count t ≤ budget → Slices t c budget r → (v : Verdict) × Gives r v
+whole_verdict : {t : List ℕ} (c : Cursor) (budget : ℕ) (r : SliceAnswer) → Starts t (Ok c) → place_count t ≤ budget → Slices t c budget r → (v : Verdict) × Gives r v
 whole_verdict c budget (answer.Violated d n r) s e q = (violated d.leg d.place r, refl)
 whole_verdict c budget (answer.NothingViolated d n) s e q = (nothing_violated, refl)
 whole_verdict {t} c budget (answer.Paused d n) s e q = absurd (not_paused t c s d n budget e q)
-whole_verdict {t} c budget (answer.Refused k p d) s e q = absurd (not_refused t c s k p d budget q)
+whole_verdict {t} c budget (answer.Refused refusal d) s e q = absurd (not_refused t c s refusal d budget q)
 
 is_right : (t : List ℕ) (r : SliceAnswer) (v : Verdict) → Gives r v → RightVerdict t v → WholeCheckIsRight t r
 is_right t r (violated a p s) g h = record {
@@ -65,7 +65,7 @@ is_right t r nothing_violated g h = record {
 
 pub demand_two : DemandTwo
 demand_two = record {
-  starts = λ t g w s. start_one_answer t g (Granted (start_cursor t)) s (w, refl);
+  starts = λ t g w s. start_one_answer t g (Ok (start_cursor t)) s (w, refl);
   places = few_places;
   checks = λ t r w.
       let v = whole_verdict w.cursor w.budget r w.starts w.enough w.slices in

@@ -1,4 +1,8 @@
 -- Explanations agree with verdicts, since the numbers of a place decide whether it holds. Assumes nothing.
+use Rattle.margins.specs.declared.At.{At}
+use Rattle.margins.specs.declared.Spare.{Spare}
+use Rattle.std.specs.Prelude.{Result, Ok, Err, Option, Some}
+use Rattle.basics.specs.declared.Refusal.{Refusal}
 use Prim.Native.Nat.{ℕ, zero, suc, ◌≤◌}
 use mathlib.Core.Path.{◌≡◌, refl, subst}
 use mathlib.Core.List.{List}
@@ -9,17 +13,13 @@ use Rattle.rules.specs.declared.Rule.{Rule}
 use Rattle.checker.specs.declared.SliceAnswer.{SliceAnswer}
 use Rattle.repeats.specs.declared.Meeting.{Meeting}
 use Rattle.meeting.specs.Meets.{CanMeet, Meets}
-use Rattle.meeting.specs.declared.MeetingAnswer.{MeetingAnswer}
-use Rattle.meeting.specs.declared.MeetingAnswer.TheVariants.{Met}
 use Rattle.meeting.proofs.OneAnswer.{meetings_show_overlaps}
 use Rattle.margins.specs.Asking.{CanAsk}
-use Rattle.margins.specs.Margins.{Margins}
-use Rattle.margins.specs.Spares.{Kept, KeptBut, IsLacking}
+use Rattle.margins.specs.Margins.{MarginOf, Margins}
+use Rattle.margins.specs.Spares.{Kept, KeptBut, IsLacking, IsSpare}
 use Rattle.margins.specs.declared.Margin.{Margin}
 use Rattle.margins.specs.declared.Margin.TheVariants as margin
 use Rattle.margins.specs.declared.Spare.TheVariants as spare
-use Rattle.margins.specs.declared.MarginAnswer.{MarginAnswer}
-use Rattle.margins.specs.declared.MarginAnswer.TheVariants.{At, Refused}
 use Rattle.margins.proofs.SpareLaws.{spares_decide}
 use Rattle.margins.proofs.Deciding.{margins_decide, ask_one}
 use Rattle.demands.specs.Verdicts.{violated, Gives, FirstViolated, RightVerdict}
@@ -47,20 +47,26 @@ lacks_some : (m : Margin) (n : ℕ) → IsLacking m n → 1 ≤ n
 lacks_some m zero h = absurd (h.broken (kept_but_0 m h.enough))
 lacks_some m (suc n) h = omega arith
 
-lacking_at : (t : List ℕ) (a p : ℕ) (told : MarginAnswer) → CanAsk t a p → (PlaceHolds t a p → ⊥) → Margins t a p told → Lacking told
-lacking_at t a p (At m spare.Free) can broken (c, is, s) = absurd (broken ((margins_decide t a p m c is).1 (spares_decide.free m s)))
-lacking_at t a p (At m (spare.Left n)) can broken (c, is, s) = absurd (broken ((margins_decide t a p m c is).1 (spares_decide.left m n s)))
-lacking_at t a p (At m (spare.Lacks n)) can broken (c, is, s) = record { numbers = m; lacks = n; some = lacks_some m n s; told = refl }
-lacking_at t a p (Refused k q) can broken h = absurd ((ask_one t a p).none can h)
+lacking_at : (t : List ℕ) (a p : ℕ) (told : Result At Refusal) → CanAsk t a p → (PlaceHolds t a p → ⊥) → Margins t a p told → Lacking told
+lacking_at t a p (Ok r) can broken (c, is, s) = by r.margin r.spare is s
+  where
+    by : (m : Margin) (s : Spare) → MarginOf t a p m → IsSpare m s → Lacking (Ok (record { margin = m; spare = s }))
+    by m spare.Free is s = absurd (broken ((margins_decide t a p m c is).1 (spares_decide.free m s)))
+    by m (spare.Left n) is s = absurd (broken ((margins_decide t a p m c is).1 (spares_decide.left m n s)))
+    by m (spare.Lacks n) is s = record { numbers = m; lacks = n; some = lacks_some m n s; told = refl }
+lacking_at t a p (Err e) can broken h = absurd ((ask_one t a p).none can h)
 
-sparing_at : (t : List ℕ) (a p : ℕ) (told : MarginAnswer) → CanAsk t a p → PlaceHolds t a p → Margins t a p told → Sparing told
-sparing_at t a p (At m spare.Free) can holds h = (m, inl refl)
-sparing_at t a p (At m (spare.Left n)) can holds h = (m, inr (n, refl))
-sparing_at t a p (At m (spare.Lacks n)) can holds (c, is, s) = absurd (spares_decide.lacks m n s ((margins_decide t a p m c is).0 holds))
-sparing_at t a p (Refused k q) can holds h = absurd ((ask_one t a p).none can h)
+sparing_at : (t : List ℕ) (a p : ℕ) (told : Result At Refusal) → CanAsk t a p → PlaceHolds t a p → Margins t a p told → Sparing told
+sparing_at t a p (Ok r) can holds (c, is, s) = by r.margin r.spare is s
+  where
+    by : (m : Margin) (s : Spare) → MarginOf t a p m → IsSpare m s → Sparing (Ok (record { margin = m; spare = s }))
+    by m spare.Free is s = (m, inl refl)
+    by m (spare.Left n) is s = (m, inr (n, refl))
+    by m (spare.Lacks n) is s = absurd (spares_decide.lacks m n s ((margins_decide t a p m c is).0 holds))
+sparing_at t a p (Err e) can holds h = absurd ((ask_one t a p).none can h)
 
-met_at_lem : (t : List ℕ) (r : SliceAnswer) (a b : ℕ) (s : Rule) (told : MeetingAnswer) → WholeCheck t r → Gives r (violated a (pair_place b) s) → Meets t a b told
-    → (met : Meeting) × (told ≡ Met met)
+met_at_lem : (t : List ℕ) (r : SliceAnswer) (a b : ℕ) (s : Rule) (told : Result (Option Meeting) Refusal) → WholeCheck t r → Gives r (violated a (pair_place b) s) → Meets t a b told
+    → (met : Meeting) × (told ≡ Ok (Some met))
 met_at_lem t r a b s told w g h =
     let first = named t r a (pair_place b) s w g in
     let both : CanMeet t a b = record { shape = w.starts.0; leg_there = first.place.leg; other_there = omega (arith, first.place.leg, first.place.place) } in

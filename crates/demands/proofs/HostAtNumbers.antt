@@ -1,4 +1,5 @@
 -- The run of the calls for C at numbers: the bytes are those of the tables and cursors of cases 11 and 12, by computing. Assumes nothing.
+use Rattle.std.specs.Prelude.{Ok}
 use Prim.Native.Nat.{ℕ, ◌+◌, ◌≤◌}
 use mathlib.Core.Path.{◌≡◌, refl, ◌∙◌, sym, ap, subst}
 use mathlib.Core.List.{List, ◌++◌}
@@ -17,7 +18,6 @@ use Rattle.files.specs.Reading.{IsFile}
 use Rattle.files.specs.Cursors.{ReadsCursor}
 use Rattle.files.specs.Theorems.{max_cursor_bytes, plan_a_file}
 use Rattle.files.specs.declared.Cursor.{Cursor}
-use Rattle.files.specs.declared.CursorRead.TheVariants as read
 use Rattle.files.proofs.AtNumbers.{plan_a_file_lem}
 use Rattle.rules.specs.declared.Rule.{Rule}
 use Rattle.rules.specs.declared.Rule.TheVariants as rule
@@ -26,7 +26,6 @@ use Rattle.rules.proofs.Placing.{place_rule}
 use Rattle.rules.proofs.CasePlaces.{meets_at_2_3}
 use Rattle.places.specs.Order.{rank}
 use Rattle.checker.specs.Slices.{Slices}
-use Rattle.checker.specs.declared.Grant.TheVariants.{Granted}
 use Rattle.checker.specs.declared.SliceAnswer.{SliceAnswer}
 use Rattle.checker.specs.declared.SliceAnswer.TheVariants.{Violated, NothingViolated, Paused}
 use Rattle.host.specs.Answers.{answered, rule_result, slice_answered, bytes_after_slice, with_cursor}
@@ -57,7 +56,7 @@ file_moved = record {
 
 -- A cursor's bytes as they are read, as they are written to 15 lent bytes, and as they are found there again.
 record SavedSo (r l p : ℕ) : Type 0 where
-  reads : ReadsCursor (saved r l p) (read.Saved (at r l p))
+  reads : ReadsCursor (saved r l p) (Ok (at r l p))
   written : left r l p ≡ with_cursor (zeros 15) (at r l p)
   found : saved r l p ≡ saved_in (left r l p)
 
@@ -103,13 +102,13 @@ start_made = record {
     file_a,
     inr (
       room,
-      record { given = Granted (at 0 0 0); starts = (shape 0 0 1176 0, refl); answer = ap (answered 0) (sym ranks.3); after = at_start.written },
+      record { given = Ok (at 0 0 0); starts = (shape 0 0 1176 0, refl); answer = ap (answered 0) (sym ranks.3); after = at_start.written },
     ),
   );
   not_refused = omega arith;
 }
 
-slice_made : (plan t cursor : List ℕ) (c : Cursor) (budget : ℕ) (r : SliceAnswer) (out : List ℕ) → IsFile Sized plan t → ReadsCursor cursor (read.Saved c)
+slice_made : (plan t cursor : List ℕ) (c : Cursor) (budget : ℕ) (r : SliceAnswer) (out : List ℕ) → IsFile Sized plan t → ReadsCursor cursor (Ok c)
     → Slices t c budget r → NotRefused (slice_answered r) → out ≡ bytes_after_slice (zeros 15) r → SliceMade plan cursor budget (slice_answered r) out
 slice_made plan t cursor c budget r out f g s n e = record {
   out = zeros 15;
@@ -154,7 +153,7 @@ moves =
           inr (
             room,
             record {
-              given = Granted (at 1 2 0);
+              given = Ok (at 1 2 0);
               table = moved plan_a (move_to 2 hold_a 0);
               moves = granted 0 0 1176 0 2 3 (here 0 0 1176 0 2 3 (omega arith) (omega arith)) 2 hold_a (omega arith) (omega arith) 2 0 (inr (refl, refl)) (omega arith) (omega arith);
               after = inr (
@@ -189,7 +188,7 @@ tells_place = inr (record {
   rule = rule.Overlap;
   cursor = at 0 2 3;
   result = refl;
-  saved = subst (λ (s : List ℕ). ReadsCursor s (read.Saved (at 0 2 3))) at_2_3.found at_2_3.reads;
+  saved = subst (λ (s : List ℕ). ReadsCursor s (Ok (at 0 2 3))) at_2_3.found at_2_3.reads;
   is = refl;
 })
 

@@ -1,4 +1,5 @@
 -- A run of the calls for C is a run of start, slice and move, call by call, so its verdicts are theirs, and come when theirs do. Assumes nothing.
+use Rattle.std.specs.Prelude.{Ok, Err}
 use Prim.Native.Nat.{ℕ, ◌≤◌}
 use mathlib.Core.Bool.{false}
 use mathlib.Core.Path.{◌≡◌, refl, ◌∙◌, sym, ap, subst}
@@ -11,13 +12,11 @@ use Rattle.table.specs.Layout.{Sized}
 use Rattle.files.specs.Reading.{IsFile}
 use Rattle.files.specs.Cursors.{ReadsCursor}
 use Rattle.files.specs.declared.Cursor.{Cursor}
-use Rattle.files.specs.declared.CursorRead.TheVariants as read
 use Rattle.files.proofs.OneAnswer.{same_file}
 use Rattle.rules.specs.declared.Rule.{Rule}
 use Rattle.rules.specs.declared.Rule.TheVariants as rule
 use Rattle.places.specs.Order.{place_count}
 use Rattle.checker.specs.Slices.{Starts}
-use Rattle.checker.specs.declared.Grant.TheVariants as grant
 use Rattle.checker.specs.declared.SliceAnswer.{SliceAnswer}
 use Rattle.checker.specs.declared.SliceAnswer.TheVariants as answer
 use Rattle.host.specs.Answers.{rule_result, slice_answered, result_alone}
@@ -33,16 +32,16 @@ use Rattle.demands.proofs.DemandThree.{runs_are_sound, runs_end_in_time}
 
 -- A slice for C and a slice of the run.
 pub record SliceMirrored (s : List ℕ) (n : ℕ) (a : Answer) (out : List ℕ) (c : Cursor) (b : ℕ) (x : SliceAnswer) : Type 0 where
-  pub given : ReadsCursor s (read.Saved c)
+  pub given : ReadsCursor s (Ok c)
   pub budget : n ≡ b
   pub not_refused : NotRefused a
   pub answer : a ≡ slice_answered x
-  pub left : ReadsCursor (saved_in out) (read.Saved (cursor_of_answer x))
+  pub left : ReadsCursor (saved_in out) (Ok (cursor_of_answer x))
 
 -- A call for C is a call of the run: it was given the same cursor and left the one that was handed out.
 abbrev pub Mirrors : HostCall → Call → Type 0
-Mirrors (start a out) (runs.start (grant.Granted d)) = ReadsCursor (saved_in out) (read.Saved d)
-Mirrors (start a out) (runs.start (grant.Refused k p d)) = ⊥
+Mirrors (start a out) (runs.start (Ok d)) = ReadsCursor (saved_in out) (Ok d)
+Mirrors (start a out) (runs.start (Err d)) = ⊥
 Mirrors (start a out) (runs.slice c b x) = ⊥
 Mirrors (start a out) (runs.move_leg c mv g) = ⊥
 Mirrors (slice s n a out) (runs.start g) = ⊥
@@ -50,8 +49,8 @@ Mirrors (slice s n a out) (runs.slice c b x) = SliceMirrored s n a out c b x
 Mirrors (slice s n a out) (runs.move_leg c mv g) = ⊥
 Mirrors (move_leg s mv a m) (runs.start g) = ⊥
 Mirrors (move_leg s mv a m) (runs.slice c b x) = ⊥
-Mirrors (move_leg s mv a m) (runs.move_leg c nv (grant.Granted d)) = ReadsCursor (saved_in m.out) (read.Saved d)
-Mirrors (move_leg s mv a m) (runs.move_leg c nv (grant.Refused i j d)) = ⊥
+Mirrors (move_leg s mv a m) (runs.move_leg c nv (Ok d)) = ReadsCursor (saved_in m.out) (Ok d)
+Mirrors (move_leg s mv a m) (runs.move_leg c nv (Err d)) = ⊥
 
 abbrev pub AllMirror : List HostCall → List Call → Type 0
 AllMirror [] [] = Unit {0}
@@ -60,9 +59,9 @@ AllMirror (h ∷ hs) [] = ⊥
 AllMirror (h ∷ hs) (c ∷ cs) = Mirrors h c × AllMirror hs cs
 
 -- What a call left reads as the cursor that its mirror handed out.
-pub left_is : (h : HostCall) (c : Call) → Mirrors h c → ReadsCursor (saved_in (bytes_left h)) (read.Saved (cursor_of c))
-left_is (start a out) (runs.start (grant.Granted d)) m = m
-left_is (start a out) (runs.start (grant.Refused k p d)) m = absurd m
+pub left_is : (h : HostCall) (c : Call) → Mirrors h c → ReadsCursor (saved_in (bytes_left h)) (Ok (cursor_of c))
+left_is (start a out) (runs.start (Ok d)) m = m
+left_is (start a out) (runs.start (Err d)) m = absurd m
 left_is (start a out) (runs.slice c b x) m = absurd m
 left_is (start a out) (runs.move_leg c mv g) m = absurd m
 left_is (slice s n a out) (runs.start g) m = absurd m
@@ -70,13 +69,13 @@ left_is (slice s n a out) (runs.slice c b x) m = m.left
 left_is (slice s n a out) (runs.move_leg c mv g) m = absurd m
 left_is (move_leg s mv a q) (runs.start g) m = absurd m
 left_is (move_leg s mv a q) (runs.slice c b x) m = absurd m
-left_is (move_leg s mv a q) (runs.move_leg c nv (grant.Granted d)) m = m
-left_is (move_leg s mv a q) (runs.move_leg c nv (grant.Refused i j d)) m = absurd m
+left_is (move_leg s mv a q) (runs.move_leg c nv (Ok d)) m = m
+left_is (move_leg s mv a q) (runs.move_leg c nv (Err d)) m = absurd m
 
-handed : (s : List ℕ) (hs : List HostCall) (cs : List Call) → AllMirror hs cs → LeftBy s hs → (c : Cursor) × ReadsCursor s (read.Saved c) × HandedOut c cs
+handed : (s : List ℕ) (hs : List HostCall) (cs : List Call) → AllMirror hs cs → LeftBy s hs → (c : Cursor) × ReadsCursor s (Ok c) × HandedOut c cs
 handed s [] cs m l = absurd l
 handed s (h ∷ hs) [] m l = absurd m
-handed s (h ∷ hs) (c ∷ cs) m (inl e) = (cursor_of c, subst (λ (x : List ℕ). ReadsCursor x (read.Saved (cursor_of c))) (sym e) (left_is h c m.0), inl refl)
+handed s (h ∷ hs) (c ∷ cs) m (inl e) = (cursor_of c, subst (λ (x : List ℕ). ReadsCursor x (Ok (cursor_of c))) (sym e) (left_is h c m.0), inl refl)
 handed s (h ∷ hs) (c ∷ cs) m (inr l) = let x = handed s hs cs m.1 l in (x.0, x.1, inr x.2)
 
 -- A run of the calls for C is a run.
@@ -106,14 +105,14 @@ pub carried : (calls : List HostCall) (plan : List ℕ) → HostRun calls plan �
 carried [] plan x = absurd x
 carried (start a out ∷ []) plan x =
     let s = start_carried plan x.out a out x.not_refused x.starts in
-    record { latest = runs.start (grant.Granted s.cursor); earlier = []; table = s.table; file = s.file; run = s.starts; mirrored = (s.left, tt) }
+    record { latest = runs.start (Ok s.cursor); earlier = []; table = s.table; file = s.file; run = s.starts; mirrored = (s.left, tt) }
 carried (slice cursor budget a out ∷ []) plan x = absurd x
 carried (move_leg cursor mv a m ∷ []) plan x = absurd x
 carried (start a out ∷ call ∷ calls) plan x =
     let i = carried (call ∷ calls) plan x.0 in
     let y = x.1 in
     let s = start_carried plan y.out a out y.not_refused y.starts in
-    let g = grant.Granted s.cursor in
+    let g = Ok s.cursor in
     record {
       latest = runs.start g;
       earlier = i.latest ∷ i.earlier;
@@ -128,7 +127,7 @@ carried (move_leg cursor mv a m ∷ call ∷ calls) plan x =
     let y = x.3 in
     let s = move_carried x.0 plan cursor mv y.m m a y.words y.not_refused y.moves y.new in
     let c = handed cursor (call ∷ calls) (i.latest ∷ i.earlier) i.mirrored x.2 in
-    let g = grant.Granted s.to in
+    let g = Ok s.to in
     record {
       latest = runs.move_leg c.0 mv g;
       earlier = i.latest ∷ i.earlier;
@@ -155,7 +154,7 @@ rule_above rule.Hop = omega arith
 rule_above rule.Deadline = omega arith
 rule_above rule.Overlap = omega arith
 
-gives : (x : SliceAnswer) (a : Answer) (out : List ℕ) (v : Verdict) → NotRefused a → a ≡ slice_answered x → ReadsCursor (saved_in out) (read.Saved (cursor_of_answer x))
+gives : (x : SliceAnswer) (a : Answer) (out : List ℕ) (v : Verdict) → NotRefused a → a ≡ slice_answered x → ReadsCursor (saved_in out) (Ok (cursor_of_answer x))
     → HostGives a out v → Gives x v
 gives (answer.Violated d n r) a out v h e l (inl (z, k)) = absurd (omega (arith, ap result_alone e, z, rule_above r))
 gives (answer.Violated d n r) a out v h e l (inr t) =
@@ -166,7 +165,7 @@ gives (answer.NothingViolated d n) a out v h e l (inl (z, k)) = k
 gives (answer.NothingViolated d n) a out v h e l (inr t) = absurd (omega (arith, ap result_alone e, t.result, rule_above t.rule))
 gives (answer.Paused d n) a out v h e l (inl (z, k)) = absurd (omega (arith, ap result_alone e, z))
 gives (answer.Paused d n) a out v h e l (inr t) = absurd (omega (arith, ap result_alone e, t.result, rule_above t.rule))
-gives (answer.Refused k p d) a out v h e l g = absurd (omega (arith, ap result_alone e, h))
+gives (answer.Refused refusal d) a out v h e l g = absurd (omega (arith, ap result_alone e, h))
 
 pub host_runs_are_sound : HostRunsAreSound
 unfolding carry_slice
@@ -205,10 +204,10 @@ renews_too (start a out) (runs.move_leg c mv g) m r = absurd m
 renews_too (slice s n a out) c m r = absurd r
 renews_too (move_leg s mv a q) (runs.start g) m r = absurd m
 renews_too (move_leg s mv a q) (runs.slice c b x) m r = absurd m
-renews_too (move_leg s mv a q) (runs.move_leg c nv (grant.Granted d)) m r = tt
-renews_too (move_leg s mv a q) (runs.move_leg c nv (grant.Refused i j d)) m r = absurd m
+renews_too (move_leg s mv a q) (runs.move_leg c nv (Ok d)) m r = tt
+renews_too (move_leg s mv a q) (runs.move_leg c nv (Err d)) m r = absurd m
 
-newest_is : (hs : List HostCall) (h : HostCall) (cs : List Call) (c : Call) → AllMirror hs cs → Mirrors h c → ReadsCursor (newest_left hs h) (read.Saved (runs.newest cs c))
+newest_is : (hs : List HostCall) (h : HostCall) (cs : List Call) (c : Call) → AllMirror hs cs → Mirrors h c → ReadsCursor (newest_left hs h) (Ok (runs.newest cs c))
 newest_is [] h [] c m n = left_is h c n
 newest_is [] h (d ∷ cs) c m n = absurd m
 newest_is (k ∷ hs) h [] c m n = absurd m
@@ -216,20 +215,20 @@ newest_is (k ∷ hs) h (d ∷ cs) c m n = left_is k d m.0
 
 -- None of the calls of the mirror was refused.
 mirror_made : (h : HostCall) (c : Call) → Mirrors h c → runs.refused c ≡ false
-mirror_made (start a out) (runs.start (grant.Granted d)) m = refl
-mirror_made (start a out) (runs.start (grant.Refused k p d)) m = absurd m
+mirror_made (start a out) (runs.start (Ok d)) m = refl
+mirror_made (start a out) (runs.start (Err d)) m = absurd m
 mirror_made (start a out) (runs.slice c b x) m = absurd m
 mirror_made (start a out) (runs.move_leg c mv g) m = absurd m
 mirror_made (slice s n a out) (runs.start g) m = absurd m
 mirror_made (slice s n a out) (runs.slice c b (answer.Violated d k r)) m = refl
 mirror_made (slice s n a out) (runs.slice c b (answer.NothingViolated d k)) m = refl
 mirror_made (slice s n a out) (runs.slice c b (answer.Paused d k)) m = refl
-mirror_made (slice s n a out) (runs.slice c b (answer.Refused k p d)) m = absurd (omega (arith, ap result_alone m.answer, m.not_refused))
+mirror_made (slice s n a out) (runs.slice c b (answer.Refused refusal d)) m = absurd (omega (arith, ap result_alone m.answer, m.not_refused))
 mirror_made (slice s n a out) (runs.move_leg c mv g) m = absurd m
 mirror_made (move_leg s mv a q) (runs.start g) m = absurd m
 mirror_made (move_leg s mv a q) (runs.slice c b x) m = absurd m
-mirror_made (move_leg s mv a q) (runs.move_leg c nv (grant.Granted d)) m = refl
-mirror_made (move_leg s mv a q) (runs.move_leg c nv (grant.Refused i j d)) m = absurd m
+mirror_made (move_leg s mv a q) (runs.move_leg c nv (Ok d)) m = refl
+mirror_made (move_leg s mv a q) (runs.move_leg c nv (Err d)) m = absurd m
 
 all_made : (hs : List HostCall) (cs : List Call) → AllMirror hs cs → runs.without_refused cs ≡ cs
 all_made [] [] m = refl
@@ -243,12 +242,12 @@ pub record PartIs (hs : List HostCall) (cs : List Call) (c : Call) : Type 0 wher
   pub budgets : runs.budgets cs ≡ host_budgets hs
   pub verdict : runs.HasVerdict cs → HostHasVerdict hs
 
-pub told_to_c : (x : SliceAnswer) (a : Answer) (out : List ℕ) (v : Verdict) → a ≡ slice_answered x → ReadsCursor (saved_in out) (read.Saved (cursor_of_answer x)) → Gives x v
+pub told_to_c : (x : SliceAnswer) (a : Answer) (out : List ℕ) (v : Verdict) → a ≡ slice_answered x → ReadsCursor (saved_in out) (Ok (cursor_of_answer x)) → Gives x v
     → HostGives a out v
 told_to_c (answer.Violated d n r) a out v e l g = inr (record { rule = r; cursor = d; result = ap result_alone e; saved = l; is = g })
 told_to_c (answer.NothingViolated d n) a out v e l g = inl (ap result_alone e, g)
 told_to_c (answer.Paused d n) a out v e l g = absurd g
-told_to_c (answer.Refused k p d) a out v e l g = absurd g
+told_to_c (answer.Refused refusal d) a out v e l g = absurd g
 
 part_is : (hs : List HostCall) (h : HostCall) (cs : List Call) (c : Call) → AllMirror hs cs → Mirrors h c → HostSince hs h → PartIs hs cs c
 part_is [] h [] c m n s = record { since = tt; budgets = refl; verdict = λ x. x }
@@ -261,7 +260,7 @@ part_is (slice q b a out ∷ hs) h (runs.move_leg d mv g ∷ cs) c m n s = absur
 part_is (slice q b a out ∷ hs) h (runs.slice d k x ∷ cs) c m n s =
     let i = part_is hs h cs c m.1 n s.1 in
     let w = m.0 in
-    let r = subst (λ (z : List ℕ). ReadsCursor z (read.Saved (runs.newest cs c))) (sym s.0) (newest_is hs h cs c m.1 n) in
+    let r = subst (λ (z : List ℕ). ReadsCursor z (Ok (runs.newest cs c))) (sym s.0) (newest_is hs h cs c m.1 n) in
     record {
       since = (saved_one q d (runs.newest cs c) w.given r, i.since);
       budgets = omega (arith, i.budgets, w.budget);

@@ -16,3 +16,4 @@ pub mod GateLists
 pub mod PlanTables
 pub mod AtNumbers
 pub mod HostAtNumbers
+pub mod Causes

@@ -1,5 +1,6 @@
 -- Plan A with other offsets and another revision: the rules' laws say which of its places hold, and from that follows what a slice and a move of it give.
 -- Assumes nothing.
+use Rattle.std.specs.Prelude.{Ok}
 use Prim.Native.Nat.{ℕ, zero, suc, ◌+◌, ◌≤◌, ◌<◌}
 use mathlib.Core.Path.{◌≡◌, refl, sym, ap, subst}
 use mathlib.Core.List.{List}
@@ -19,7 +20,6 @@ use Rattle.places.proofs.Ranks.{below_none, below_more, below_mono, held_none}
 use Rattle.checker.specs.Cursors.{CursorRight}
 use Rattle.checker.specs.Slices.{Went, Slices}
 use Rattle.checker.specs.Moves.{Moves}
-use Rattle.checker.specs.declared.Grant.TheVariants.{Granted}
 use Rattle.checker.specs.declared.SliceAnswer.{SliceAnswer}
 use Rattle.checker.specs.declared.SliceAnswer.TheVariants.{Violated, NothingViolated, Paused}
 use Rattle.demands.specs.AtNumbers.{at}
@@ -51,7 +51,7 @@ module _ (revision o0 o1 o2 : ℕ) where
   right a p s = record { shape = shape; revision = refl; stands = s }
 
   pub granted : (a p : ℕ) → PlaceOrEnd t a p → (leg offset : ℕ) → leg < 3 → revision < max_word → (b q : ℕ) → ((b ≡ a) × (q ≡ p)) ⊎ ((b ≡ leg) × (q ≡ 0))
-      → rank b q ≤ rank a p → rank b q ≤ rank leg 0 → Moves t (at revision a p) (move_to leg offset 0) (Granted (at (revision + 1) b q)) (moved t (move_to leg offset 0))
+      → rank b q ≤ rank a p → rank b q ≤ rank leg 0 → Moves t (at revision a p) (move_to leg offset 0) (Ok (at (revision + 1) b q)) (moved t (move_to leg offset 0))
   granted a p s leg offset l rises b q one given to_leg = record {
     allowed = record { cursor = right a p s; can = record { below = l; rises = rises; periods = omega arith } };
     table = refl;

@@ -1,4 +1,8 @@
 -- A recheck gives the verdict of a whole check: a place before the first violated one of the list is listed too and holds, or it is not listed and holds by the premise. Assumes nothing.
+use Rattle.std.specs.Prelude.{Result, Ok, Err}
+use Rattle.basics.specs.declared.Refusal.{Refusal}
+use Rattle.recheck.specs.declared.Rechecked.{Rechecked}
+use Rattle.recheck.specs.declared.Rechecked.TheVariants.{Violated, NothingViolated}
 use Prim.Native.Nat.{ℕ}
 use mathlib.Core.Path.{◌≡◌, refl, sym, ap, subst}
 use mathlib.Core.List.{List, [], ◌∷◌, ◌++◌}
@@ -13,15 +17,12 @@ use Rattle.places.specs.Order.{Earlier}
 use Rattle.places.proofs.Ranks.{end_rank}
 use Rattle.checker.specs.Accepted.{Accepted}
 use Rattle.checker.specs.Moves.{Moves}
-use Rattle.checker.specs.declared.Grant.TheVariants.{Granted}
 use Rattle.checker.proofs.Whole.{all_held}
 use Rattle.recheck.specs.Listed.{place_at, listed}
 use Rattle.recheck.specs.Premise.{WasAccepted}
 use Rattle.recheck.specs.Rechecks.{CanRecheck, FirstOf, Rechecks}
 use Rattle.recheck.specs.Theorems.{In, InOrder}
 use Rattle.recheck.specs.declared.Place.{Place}
-use Rattle.recheck.specs.declared.RecheckAnswer.{RecheckAnswer}
-use Rattle.recheck.specs.declared.RecheckAnswer.TheVariants.{Violated, NothingViolated, Refused}
 use Rattle.recheck.proofs.Readers.{recheck_list_is_right}
 use Rattle.recheck.proofs.Speaking.{listed_or_not, held_in, recheck_speaks_for_all}
 use Rattle.recheck.proofs.Keeping.{premise_is_kept}
@@ -68,22 +69,22 @@ module _ (t : List ℕ) (m : ℕ) (was : WasAccepted t m) (can : CanRecheck t m)
             (listed_or_not t m a p i);
       }
 
-right_of : (t : List ℕ) (m : ℕ) (r : RecheckAnswer) (v : Verdict) → WasAccepted t m → Rechecks t m r → RecheckGives r v → RightVerdict t v
-right_of t m (Violated q r n) v was k e = rw e (first_violated t m was k.0 q n k.1, k.2)
-right_of t m (NothingViolated n) v was k e = rw e (recheck_speaks_for_all.accepts t m n was k).rules
-right_of t m (Refused l p) v was k e = absurd e
+right_of : (t : List ℕ) (m : ℕ) (r : Result Rechecked Refusal) (v : Verdict) → WasAccepted t m → Rechecks t m r → RecheckGives r v → RightVerdict t v
+right_of t m (Ok (Violated q r n)) v was k e = rw e (first_violated t m was k.0 q n k.1, k.2)
+right_of t m (Ok (NothingViolated n)) v was k e = rw e (recheck_speaks_for_all.accepts t m n was k).rules
+right_of t m (Err refusal) v was k e = absurd e
 
 -- A recheck that gives a verdict is of a well-formed table.
-shape_of : (t : List ℕ) (m : ℕ) (r : RecheckAnswer) (v : Verdict) → Rechecks t m r → RecheckGives r v → WellFormedTable t
-shape_of t m (Violated q r n) v k e = k.0.shape
-shape_of t m (NothingViolated n) v k e = k.0.shape
-shape_of t m (Refused l p) v k e = absurd e
+shape_of : (t : List ℕ) (m : ℕ) (r : Result Rechecked Refusal) (v : Verdict) → Rechecks t m r → RecheckGives r v → WellFormedTable t
+shape_of t m (Ok (Violated q r n)) v k e = k.0.shape
+shape_of t m (Ok (NothingViolated n)) v k e = k.0.shape
+shape_of t m (Err refusal) v k e = absurd e
 
 pub rechecks_are_sound : RechecksAreSound
 rechecks_are_sound t m r v was k e = sound_of t (shape_of t m r v k e) v (right_of t m r v was k e)
 
 -- A granted move keeps the premise.
-module _ (v u : List ℕ) (c d : Cursor) (mv : Move) (made : Moves v c mv (Granted d) u) where
+module _ (v u : List ℕ) (c d : Cursor) (mv : Move) (made : Moves v c mv (Ok d) u) where
   after : Accepted v → WasAccepted u mv.leg
   after a = subst (λ (w : List ℕ). WasAccepted w mv.leg) (sym made.table) (premise_is_kept.after_move v mv a made.allowed.can)
 
@@ -92,7 +93,7 @@ module _ (v u : List ℕ) (c d : Cursor) (mv : Move) (made : Moves v c mv (Grant
       subst (λ (w : List ℕ). WasAccepted w mv.leg) (sym made.table)
       (premise_is_kept.moved_again v mv made.allowed.cursor.shape was made.allowed.can)
 
-accepted_of : (u : List ℕ) (m : ℕ) (r : RecheckAnswer) → WasAccepted u m → Rechecks u m r → RecheckGives r nothing_violated → Accepted u
+accepted_of : (u : List ℕ) (m : ℕ) (r : Result Rechecked Refusal) → WasAccepted u m → Rechecks u m r → RecheckGives r nothing_violated → Accepted u
 accepted_of u m r was k e = record { shape = shape_of u m r nothing_violated k e; rules = right_of u m r nothing_violated was k e }
 
 premise : (t : List ℕ) (late : Late) (earlier : List Late) (u : List ℕ) → Accepted t → Evening t (late ∷ earlier) u → WasAccepted u late.move_made.leg
@@ -116,6 +117,6 @@ evenings_are_sound = record {
 pub premise_is_needed : PremiseIsNeeded
 premise_is_needed = record {
   rechecked = rechecks_at_numbers.leg_1;
-  whole = rechecks_are_sound plan_a 2 (Violated (place_at 2 3) rule.Overlap 4) (violated 2 3 rule.Overlap) rechecks_at_numbers.premise rechecks_at_numbers.leg_2 refl;
+  whole = rechecks_are_sound plan_a 2 (Ok (Violated (place_at 2 3) rule.Overlap 4)) (violated 2 3 rule.Overlap) rechecks_at_numbers.premise rechecks_at_numbers.leg_2 refl;
   no_premise = rechecks_at_numbers.no_premise;
 }

@@ -1,5 +1,7 @@
 -- What every run keeps: the table is well-formed, no cursor is of a later revision, and before each cursor of the table's revision all places hold.
 -- Assumes nothing.
+use Rattle.std.specs.Prelude.{Result, Ok, Err}
+use Rattle.files.specs.declared.Returned.{Returned}
 use Prim.Native.Nat.{ℕ, ◌+◌, ◌≤◌, ◌<◌}
 use mathlib.Core.Path.{◌≡◌, ◌∙◌, sym, ap, subst}
 use mathlib.Core.List.{List, [], ◌∷◌}
@@ -20,8 +22,6 @@ use Rattle.checker.specs.Slices.{Starts, Slices, Went}
 use Rattle.checker.specs.Moves.{CanMove, MoveRight, Moves}
 use Rattle.checker.proofs.Moving.{same_but_moved, shape_moved, revision_moved, legs_moved, other_leg}
 use Rattle.checker.proofs.OneAnswer.{lesser_stands}
-use Rattle.checker.specs.declared.Grant.{Grant}
-use Rattle.checker.specs.declared.Grant.TheVariants.{Granted, Refused}
 use Rattle.checker.specs.declared.SliceAnswer.{SliceAnswer}
 use Rattle.checker.specs.declared.SliceAnswer.TheVariants as answer
 use Rattle.demands.specs.Runs.{Call, start, slice, move_leg, cursor_of_grant, cursor_of_answer, cursor_of, HandedOut, Run}
@@ -43,9 +43,9 @@ keeps_more t call earlier i k = record {
   cursors = λ c out. ⊎_elim (λ (e : c ≡ cursor_of call). subst (Kept t) (sym e) k) (λ (o : HandedOut c earlier). i.cursors c o) out;
 }
 
-kept_start : (t : List ℕ) (g : Grant) → WellFormedTable t → Starts t g → Kept t (cursor_of_grant g)
-kept_start t (Granted d) w s = record { old = omega (arith, ap (λ (c : Cursor). c.revision) s.1); held = λ e. start_held s }
-kept_start t (Refused k p d) w s = absurd (well_no_fault w s.0)
+kept_start : (t : List ℕ) (g : Result Cursor Returned) → WellFormedTable t → Starts t g → Kept t (cursor_of_grant g)
+kept_start t (Ok d) w s = record { old = omega (arith, ap (λ (c : Cursor). c.revision) s.1); held = λ e. start_held s }
+kept_start t (Err d) w s = absurd (well_no_fault w s.0)
 
 -- A slice goes from its cursor past places that hold.
 kept_went : {t : List ℕ} {c d : Cursor} {n : ℕ} → CursorRight t c → Kept t c → Went t c d n → Kept t d
@@ -55,7 +55,7 @@ kept_slice : (t : List ℕ) (c : Cursor) (budget : ℕ) (r : SliceAnswer) → Ke
 kept_slice t c b (answer.Violated d n r) k s = kept_went s.0 k s.1.went
 kept_slice t c b (answer.NothingViolated d n) k s = kept_went s.0 k s.1.went
 kept_slice t c b (answer.Paused d n) k s = kept_went s.0 k s.1.went
-kept_slice t c b (answer.Refused l p d) k s = subst (Kept t) (sym s.1) k
+kept_slice t c b (answer.Refused refusal d) k s = subst (Kept t) (sym s.1) k
 
 -- A granted move: the moved leg comes after every place that the new cursor has passed, and older cursors have an older revision.
 module _ (u : List ℕ) (c d : Cursor) (mv : Move) (m : MoveRight u c mv d (moved u mv)) where
@@ -97,27 +97,27 @@ module _ (u : List ℕ) (c d : Cursor) (mv : Move) (m : MoveRight u c mv d (move
   older : (e : Cursor) → Kept u e → Kept t e
   older e k = record { old = omega (arith, k.old, higher); held = λ q. absurd (omega (arith, k.old, higher, q)) }
 
-  keeps_moved : (earlier : List Call) → Keeps u earlier → Kept u c → Keeps t (move_leg c mv (Granted d) ∷ earlier)
+  keeps_moved : (earlier : List Call) → Keeps u earlier → Kept u c → Keeps t (move_leg c mv (Ok d) ∷ earlier)
   keeps_moved earlier i k =
-      keeps_more t (move_leg c mv (Granted d)) earlier (record { shape = shape_moved shape can; cursors = λ e out. older e (i.cursors e out) }) (kept_moved k)
+      keeps_more t (move_leg c mv (Ok d)) earlier (record { shape = shape_moved shape can; cursors = λ e out. older e (i.cursors e out) }) (kept_moved k)
 
-keeps_move : (t u : List ℕ) (c : Cursor) (mv : Move) (g : Grant) (earlier : List Call) → Keeps u earlier → Kept u c → Moves u c mv g t
+keeps_move : (t u : List ℕ) (c : Cursor) (mv : Move) (g : Result Cursor Returned) (earlier : List Call) → Keeps u earlier → Kept u c → Moves u c mv g t
     → Keeps t (move_leg c mv g ∷ earlier)
-keeps_move t u c mv (Granted d) earlier i k m =
+keeps_move t u c mv (Ok d) earlier i k m =
     let e = m.table in
-    subst (λ (v : List ℕ). Keeps v (move_leg c mv (Granted d) ∷ earlier)) (sym e)
+    subst (λ (v : List ℕ). Keeps v (move_leg c mv (Ok d) ∷ earlier)) (sym e)
     (keeps_moved u c d mv (subst (MoveRight u c mv d) e m) earlier i k)
-keeps_move t u c mv (Refused l p d) earlier i k m =
-    subst (λ (v : List ℕ). Keeps v (move_leg c mv (Refused l p d) ∷ earlier)) (sym m.2)
-    (keeps_more u (move_leg c mv (Refused l p d)) earlier i (subst (Kept u) (sym m.1) k))
+keeps_move t u c mv (Err d) earlier i k m =
+    subst (λ (v : List ℕ). Keeps v (move_leg c mv (Err d) ∷ earlier)) (sym m.2)
+    (keeps_more u (move_leg c mv (Err d)) earlier i (subst (Kept u) (sym m.1) k))
 
 pub run_keeps : (calls : List Call) (t : List ℕ) → Run calls t → Keeps t calls
 run_keeps [] t r = absurd r
-run_keeps (start (Granted d) ∷ []) t r = record {
+run_keeps (start (Ok d) ∷ []) t r = record {
   shape = r.0;
-  cursors = λ c out. ⊎_elim (λ (e : c ≡ d). subst (Kept t) (sym e) (kept_start t (Granted d) r.0 r)) (λ z. absurd z) out;
+  cursors = λ c out. ⊎_elim (λ (e : c ≡ d). subst (Kept t) (sym e) (kept_start t (Ok d) r.0 r)) (λ z. absurd z) out;
 }
-run_keeps (start (Refused k p d) ∷ []) t r = absurd r
+run_keeps (start (Err d) ∷ []) t r = absurd r
 run_keeps (slice c b a ∷ []) t r = absurd r
 run_keeps (move_leg c mv g ∷ []) t r = absurd r
 run_keeps (start g ∷ call ∷ earlier) t (r, s) =

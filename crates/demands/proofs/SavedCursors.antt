@@ -1,4 +1,5 @@
 -- A saved cursor is found again whatever bytes come after it: it ends with its third byte below 128. It reads as the cursor that was written. Assumes nothing.
+use Rattle.std.specs.Prelude.{Ok}
 use Prim.Native.Nat.{ℕ, zero, suc, ◌≤◌, ◌<◌}
 use mathlib.Core.Path.{◌≡◌, refl, ◌∙◌, sym, ap}
 use mathlib.Core.List.{List, [], ◌∷◌, ◌++◌, append_assoc}
@@ -14,7 +15,6 @@ use Rattle.numbers.proofs.Rows.{file_cons, file_none}
 use Rattle.table.specs.Layout.{Sized}
 use Rattle.files.specs.Cursors.{cursor_words, cursor_file, ReadsCursor}
 use Rattle.files.specs.declared.Cursor.{Cursor}
-use Rattle.files.specs.declared.CursorRead.TheVariants as read
 use Rattle.places.specs.Order.{PlaceOrEnd}
 use Rattle.host.specs.Answers.{with_cursor}
 use Rattle.demands.specs.HostRuns.{up_to_closing, saved_in}
@@ -64,7 +64,7 @@ saved_front out d w =
     ∙ sym e
 
 -- What is read of the bytes that hold a cursor.
-pub holds_cursor : (out out' : List ℕ) (d : Cursor) → AllWords (cursor_words d) → out' ≡ with_cursor out d → ReadsCursor (saved_in out') (read.Saved d)
+pub holds_cursor : (out out' : List ℕ) (d : Cursor) → AllWords (cursor_words d) → out' ≡ with_cursor out d → ReadsCursor (saved_in out') (Ok d)
 holds_cursor out out' d w e = record { complete = refl; words = w; bytes = ap saved_in e ∙ saved_front out d w }
 
 -- Every element of a list of words is one.

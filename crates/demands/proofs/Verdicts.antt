@@ -42,4 +42,4 @@ module _ (t : List ℕ) (c : Cursor) (held : HoldFrom t 0 (cursor_rank c)) where
   right_verdict b (answer.Violated d n r) v s e = rw e (first_violated s.1, s.1.rule)
   right_verdict b (answer.NothingViolated d n) v s e = rw e (ended s.1)
   right_verdict b (answer.Paused d n) v s e = absurd e
-  right_verdict b (answer.Refused k p d) v s e = absurd e
+  right_verdict b (answer.Refused refusal d) v s e = absurd e

@@ -1,16 +1,15 @@
 -- Demand 1: any table, file, cursor, budget or move may be handed in. Each call ends with an answer or with a numbered refusal whose cause is fixed.
 -- A refused call changes no lent memory, and gives back any cursor it was given.
-use Rattle.std.specs.Prelude.{ℕ, ◌≡◌, List, ℤ}
+use Rattle.std.specs.Prelude.{ℕ, ◌≡◌, List, ℤ, Err}
+use Rattle.basics.specs.Cause.{refused}
+use Rattle.basics.specs.declared.Cause.{Cause}
 use Rattle.numbers.specs.Calls.{WritesNumber}
 use Rattle.numbers.specs.Theorems.{ReadNumberOneAnswer, WriteNumberOneAnswer}
-use Rattle.numbers.specs.declared.Written.TheVariants as written
 use Rattle.table.specs.declared.Move.{Move}
 use Rattle.files.specs.Plan.{ReadsPlan, WritesPlan}
 use Rattle.files.specs.Cursors.{WritesCursor}
 use Rattle.files.specs.Theorems.{ReadPlanOneAnswer, WritePlanOneAnswer, ReadCursorOneAnswer, WriteCursorOneAnswer}
 use Rattle.files.specs.declared.Cursor.{Cursor}
-use Rattle.files.specs.declared.PlanRead.TheVariants as plan
-use Rattle.files.specs.declared.CursorWritten.TheVariants as saved
 use Rattle.editions.specs.Reading.{ReadsFirst}
 use Rattle.editions.specs.Theorems.{ReadFirstOneAnswer}
 use Rattle.checker.specs.Slices.{no_cursor, Starts, Slices}
@@ -21,13 +20,11 @@ use Rattle.margins.specs.Theorems.{MarginOneAnswer, NearestOneAnswer}
 use Rattle.meeting.specs.Theorems.{MeetingOneAnswer}
 use Rattle.gate_files.specs.ListFiles.{ReadsList, WritesList}
 use Rattle.gate_files.specs.Theorems.{ReadListOneAnswer, WriteListOneAnswer}
-use Rattle.gate_files.specs.declared.ListRead.TheVariants as list
 use Rattle.gate_lists.specs.Lists.{WritesGateList}
 use Rattle.gate_lists.specs.Theorems.{GateListOneAnswer}
 use Rattle.enlarge.specs.declared.Wanted.{Wanted}
 use Rattle.admission.specs.Admits.{Admits, AdmitsBetween}
 use Rattle.admission.specs.Theorems.{AdmitOneAnswer, AdmitBetweenOneAnswer}
-use Rattle.admission.specs.declared.Admission.TheVariants as admission
 use Rattle.host.specs.Theorems.{HostStartOneAnswer, HostSliceOneAnswer, HostSliceFullOneAnswer, HostMoveOneAnswer, HostConvertOneAnswer, HostRefusalsWriteNothing}
 use Rattle.host.specs.AdmissionTheorems.{HostAdmitOneAnswer, HostAdmitBetweenOneAnswer, HostAdmissionsWriteNothing}
 use Rattle.host.specs.RecheckTheorems.{HostRecheckOneAnswer}
@@ -36,9 +33,7 @@ use Rattle.host.specs.GateTheorems.{HostGatesOneAnswer, HostReadGatesOneAnswer, 
 use Rattle.claims.specs.Theorems.{TestTimesOneAnswer, TestChainOneAnswer}
 use Rattle.solver.specs.Solving.{SolvesWith}
 use Rattle.solver.specs.Theorems.{SolveOneAnswer}
-use Rattle.solver.specs.declared.Outcome.TheVariants as outcome
 use Rattle.network_host.specs.Theorems.{HostSolveOneAnswer, HostTestTimesOneAnswer, HostTestChainOneAnswer, HostSolveRefusalsWriteNothing}
-use Rattle.checker.specs.declared.Grant.TheVariants as grant
 use Rattle.checker.specs.declared.SliceAnswer.TheVariants as answer
 
 -- The statement of each public call holds for one answer at most, but that one of several chains may be given where a network has no times. That it holds for one is
@@ -86,23 +81,23 @@ pub record OneAnswerEach : Type 0 where
 -- A refused call leaves the lent memory b, or the table t, as it was, and gives back the cursor c. A start is given none, and gives 0, 0, 0. The calls
 -- that are not named here are lent nothing to write and are given no cursor.
 pub record RefusalsLoseNothing : Type 0 where
-  pub write_number : (x at k p : ℕ) (b b' : List ℕ) → WritesNumber x at b (written.Refused k p) b' → b' ≡ b
-  pub read_plan : (s b b' : List ℕ) (k p : ℕ) → ReadsPlan s b (plan.Refused k p) b' → b' ≡ b
-  pub read_first : (s b b' : List ℕ) (k p : ℕ) → ReadsFirst s b (plan.Refused k p) b' → b' ≡ b
-  pub write_plan : (t b b' : List ℕ) (k p : ℕ) → WritesPlan t b (written.Refused k p) b' → b' ≡ b
-  pub write_cursor : (c d : Cursor) (b b' : List ℕ) (k p : ℕ) → WritesCursor c b (saved.Refused k p d) b' → (b' ≡ b) × (d ≡ c)
-  pub start : (t : List ℕ) (d : Cursor) (k p : ℕ) → Starts t (grant.Refused k p d) → d ≡ no_cursor
-  pub slice : (t : List ℕ) (c d : Cursor) (budget k p : ℕ) → Slices t c budget (answer.Refused k p d) → d ≡ c
-  pub move_leg : (t t' : List ℕ) (c d : Cursor) (mv : Move) (k p : ℕ) → Moves t c mv (grant.Refused k p d) t' → (t' ≡ t) × (d ≡ c)
-  pub admit : (t : List ℕ) (w : Wanted) (route out out' : List ℕ) (k p : ℕ) → Admits t w route out (admission.Refused k p) out' → out' ≡ out
-  pub admit_between : (t : List ℕ) (w : Wanted) (route : List ℕ) (from until : ℕ) (out out' : List ℕ) (k p : ℕ) → AdmitsBetween t w route from until out (admission.Refused k p) out' → out' ≡ out
-  pub write_gate_list : (t : List ℕ) (l : ℕ) (b b' : List ℕ) (k p : ℕ) → WritesGateList t l b (written.Refused k p) b' → b' ≡ b
-  pub read_list : (s b b' : List ℕ) (k p : ℕ) → ReadsList s b (list.Refused k p) b' → b' ≡ b
-  pub write_list : (ws b b' : List ℕ) (k p : ℕ) → WritesList ws b (written.Refused k p) b' → b' ≡ b
+  pub write_number : (x at : ℕ) (k : Cause) (p : ℕ) (b b' : List ℕ) → WritesNumber x at b (refused k p) b' → b' ≡ b
+  pub read_plan : (s b b' : List ℕ) (k : Cause) (p : ℕ) → ReadsPlan s b (refused k p) b' → b' ≡ b
+  pub read_first : (s b b' : List ℕ) (k : Cause) (p : ℕ) → ReadsFirst s b (refused k p) b' → b' ≡ b
+  pub write_plan : (t b b' : List ℕ) (k : Cause) (p : ℕ) → WritesPlan t b (refused k p) b' → b' ≡ b
+  pub write_cursor : (c d : Cursor) (b b' : List ℕ) (k : Cause) (p : ℕ) → WritesCursor c b (Err (record { refusal = record { cause = k; at = p }; cursor = d })) b' → (b' ≡ b) × (d ≡ c)
+  pub start : (t : List ℕ) (d : Cursor) (k : Cause) (p : ℕ) → Starts t (Err (record { refusal = record { cause = k; at = p }; cursor = d })) → d ≡ no_cursor
+  pub slice : (t : List ℕ) (c d : Cursor) (budget : ℕ) (k : Cause) (p : ℕ) → Slices t c budget (answer.Refused (record { cause = k; at = p }) d) → d ≡ c
+  pub move_leg : (t t' : List ℕ) (c d : Cursor) (mv : Move) (k : Cause) (p : ℕ) → Moves t c mv (Err (record { refusal = record { cause = k; at = p }; cursor = d })) t' → (t' ≡ t) × (d ≡ c)
+  pub admit : (t : List ℕ) (w : Wanted) (route out out' : List ℕ) (k : Cause) (p : ℕ) → Admits t w route out (refused k p) out' → out' ≡ out
+  pub admit_between : (t : List ℕ) (w : Wanted) (route : List ℕ) (from until : ℕ) (out out' : List ℕ) (k : Cause) (p : ℕ) → AdmitsBetween t w route from until out (refused k p) out' → out' ≡ out
+  pub write_gate_list : (t : List ℕ) (l : ℕ) (b b' : List ℕ) (k : Cause) (p : ℕ) → WritesGateList t l b (refused k p) b' → b' ≡ b
+  pub read_list : (s b b' : List ℕ) (k : Cause) (p : ℕ) → ReadsList s b (refused k p) b' → b' ≡ b
+  pub write_list : (ws b b' : List ℕ) (k : Cause) (p : ℕ) → WritesList ws b (refused k p) b' → b' ≡ b
   pub host : HostRefusalsWriteNothing
   pub host_admissions : HostAdmissionsWriteNothing
   pub host_gate_lists : HostGateRefusalsWriteNothing
-  pub solve : (n k p : ℕ) (ws times : List ℤ) (b b' : List ℕ) → SolvesWith n ws b (outcome.Refused k p) times b' → b' ≡ b
+  pub solve : (n : ℕ) (k : Cause) (p : ℕ) (ws times : List ℤ) (b b' : List ℕ) → SolvesWith n ws b (refused k p) times b' → b' ≡ b
   pub host_solve : HostSolveRefusalsWriteNothing
 
 pub record DemandOne : Type 0 where

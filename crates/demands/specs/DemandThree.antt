@@ -2,14 +2,15 @@
 -- table, and cursors are not altered, each verdict is that of a whole check of the table as it stands then. With the newest cursor each time, a verdict
 -- has come since the start or last granted move once at least one slice has run since then and the budgets since then add up to at least the number of
 -- places.
-use Rattle.std.specs.Prelude.{ℕ, ◌≤◌, ◌≡◌, List, ◌∷◌, ◌++◌}
+use Rattle.std.specs.Prelude.{ℕ, ◌≤◌, ◌≡◌, List, ◌∷◌, ◌++◌, Err}
+use Rattle.basics.specs.declared.Refusal.{Refusal}
+use Rattle.files.specs.declared.Returned.{Returned}
 use Rattle.table.specs.declared.Move.{Move}
 use Rattle.shape.specs.Shape.{WellFormedTable}
 use Rattle.files.specs.declared.Cursor.{Cursor}
 use Rattle.places.specs.Order.{place_count}
 use Rattle.checker.specs.Slices.{Slices}
 use Rattle.checker.specs.Moves.{CanMove, Moves}
-use Rattle.checker.specs.declared.Grant.TheVariants.{Refused}
 use Rattle.checker.specs.declared.SliceAnswer.{SliceAnswer}
 use Rattle.checker.specs.declared.SliceAnswer.TheVariants as answer
 use Rattle.demands.specs.Verdicts.{Verdict, Gives, RightVerdict}
@@ -45,10 +46,10 @@ RunsEndInTime =
 -- So nothing is lost by passing over what was refused: in a run no slice that is given the newest cursor is refused. Nor is a move
 -- that is given it, if it can be made: the table has that leg, and its revision can rise.
 pub record RunsGoOn : Type 0 where
-  pub slice : (calls : List Call) (t : List ℕ) (latest : Call) (before : List Call) (budget k p : ℕ) (d : Cursor)
-      → Run calls t → without_refused calls ≡ latest ∷ before → Slices t (cursor_of latest) budget (answer.Refused k p d) → ⊥
-  pub move_leg : (calls : List Call) (t : List ℕ) (latest : Call) (before : List Call) (mv : Move) (k p : ℕ) (d : Cursor) (u : List ℕ)
-      → Run calls t → without_refused calls ≡ latest ∷ before → CanMove t mv → Moves t (cursor_of latest) mv (Refused k p d) u → ⊥
+  pub slice : (calls : List Call) (t : List ℕ) (latest : Call) (before : List Call) (budget : ℕ) (e : Refusal) (d : Cursor)
+      → Run calls t → without_refused calls ≡ latest ∷ before → Slices t (cursor_of latest) budget (answer.Refused e d) → ⊥
+  pub move_leg : (calls : List Call) (t : List ℕ) (latest : Call) (before : List Call) (mv : Move) (r : Returned) (u : List ℕ)
+      → Run calls t → without_refused calls ≡ latest ∷ before → CanMove t mv → Moves t (cursor_of latest) mv (Err r) u → ⊥
 
 -- The table stays well-formed, so that no start of a run is refused.
 abbrev pub RunsKeepShape : Type 0

@@ -1,12 +1,11 @@
 -- Demand 3 for C: in every run of the calls on bytes each verdict is that of a whole check of the plan as it stands then, and a verdict comes in time.
-use Rattle.std.specs.Prelude.{ℕ, ◌+◌, ◌≤◌, ◌≡◌, List, [], ◌∷◌, ◌++◌, ◌⊎◌, length}
+use Rattle.std.specs.Prelude.{ℕ, ◌+◌, ◌≤◌, ◌≡◌, List, [], ◌∷◌, ◌++◌, ◌⊎◌, length, Ok}
 use Rattle.table.specs.Layout.{Sized}
 use Rattle.table.specs.declared.Move.{Move}
 use Rattle.files.specs.Reading.{IsFile}
 use Rattle.files.specs.Cursors.{ReadsCursor}
 use Rattle.files.specs.Theorems.{max_cursor_bytes}
 use Rattle.files.specs.declared.Cursor.{Cursor}
-use Rattle.files.specs.declared.CursorRead.TheVariants as read
 use Rattle.rules.specs.declared.Rule.{Rule}
 use Rattle.places.specs.Order.{place_count}
 use Rattle.checker.specs.Moves.{CanMove}
@@ -23,7 +22,7 @@ pub record TellsPlace (a : Answer) (out : List ℕ) (v : Verdict) : Type 0 where
   pub rule : Rule
   pub cursor : Cursor
   pub result : a.result ≡ rule_result rule
-  pub saved : ReadsCursor (saved_in out) (read.Saved cursor)
+  pub saved : ReadsCursor (saved_in out) (Ok cursor)
   pub is : v ≡ violated cursor.leg cursor.place rule
 
 -- The verdict that C is given by a slice: 0, or a rule with its place.

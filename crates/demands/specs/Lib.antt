@@ -13,3 +13,4 @@ pub mod DemandThreeForC
 pub mod AtNumbers
 pub mod CasesAsRuns
 pub mod HostAtNumbers
+pub mod Causes

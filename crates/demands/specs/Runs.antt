@@ -1,33 +1,32 @@
 -- Runs of the three calls (demand 3): a granted start followed by any mix of further starts, slices and moves, granted or refused, each slice and each
 -- move given any cursor handed out earlier in the run, the table changed by the run's moves alone. The steps are the public calls' own statements.
-use Rattle.std.specs.Prelude.{ℕ, ◌+◌, Bool, true, false, ◌≡◌, List, [], ◌∷◌, ◌⊎◌}
+use Rattle.std.specs.Prelude.{ℕ, ◌+◌, Bool, true, false, ◌≡◌, List, [], ◌∷◌, ◌⊎◌, Result, Ok, Err}
+use Rattle.files.specs.declared.Returned.{Returned}
 use Rattle.basics.specs.Pick.{pick}
 use Rattle.table.specs.declared.Move.{Move}
 use Rattle.files.specs.declared.Cursor.{Cursor}
 use Rattle.checker.specs.Slices.{Starts, Slices}
 use Rattle.checker.specs.Moves.{Moves}
-use Rattle.checker.specs.declared.Grant.{Grant}
-use Rattle.checker.specs.declared.Grant.TheVariants.{Granted, Refused}
 use Rattle.checker.specs.declared.SliceAnswer.{SliceAnswer}
 use Rattle.checker.specs.declared.SliceAnswer.TheVariants as answer
 use Rattle.demands.specs.Verdicts.{Verdict, Gives}
 
 -- A call and its answer: a start; a slice from a cursor with a budget; a move, given a cursor.
 pub data Call : Type 0 where
-  start : Grant → Call
+  start : Result Cursor Returned → Call
   slice : Cursor → ℕ → SliceAnswer → Call
-  move_leg : Cursor → Move → Grant → Call
+  move_leg : Cursor → Move → Result Cursor Returned → Call
 
 -- The cursor in an answer. Every one counts as handed out.
-abbrev pub cursor_of_grant : Grant → Cursor
-cursor_of_grant (Granted d) = d
-cursor_of_grant (Refused k p d) = d
+abbrev pub cursor_of_grant : Result Cursor Returned → Cursor
+cursor_of_grant (Ok d) = d
+cursor_of_grant (Err r) = r.cursor
 
 abbrev pub cursor_of_answer : SliceAnswer → Cursor
 cursor_of_answer (answer.Violated d n r) = d
 cursor_of_answer (answer.NothingViolated d n) = d
 cursor_of_answer (answer.Paused d n) = d
-cursor_of_answer (answer.Refused k p d) = d
+cursor_of_answer (answer.Refused f d) = d
 
 abbrev pub cursor_of : Call → Cursor
 cursor_of (start g) = cursor_of_grant g
@@ -41,8 +40,8 @@ HandedOut c (call ∷ earlier) = (c ≡ cursor_of call) ⊎ HandedOut c earlier
 
 -- A run begins with a granted start.
 abbrev pub Begins : List ℕ → Call → Type 0
-Begins t (start (Granted d)) = Starts t (Granted d)
-Begins t (start (Refused k p d)) = ⊥
+Begins t (start (Ok d)) = Starts t (Ok d)
+Begins t (start (Err d)) = ⊥
 Begins t (slice c budget r) = ⊥
 Begins t (move_leg c mv g) = ⊥
 
@@ -58,20 +57,20 @@ Run (move_leg c mv g ∷ call ∷ earlier) t = (u : List ℕ) × Run (call ∷ e
 abbrev pub Renews : Call → Type 0
 Renews (start g) = Unit {0}
 Renews (slice c budget r) = ⊥
-Renews (move_leg c mv (Granted d)) = Unit {0}
-Renews (move_leg c mv (Refused k p d)) = ⊥
+Renews (move_leg c mv (Ok d)) = Unit {0}
+Renews (move_leg c mv (Err d)) = ⊥
 
 -- A refused call. It changed nothing and gave back the cursor that it was given.
-abbrev pub not_granted : Grant → Bool
-not_granted (Granted d) = false
-not_granted (Refused k p d) = true
+abbrev pub not_granted : Result Cursor Returned → Bool
+not_granted (Ok d) = false
+not_granted (Err d) = true
 
 abbrev pub refused : Call → Bool
 refused (start g) = not_granted g
 refused (slice c budget (answer.Violated d n r)) = false
 refused (slice c budget (answer.NothingViolated d n)) = false
 refused (slice c budget (answer.Paused d n)) = false
-refused (slice c budget (answer.Refused k p d)) = true
+refused (slice c budget (answer.Refused f d)) = true
 refused (move_leg c mv g) = not_granted g
 
 -- The calls without the refused ones, which are passed over: whatever cursor they were given, they count for nothing.

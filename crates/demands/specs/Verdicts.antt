@@ -17,7 +17,7 @@ abbrev pub Gives : SliceAnswer → Verdict → Type 0
 Gives (answer.Violated d n r) v = v ≡ violated d.leg d.place r
 Gives (answer.NothingViolated d n) v = v ≡ nothing_violated
 Gives (answer.Paused d n) v = ⊥
-Gives (answer.Refused k p d) v = ⊥
+Gives (answer.Refused f d) v = ⊥
 
 -- (a,p) is the first violated place of table t.
 pub record FirstViolated (t : List ℕ) (a p : ℕ) : Type 0 where
