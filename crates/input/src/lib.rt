@@ -2,9 +2,9 @@
 // and to end. Why a plan file is refused is said on standard error.
 #![tactic(auto)]
 
-ghost use Rattle.std.specs.Prelude.{◌≡◌, ◌≤◌, length, IfOk, IfSome};
+ghost use Rattle.std.specs.Prelude.{◌≤◌, length};
 
-use files::PlanRead;
+use basics::Refusal;
 use std::env::{Env, FillError};
 use std::io;
 use std::io::{Read, Write};
@@ -19,37 +19,26 @@ const EINVAL: i32 = 22;
 
 const ENAMETOOLONG: i32 = 36;
 
-// What standard input gives: as many words of a table, a refusal's number and position, or that it cannot be read.
-#[derive(Clone, Copy)]
-pub enum Given {
-    Words(usize),
-    Refused(u32, usize),
-    Unread,
-}
-
-fn read_in<E: Write>(err: &mut E, bytes: &[u8], words: &mut [u32]) -> Given {
-    let read = files::read_plan(bytes, words);
-    match read {
-        PlanRead::Words(n) => Given::Words(n),
-        PlanRead::Refused(number, at) => {
-            reasons::file::why(err, bytes, number, at);
-            Given::Refused(number, at)
+/// Reads the plan on standard input into lent words: the words of its table, or why it is refused, which is said on standard error too. The outer error: standard
+/// input cannot be read.
+pub fn given_plan<'a, R: Input, E: Write>(
+    rt: &R,
+    err: &mut E,
+    words: &'a mut [u32],
+) -> io::Result<Result<&'a [u32], Refusal>> {
+    let mut room = [0u8; PLAN_ROOM];
+    let bytes = standard(rt, &mut room)?;
+    match files::read_plan(bytes, words) {
+        Ok(n) => Ok(Ok(&words[..n])),
+        Err(refusal) => {
+            reasons::file::why(err, bytes, refusal);
+            Ok(Err(refusal))
         }
     }
 }
 
-// Internal: reads the plan on standard input.
-pub fn given_plan<R: Input, E: Write>(rt: &R, err: &mut E, words: &mut [u32]) -> Given {
-    let mut bytes = [0u8; PLAN_ROOM];
-    let read = standard(rt, &mut bytes);
-    match read {
-        Ok(n) => read_in(err, &bytes[..n], words),
-        Err(_) => Given::Unread,
-    }
-}
-
-// Internal: reads until the buffer is full, the input ends or a read fails, and answers how many bytes that is.
-pub fn read_full<R: Read>(input: &mut R, buffer: &mut [u8]) -> usize
+// Reads until the buffer is full, the input ends or a read fails, and returns how many bytes that is.
+fn read_full<R: Read>(input: &mut R, buffer: &mut [u8]) -> usize
     ensures { result ≤ length buffer.new }
 {
     let mut done: usize = 0;
@@ -67,59 +56,47 @@ pub fn read_full<R: Read>(input: &mut R, buffer: &mut [u8]) -> usize
     done.min(buffer.len())
 }
 
-// Internal: n again, where n bytes, read for a buffer with that much room, are all there is or all that is asked for. A read that failed is not taken for
-// the end: after the end, and only then, a further read gives 0.
-pub fn whole<R: Read>(input: &mut R, n: usize, room: usize) -> Result<usize, io::Error>
-    ensures { IfOk result (λ m. m ≡ n) }
-{
+// Whether the n bytes that were read for a buffer with that much room are all there is, or all that is asked for. A read that failed is not taken for the end: after
+// the end, and only then, a further read gives 0.
+fn ends<R: Read>(input: &mut R, n: usize, room: usize) -> io::Result<()> {
     if n < room {
         let mut more = [0u8; 1];
-        return match input.read(&mut more) {
-            Ok(0) => Ok(n),
-            Ok(_) => Err(io::Error::from_raw_os_error(0)),
-            Err(e) => Err(e),
+        return match input.read(&mut more)? {
+            0 => Ok(()),
+            _ => Err(io::Error::from_raw_os_error(0)),
         };
     }
-    Ok(n)
+    Ok(())
 }
 
-// Internal: whether it is so.
-pub fn is_whole<R: Read>(input: &mut R, n: usize, room: usize) -> bool {
-    let told = whole(input, n, room);
-    match told {
-        Ok(_) => true,
-        Err(_) => false,
-    }
+/// Reads to the end, or as much as there is room for, and returns what was read.
+pub fn whole<'a, R: Read>(input: &mut R, buffer: &'a mut [u8]) -> io::Result<&'a [u8]> {
+    let n = read_full(input, buffer);
+    ends(input, n, buffer.len())?;
+    Ok(&buffer[..n])
 }
 
-// Internal: reads standard input into a buffer, to its end or as much as there is room for.
-pub fn standard<R: Input>(rt: &R, buffer: &mut [u8]) -> Result<usize, io::Error>
-    ensures { IfOk result (λ n. n ≤ length buffer.new) }
-{
-    let mut input = rt.reader();
-    let n = read_full(&mut input, buffer);
-    whole(&mut input, n, buffer.len())
+/// Reads standard input into a buffer, to its end or as much as there is room for.
+pub fn standard<'a, R: Input>(rt: &R, buffer: &'a mut [u8]) -> io::Result<&'a [u8]> {
+    whole(&mut rt.reader(), buffer)
 }
 
-// Internal: the same, where a read that fails is taken for the end.
-pub fn standard_part<R: Input>(rt: &R, buffer: &mut [u8]) -> usize
-    ensures { result ≤ length buffer.new }
-{
-    read_full(&mut rt.reader(), buffer)
+/// The same, where a read that fails is taken for the end.
+pub fn standard_part<'a, R: Input>(rt: &R, buffer: &'a mut [u8]) -> &'a [u8] {
+    let n = read_full(&mut rt.reader(), buffer);
+    &buffer[..n]
 }
 
-// Internal: puts an argument at the start of a buffer, and answers how many bytes it has. Where it is missing or too long, that is said of it by its name.
-pub fn argument<R: Env, E: Write>(
+/// Puts an argument at the start of a buffer and returns it. Where it is missing or too long, that is said of it by its name.
+pub fn argument<'a, R: Env, E: Write>(
     rt: &R,
     err: &mut E,
     i: usize,
-    room: &mut [u8],
+    room: &'a mut [u8],
     what: &[u8],
-) -> Option<usize>
-    ensures { IfSome result (λ n. n ≤ length room.new) }
-{
+) -> Option<&'a [u8]> {
     let why = match rt.arg(i, room) {
-        Ok(n) => return Some(n),
+        Ok(n) => return Some(&room[..n]),
         Err(FillError::NotPresent) => EINVAL,
         Err(FillError::TooLong) => ENAMETOOLONG,
     };
@@ -127,27 +104,21 @@ pub fn argument<R: Env, E: Write>(
     None
 }
 
-// Internal: the same, and 0 where it is missing or too long.
-pub fn argument_or_nothing<R: Env>(rt: &R, i: usize, room: &mut [u8]) -> usize
-    ensures { result ≤ length room.new }
-{
+/// The same, and nothing where it is missing or too long.
+pub fn argument_or_nothing<'a, R: Env>(rt: &R, i: usize, room: &'a mut [u8]) -> &'a [u8] {
     match rt.arg(i, room) {
-        Ok(n) => n,
-        Err(_) => 0,
+        Ok(n) => &room[..n],
+        Err(_) => &[],
     }
 }
 
-// Internal: whether there is such an argument.
+/// Whether there is such an argument.
 pub fn has_argument<R: Env>(rt: &R, i: usize) -> bool {
     let mut room = [0u8; 1];
-    match rt.arg(i, &mut room) {
-        Ok(_) => true,
-        Err(FillError::NotPresent) => false,
-        Err(FillError::TooLong) => true,
-    }
+    !matches!(rt.arg(i, &mut room), Err(FillError::NotPresent))
 }
 
-// Internal: the time in whole seconds, and -1 where the clock gives none.
+/// The time in whole seconds, and -1 where the clock gives none.
 pub fn seconds<R: Clock>(rt: &R) -> i64 {
     let Ok(now) = SystemTime::now(rt) else {
         return -1;

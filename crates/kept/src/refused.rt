@@ -1,63 +1,69 @@
 // Why a cursor or a move is refused, 8 to 11: one sentence on standard error.
 use files::Cursor;
 use reasons::records::header_word;
-use reasons::{line, small};
+use reasons::report;
 use std::io::Write;
 use table::Move;
 
 // The last place of a leg. No leg is without one.
-fn last_place(a: usize) -> u32 {
+fn last_place(leg: u32) -> usize {
+    let a = leg as usize;
     if a < table::MAX_LEGS {
-        return small(std::num::wrapping_sub_usize(places::places_of(a), 1));
+        return places::places_of(a) - 1;
     }
     0
 }
 
-// Internal: why a cursor is refused.
+/// Says why a cursor is refused.
 pub fn why<E: Write>(err: &mut E, t: &[u32], c: Cursor) {
     let revision = header_word(t, table::REVISION_AT);
-    if c.revision != revision {
-        line(
-            err,
-            b"the cursor belongs to revision #, but the plan has revision #",
-            &[c.revision, revision],
-        );
-        return;
-    }
     let legs = header_word(t, table::LEGS_AT);
-    if c.leg < legs {
-        line(
+    let Cursor { leg, place, .. } = c;
+    if c.revision != revision {
+        report(
             err,
-            b"the cursor is at leg #, place #, but leg # has the places 0 to #",
-            &[c.leg, c.place, c.leg, last_place(table::wide(c.leg))],
+            format_args!(
+                "the cursor belongs to revision {}, but the plan has revision {revision}",
+                c.revision,
+            ),
         );
-        return;
+    } else if leg < legs {
+        let last = last_place(leg);
+        report(
+            err,
+            format_args!(
+                "the cursor is at leg {leg}, place {place}, but leg {leg} has the places 0 to {last}"
+            ),
+        );
+    } else {
+        report(
+            err,
+            format_args!(
+                "the cursor is at leg {leg}, place {place}, but the plan ends at leg {legs}, place 0"
+            ),
+        );
     }
-    line(
-        err,
-        b"the cursor is at leg #, place #, but the plan ends at leg #, place 0",
-        &[c.leg, c.place, legs],
-    );
 }
 
-// Internal: why a move is refused with 10 or 11.
+/// Says why a move is refused with 10 or 11.
 pub fn why_move<E: Write>(err: &mut E, t: &[u32], mv: Move) {
+    let revision = header_word(t, table::REVISION_AT);
     let legs = header_word(t, table::LEGS_AT);
-    if mv.leg < legs {
-        line(
+    let leg = mv.leg;
+    if leg < legs {
+        report(
             err,
-            b"the plan has revision #, the last one: no move is possible",
-            &[header_word(t, table::REVISION_AT)],
+            format_args!("the plan has revision {revision}, the last one: no move is possible"),
         );
-        return;
+    } else if legs == 0 {
+        report(
+            err,
+            format_args!("there is no leg {leg}: the plan has no legs"),
+        );
+    } else {
+        report(
+            err,
+            format_args!("there is no leg {leg}: legs are 0 to {}", legs - 1),
+        );
     }
-    if legs == 0 {
-        line(err, b"there is no leg #: the plan has no legs", &[mv.leg]);
-        return;
-    }
-    line(
-        err,
-        b"there is no leg #: legs are 0 to #",
-        &[mv.leg, legs - 1],
-    );
 }

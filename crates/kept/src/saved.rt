@@ -1,10 +1,8 @@
 // The saved cursor, and what was last seen of its plan beside it.
-use crate::ours;
-use basics::Holds;
+use crate::Check;
+use basics::Refusal;
 use durable::FileRead;
-use files::{Cursor, CursorRead, CursorWritten};
-use numbers::Written;
-use seen::Of;
+use files::Cursor;
 use show::answers;
 use show::answers::Part;
 use std::io;
@@ -16,301 +14,170 @@ const CURSOR_ROOM: usize = files::MAX_CURSOR_BYTES + 1;
 
 pub(crate) const SEEN_ROOM: usize = seen::MAX_SEEN_BYTES + 1;
 
-// A cursor file: its cursor, a refusal's number and position, that there is none, or that it cannot be read.
-#[derive(Clone, Copy)]
-pub enum Saved {
+// The ending of the copy of the plan beside a cursor.
+const SEEN: &[u8] = b".seen";
+
+// A cursor file: its cursor, why it is none, that there is no file, or that it cannot be read.
+#[derive(Clone, Copy, Debug, PartialEq, Eq)]
+pub(crate) enum Saved {
     At(Cursor),
-    Refused(u32, usize),
+    NoCursor(Refusal),
     Missing,
     Failed,
 }
 
-fn read_in(bytes: &[u8], n: usize) -> Saved {
-    if bytes.len() < n {
-        return Saved::Failed;
-    }
-    let read = files::read_cursor(&bytes[0..n]);
-    match read {
-        CursorRead::Saved(c) => Saved::At(c),
-        CursorRead::Refused(number, at) => Saved::Refused(number, at),
-    }
-}
-
-pub(crate) fn found<R: Files, E: Write>(rt: &R, err: &mut E, path: &[u8]) -> Saved {
-    let mut bytes = [0u8; CURSOR_ROOM];
-    let read = durable::file(rt, err, path, &mut bytes);
-    match read {
-        FileRead::Bytes(n) => read_in(&bytes, n),
-        FileRead::Missing => Saved::Missing,
-        FileRead::Failed => Saved::Failed,
-    }
-}
-
-// Internal: the cursor to go on with. Where it is missing or refused, that is said or is the answer, which is written.
-pub fn cursor<R: Files, O: Write, E: Write>(
-    rt: &R,
-    out: &mut O,
-    err: &mut E,
-    path: &[u8],
-) -> io::Result<Saved> {
-    let at = found(rt, err, path);
-    match at {
-        Saved::At(c) => Ok(Saved::At(c)),
-        Saved::Refused(number, position) => {
-            ours::no_cursor(err, path);
-            answers::unread(out, number, position, Part::Foreign)?;
-            Ok(Saved::Failed)
-        }
-        Saved::Missing => {
-            ours::missing(err, path);
-            Ok(Saved::Failed)
-        }
-        Saved::Failed => Ok(Saved::Failed),
-    }
-}
-
-// Whether what was kept is of this edition of the rules, or is no copy at all. Where it is of another one, that is the answer, and it is written.
-fn present_in<O: Write>(out: &mut O, kept: &[u8], revision: u32) -> io::Result<bool> {
-    let of = seen::edition_of(kept);
-    if let Of::Edition(edition) = of {
-        if edition != rules::EDITION {
-            answers::other_edition(out, edition, revision)?;
-            return Ok(false);
-        }
-    }
-    Ok(true)
-}
-
-// Internal: whether the cursor was not saved under another edition of the rules. Where it was, that is the answer, and it is written.
-pub fn is_present<R: Files, O: Write, E: Write>(
-    rt: &R,
-    out: &mut O,
-    err: &mut E,
-    path: &[u8],
-    revision: u32,
-) -> io::Result<bool> {
-    let mut bytes = [0u8; SEEN_ROOM];
-    let read = seen_file(rt, err, path, &mut bytes);
-    match read {
-        FileRead::Missing => Ok(true),
-        FileRead::Failed => Ok(false),
-        FileRead::Bytes(n) => {
-            if bytes.len() < n {
-                return Ok(false);
-            }
-            present_in(out, &bytes[0..n], revision)
-        }
-    }
-}
-
-// Whether the plan is one that was last seen, under this edition of the rules. Where it is not, that is the answer, and it is written; and it is said where the copy is
-// none.
-fn known_in<O: Write, E: Write>(
-    out: &mut O,
-    err: &mut E,
-    path: &[u8],
-    bytes: &[u8],
-    n: usize,
-    plan: &[u8],
-    revision: u32,
-) -> io::Result<bool> {
-    if bytes.len() < n {
-        return Ok(false);
-    }
-    let told = seen::known(&bytes[0..n], rules::EDITION, plan);
-    match told {
-        Holds::Yes => Ok(true),
-        Holds::No => {
-            if ours::is_copy(err, path, &bytes[0..n]) {
-                answers::unknown(out, b"changed", revision, b"changed")?;
-            } else {
-                answers::unknown(out, b"changed", revision, b"damaged")?;
-            }
-            Ok(false)
-        }
-    }
-}
-
-// Reads a file beside a cursor, by its ending.
-pub(crate) fn file_beside<R: Files, E: Write>(
-    rt: &R,
-    err: &mut E,
-    path: &[u8],
-    ending: &[u8],
-    bytes: &mut [u8],
-) -> FileRead {
-    let mut name = [0u8; 4096];
-    let n = durable::ended(path, ending, &mut name);
-    durable::file(rt, err, &name[..n], bytes)
-}
-
-// Reads the copy beside a cursor.
-pub(crate) fn seen_file<R: Files, E: Write>(
-    rt: &R,
-    err: &mut E,
-    path: &[u8],
-    bytes: &mut [u8],
-) -> FileRead {
-    file_beside(rt, err, path, b".seen", bytes)
-}
-
-// Internal: whether the plan is one that was last seen with the cursor. Where it is not, that is the answer, and it is written.
-pub fn is_known<R: Files, O: Write, E: Write>(
-    rt: &R,
-    out: &mut O,
-    err: &mut E,
-    path: &[u8],
-    plan: &[u8],
-    revision: u32,
-) -> io::Result<bool> {
-    let mut bytes = [0u8; SEEN_ROOM];
-    let read = seen_file(rt, err, path, &mut bytes);
-    match read {
-        FileRead::Bytes(n) => known_in(out, err, path, &bytes, n, plan, revision),
-        FileRead::Missing => {
-            answers::unknown(out, b"unseen", revision, b"unseen")?;
-            Ok(false)
-        }
-        FileRead::Failed => Ok(false),
-    }
-}
-
-fn knows_in(bytes: &[u8], n: usize, edition: u32, plan: &[u8]) -> bool {
-    if bytes.len() < n {
-        return false;
-    }
-    let told = seen::known(&bytes[0..n], edition, plan);
-    match told {
-        Holds::Yes => true,
-        Holds::No => false,
-    }
-}
-
-// Whether the plan is one of those in a file beside a cursor, by its ending, under this edition. Nothing is answered.
-pub(crate) fn knows<R: Files, E: Write>(
-    rt: &R,
-    err: &mut E,
-    path: &[u8],
-    ending: &[u8],
-    edition: u32,
-    plan: &[u8],
-) -> bool {
-    let mut bytes = [0u8; SEEN_ROOM];
-    let read = file_beside(rt, err, path, ending, &mut bytes);
-    match read {
-        FileRead::Bytes(n) => knows_in(&bytes, n, edition, plan),
-        FileRead::Missing => false,
-        FileRead::Failed => false,
-    }
-}
-
-// Internal: whether a cursor is at the end of a plan of that revision and with so many legs.
+/// Whether a cursor is at the end of a plan of that revision and with so many legs.
 pub fn is_end(c: Cursor, revision: u32, legs: usize) -> bool {
-    if c.revision != revision {
-        return false;
-    }
-    if table::wide(c.leg) != legs {
-        return false;
-    }
-    c.place == 0
+    c.revision == revision && c.leg as usize == legs && c.place == 0
 }
 
-// Internal: whether the saved cursor is at the end of this very plan, which was last seen with it. A cursor that is missing, refused or not of this plan is not.
-pub fn has_ended<R: Files, E: Write>(
-    rt: &R,
-    err: &mut E,
-    path: &[u8],
-    plan: &[u8],
-    revision: u32,
-    legs: usize,
-) -> bool {
-    let at = found(rt, err, path);
-    let Saved::At(c) = at else {
-        return false;
-    };
-    if !is_end(c, revision, legs) {
-        return false;
-    }
-    knows(rt, err, path, b".seen", rules::EDITION, plan)
-}
-
-// Internal: writes the cursor beside its file.
-pub fn cursor_beside<R: Files, E: Write>(rt: &R, err: &mut E, path: &[u8], c: Cursor) -> bool {
-    let mut bytes = [0u8; files::MAX_CURSOR_BYTES];
-    let written = files::write_cursor(c, &mut bytes);
-    match written {
-        CursorWritten::Bytes(n) => {
-            if bytes.len() < n {
-                return false;
-            }
-            durable::write_beside(rt, err, path, &bytes[0..n], b"", b"")
+impl<'a, R: Files, O: Write, E: Write> Check<'a, R, O, E> {
+    pub(crate) fn found(&mut self) -> Saved {
+        let mut room = [0u8; CURSOR_ROOM];
+        match durable::file(self.rt, self.err, self.cursor, &mut room) {
+            FileRead::Bytes(bytes) => match files::read_cursor(bytes) {
+                Ok(c) => Saved::At(c),
+                Err(refusal) => Saved::NoCursor(refusal),
+            },
+            FileRead::Missing => Saved::Missing,
+            FileRead::Failed => Saved::Failed,
         }
-        CursorWritten::Refused(_, _, _) => false,
     }
-}
 
-fn fronted_beside<R: Files, E: Write>(
-    rt: &R,
-    err: &mut E,
-    name: &[u8],
-    front: &[u8],
-    n: usize,
-    plan: &[u8],
-    other: &[u8],
-) -> bool {
-    if front.len() < n {
-        return false;
+    /// The cursor to go on with. Where it is missing or refused, that is said or is the answer, which is written.
+    pub fn cursor(&mut self) -> io::Result<Option<Cursor>> {
+        match self.found() {
+            Saved::At(c) => return Ok(Some(c)),
+            Saved::NoCursor(refusal) => {
+                self.no_cursor();
+                answers::unread(self.out, refusal, Part::Foreign)?;
+            }
+            Saved::Missing => self.no_file(),
+            Saved::Failed => {}
+        }
+        Ok(None)
     }
-    durable::write_beside(rt, err, name, &front[0..n], plan, other)
-}
 
-// Writes a copy under this edition beside its file, which has this ending: a plan, and another one or nothing.
-pub(crate) fn copy_beside<R: Files, E: Write>(
-    rt: &R,
-    err: &mut E,
-    path: &[u8],
-    ending: &[u8],
-    edition: u32,
-    plan: &[u8],
-    other: &[u8],
-) -> bool {
-    let mut name = [0u8; 4096];
-    let n = durable::ended(path, ending, &mut name);
-    let mut front = [0u8; seen::MAX_FRONT_BYTES];
-    if files::MAX_FILE_BYTES < plan.len() {
-        return false;
+    // Reads a file beside the cursor, by its ending.
+    pub(crate) fn file_beside<'b>(&mut self, ending: &[u8], buffer: &'b mut [u8]) -> FileRead<'b> {
+        let mut room = [0u8; 4096];
+        let path = durable::ended(self.cursor, ending, &mut room);
+        durable::file(self.rt, self.err, path, buffer)
     }
-    let written = seen::write_front(edition, plan.len() as u32, &mut front);
-    match written {
-        Written::Bytes(m) => fronted_beside(rt, err, &name[..n], &front, m, plan, other),
-        Written::Refused(_, _) => false,
+
+    // Reads the copy beside the cursor.
+    pub(crate) fn seen_file<'b>(&mut self, buffer: &'b mut [u8]) -> FileRead<'b> {
+        self.file_beside(SEEN, buffer)
     }
-}
 
-// Gives what was written beside a copy its name.
-pub(crate) fn put_copy_in_place<R: Files, E: Write>(
-    rt: &R,
-    err: &mut E,
-    path: &[u8],
-    ending: &[u8],
-) -> bool {
-    let mut name = [0u8; 4096];
-    let n = durable::ended(path, ending, &mut name);
-    durable::put_in_place(rt, err, &name[..n])
-}
+    /// Whether the cursor was not saved under another edition of the rules. Where it was, that is the answer, and it is written.
+    pub fn is_present(&mut self, revision: u32) -> io::Result<bool> {
+        let mut room = [0u8; SEEN_ROOM];
+        match self.seen_file(&mut room) {
+            FileRead::Missing => Ok(true),
+            FileRead::Failed => Ok(false),
+            FileRead::Bytes(kept) => match seen::edition_of(kept) {
+                Some(edition) if edition != rules::EDITION => {
+                    answers::other_edition(self.out, edition, revision)?;
+                    Ok(false)
+                }
+                _ => Ok(true),
+            },
+        }
+    }
 
-// Internal: writes what is seen beside its file: a plan, and the other of a move or nothing.
-pub fn seen_beside<R: Files, E: Write>(
-    rt: &R,
-    err: &mut E,
-    path: &[u8],
-    plan: &[u8],
-    other: &[u8],
-) -> bool {
-    copy_beside(rt, err, path, b".seen", rules::EDITION, plan, other)
-}
+    /// Whether the plan is one that was last seen with the cursor, under this edition of the rules. Where it is not, that is the answer, and it is written; and it is
+    /// said where the copy is none.
+    pub fn is_known(&mut self, plan: &[u8], revision: u32) -> io::Result<bool> {
+        let mut room = [0u8; SEEN_ROOM];
+        match self.seen_file(&mut room) {
+            FileRead::Bytes(kept) => {
+                if seen::known(kept, rules::EDITION, plan) {
+                    return Ok(true);
+                }
+                let next: &[u8] = if self.is_copy(kept) {
+                    b"changed"
+                } else {
+                    b"damaged"
+                };
+                answers::unknown(self.out, b"changed", revision, next)?;
+            }
+            FileRead::Missing => answers::unknown(self.out, b"unseen", revision, b"unseen")?,
+            FileRead::Failed => {}
+        }
+        Ok(false)
+    }
 
-// Internal: gives what was written beside the copy its name.
-pub fn put_seen_in_place<R: Files, E: Write>(rt: &R, err: &mut E, path: &[u8]) -> bool {
-    put_copy_in_place(rt, err, path, b".seen")
+    // Whether the plan is one of those in a file beside the cursor, by its ending, under this edition. Nothing is answered.
+    pub(crate) fn knows(&mut self, ending: &[u8], edition: u32, plan: &[u8]) -> bool {
+        let mut room = [0u8; SEEN_ROOM];
+        match self.file_beside(ending, &mut room) {
+            FileRead::Bytes(kept) => seen::known(kept, edition, plan),
+            FileRead::Missing | FileRead::Failed => false,
+        }
+    }
+
+    /// Whether the saved cursor is at the end of this very plan, which was last seen with it. A cursor that is missing, refused or not of this plan is not.
+    pub fn has_ended(&mut self, plan: &[u8], revision: u32, legs: usize) -> bool {
+        match self.found() {
+            Saved::At(c) if is_end(c, revision, legs) => self.knows(SEEN, rules::EDITION, plan),
+            _ => false,
+        }
+    }
+
+    /// Writes a cursor beside its file.
+    pub fn write_cursor_beside(&mut self, c: Cursor) -> bool {
+        let mut room = [0u8; files::MAX_CURSOR_BYTES];
+        match files::write_cursor(c, &mut room) {
+            Ok(n) => durable::write_beside(self.rt, self.err, self.cursor, &[&room[..n]]),
+            Err(_) => false,
+        }
+    }
+
+    /// Gives what was written beside the cursor its name.
+    pub fn put_cursor_in_place(&mut self) -> bool {
+        durable::put_in_place(self.rt, self.err, self.cursor)
+    }
+
+    /// Removes the cursor.
+    pub fn remove_cursor(&mut self) -> bool {
+        durable::remove(self.rt, self.err, self.cursor)
+    }
+
+    // Writes a copy under this edition beside its file, which has this ending: a plan, and another one or nothing.
+    pub(crate) fn write_copy_beside(
+        &mut self,
+        ending: &[u8],
+        edition: u32,
+        plan: &[u8],
+        other: &[u8],
+    ) -> bool {
+        if files::MAX_FILE_BYTES < plan.len() {
+            return false;
+        }
+        let mut front = [0u8; seen::MAX_FRONT_BYTES];
+        let Ok(n) = seen::write_front(edition, plan.len() as u32, &mut front) else {
+            return false;
+        };
+        let mut room = [0u8; 4096];
+        let path = durable::ended(self.cursor, ending, &mut room);
+        durable::write_beside(self.rt, self.err, path, &[&front[..n], plan, other])
+    }
+
+    // Gives what was written beside a copy its name.
+    pub(crate) fn put_copy_in_place(&mut self, ending: &[u8]) -> bool {
+        let mut room = [0u8; 4096];
+        let path = durable::ended(self.cursor, ending, &mut room);
+        durable::put_in_place(self.rt, self.err, path)
+    }
+
+    /// Writes what is seen beside its file: a plan, and the other of a move or nothing.
+    pub fn write_seen_beside(&mut self, plan: &[u8], other: &[u8]) -> bool {
+        self.write_copy_beside(SEEN, rules::EDITION, plan, other)
+    }
+
+    /// Gives what was written beside the copy its name.
+    pub fn put_seen_in_place(&mut self) -> bool {
+        self.put_copy_in_place(SEEN)
+    }
 }

@@ -18,20 +18,14 @@ pub fn to<W: Write>(to: W) -> Output<W> {
 
 // Whether an error is left to whoever writes: a pipe that nobody reads, and a write that a signal cut off, which is tried again.
 fn is_told(e: &io::Error) -> bool {
-    let kind = e.kind();
-    kind == ErrorKind::BrokenPipe || kind == ErrorKind::Interrupted
+    matches!(e.kind(), ErrorKind::BrokenPipe | ErrorKind::Interrupted)
 }
 
 impl<W: Write> Write for Output<W> {
     fn write(&mut self, buf: &[u8]) -> io::Result<usize> {
         match self.to.write(buf) {
-            Ok(n) => Ok(n),
-            Err(e) => {
-                if is_told(&e) {
-                    return Err(e);
-                }
-                Ok(buf.len())
-            }
+            Err(e) if !is_told(&e) => Ok(buf.len()),
+            told => told,
         }
     }
 

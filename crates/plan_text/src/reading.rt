@@ -1,101 +1,80 @@
-// A text read into a draft, a line at a time.
-use crate::{
-    FIRST_WRONG_AT, LINE_AT, RECORDS_AT, SILENT_AT, WRONG_AT, faults, get, raise, records, set,
-};
-use lines::words::{are_same, has_control, word};
+//! A text read into a draft, a line at a time.
+use crate::draft::Draft;
+use crate::fault::Fault;
+use crate::records::{Above, Reader};
+use lines::words::has_control;
+use std::alloc::{AllocError, Global};
+use std::io;
 use std::io::Write;
 
-// The record of a line that has one.
-fn with_record<E: Write>(err: &mut E, text: &[u8], start: usize, line: &[u8], draft: &mut [u32]) {
-    let kind = word(line, 0);
-    if are_same(kind, b"leg") {
-        records::leg(err, text, line, draft);
-        return;
-    }
-    if are_same(kind, b"stream") {
-        records::stream(err, text, start, line, draft);
-        return;
-    }
-    if are_same(kind, b"link") {
-        records::link(err, text, start, line, draft);
-        return;
-    }
-    if are_same(kind, b"node") {
-        records::node(err, text, start, line, draft);
-        return;
-    }
-    if are_same(kind, b"plan") {
-        records::plan(err, line, draft);
-        return;
-    }
-    if are_same(kind, b"rest") {
-        records::rest(err, line, draft);
-        return;
-    }
-    faults::word(
-        err,
-        draft,
-        kind,
-        b" is no record: expected plan, node, link, stream, leg or rest",
-    );
+/// How many lines of a text are wrong, and the first of them, counted from 1.
+#[derive(Clone, Copy, Debug, PartialEq, Eq)]
+pub struct WrongLines {
+    pub count: u32,
+    pub first: u32,
 }
 
-fn with_line<E: Write>(err: &mut E, text: &[u8], start: usize, line: &[u8], draft: &mut [u32]) {
-    raise(draft, LINE_AT);
-    if word(line, 0).len() == 0 {
-        return;
-    }
-    if has_control(line) {
-        faults::word(
-            err,
-            draft,
-            line,
-            b" has a control byte, which no screen shows: expected none",
-        );
-        return;
-    }
-    with_record(err, text, start, line, draft);
-    raise(draft, RECORDS_AT);
-}
-
-fn clear(draft: &mut [u32]) {
-    let mut i: usize = 0;
-    while i < crate::DRAFT_WORDS {
-        set(draft, i, 0);
-        i = i + 1;
+/// What is read of a line: what stands before a comment, or before a carriage return at its end.
+fn content(line: &[u8]) -> &[u8] {
+    match line.iter().position(|byte| *byte == b'#') {
+        Some(end) => &line[..end],
+        None => line.strip_suffix(b"\r").unwrap_or(line),
     }
 }
 
-// Where the first line begins: after the mark that some editors put there, which no screen shows.
-fn beginning(text: &[u8]) -> usize {
-    let plain = lines::without_mark(text);
-    if plain.len() < text.len() {
-        return 3;
-    }
-    0
+fn words_of<'t>(alloc: Global, line: &'t [u8]) -> Result<Vec<&'t [u8]>, AllocError> {
+    line.split(|byte| *byte == b' ' || *byte == b'\t')
+        .filter(|word| !word.is_empty())
+        .collect(alloc)
 }
 
-fn mark(silent: bool) -> u32 {
-    if silent {
-        return 1;
+impl<'t> Reader<'t> {
+    fn line(&mut self, alloc: Global, line: &'t [u8]) -> Result<(), Fault<'t>> {
+        let words = words_of(alloc, line)?;
+        if words.is_empty() {
+            return Ok(());
+        }
+        if has_control(line) {
+            return Err(Fault::Word(
+                line,
+                " has a control byte, which no screen shows: expected none",
+            ));
+        }
+        let read = self.record(&words);
+        self.is_begun = true;
+        read
     }
-    0
 }
 
-// Internal: reads a text into a draft, and answers how many lines are wrong. What is wrong with each is said on standard error, unless nothing is to be said.
-pub fn read<E: Write>(err: &mut E, text: &[u8], silent: bool, draft: &mut [u32]) -> u32 {
-    clear(draft);
-    set(draft, SILENT_AT, mark(silent));
-    let mut start = beginning(text);
-    while start < text.len() {
-        let end = lines::line_end(text, start);
-        with_line(err, text, start, lines::content(text, start, end), draft);
-        start = end + 1;
+/// Reads a text into a draft, or answers which lines are wrong. What is wrong with each is said on the writer.
+pub fn read<'t, E: Write>(
+    alloc: Global,
+    err: &mut E,
+    text: &'t [u8],
+) -> io::Result<Result<Draft<'t>, WrongLines>> {
+    let mut reader = Reader {
+        draft: Draft::empty(alloc),
+        above: Above::Nothing,
+        is_begun: false,
+    };
+    let mut wrong = WrongLines { count: 0, first: 0 };
+    let mut number: u32 = 0;
+    for line in lines::without_mark(text).split(|byte| *byte == b'\n') {
+        number = number.wrapping_add(1);
+        match reader.line(alloc, content(line)) {
+            Ok(()) => {}
+            Err(Fault::NoMemory) => return Err(io::Error::from(AllocError)),
+            Err(fault) => {
+                if wrong.count == 0 {
+                    wrong.first = number;
+                }
+                wrong.count = wrong.count.wrapping_add(1);
+                let _ = fault.say(err, number);
+            }
+        }
     }
-    get(draft, WRONG_AT)
-}
-
-// Internal: the first line that is wrong, or 0.
-pub fn first_wrong(draft: &[u32]) -> u32 {
-    get(draft, FIRST_WRONG_AT)
+    if wrong.count == 0 {
+        return Ok(Ok(reader.draft));
+    }
+    Ok(Err(wrong))
 }

@@ -1,520 +1,390 @@
-// The records: what each line adds to the draft. A record with a fault in its fields is added all the same, so that no line below it is found wrong for that.
-use crate::nodes::Node;
-use crate::routes::Found;
-use crate::{
-    BELOW_AT, RECORDS_AT, faults, fields, get, leg_at, link_at, nodes, raise, routes, set,
-    stream_at, stream_name_at,
-};
-use decimal::Decimal;
-use lines::words::{are_same, count, part_of, word};
-use std::io::Write;
+//! The records: what each line adds to the draft. A record with a fault in its fields is added all the same, so that no line below it is found wrong for that.
+use crate::draft::{Between, Draft, NamedStream, Node, count};
+use crate::fault::Fault;
+use crate::fields::{Fields, Record, needs};
+use decimal::DecimalError;
+use table::{Leg, Link, Stream};
 
-// What stands above a leg: nothing, a stream that counts its legs, a stream that says how many it has, or the rest.
-const NOTHING: u32 = 0;
+const ARROW: &[u8] = b"->";
 
-const COUNTING: u32 = 1;
-
-const COUNTED: u32 = 2;
-
-const REST: u32 = 3;
-
-// No node of a line so far: a number that no name gets by its order.
-const NO_NODE: u32 = 4294967295;
-
-pub(crate) fn plan<E: Write>(err: &mut E, line: &[u8], draft: &mut [u32]) {
-    if get(draft, RECORDS_AT) != 0 {
-        faults::word(
-            err,
-            draft,
-            word(line, 0),
-            b" stands below other records: expected it once, as the first",
-        );
-        return;
-    }
-    if !fields::read(err, line, 1, fields::PLAN, draft) {
-        return;
-    }
-    let precision = fields::value(draft, fields::PRECISION);
-    if table::MAX_PRECISION < table::wide(precision) {
-        faults::numbers(
-            err,
-            draft,
-            b"the precision is #ns: expected at most 1ms",
-            &[precision],
-        );
-        return;
-    }
-    let revision = fields::value(draft, fields::REVISION);
-    set(draft, table::REVISION_AT, revision);
-    set(draft, table::PRECISION_AT, precision);
+/// What stands above a leg: nothing, a stream that counts its legs, a stream that says how many it has, or the rest.
+#[derive(Clone, Copy, Debug, PartialEq, Eq)]
+pub(crate) enum Above {
+    Nothing,
+    Counting,
+    Counted,
+    Rest,
 }
 
-pub(crate) fn node<E: Write>(
-    err: &mut E,
-    text: &[u8],
-    start: usize,
-    line: &[u8],
-    draft: &mut [u32],
-) {
-    if 3 < count(line) {
-        faults::word(
-            err,
-            draft,
-            word(line, 3),
-            b" is one word too many: expected node NAME NUMBER",
-        );
-        return;
+/// A draft that is being read.
+#[derive(Drop)]
+pub(crate) struct Reader<'t> {
+    pub(crate) draft: Draft<'t>,
+    pub(crate) above: Above,
+    /// Whether a record has been read.
+    pub(crate) is_begun: bool,
+}
+
+/// The word of an index, or nothing.
+fn word<'t>(words: &[&'t [u8]], i: usize) -> &'t [u8] {
+    words.get(i).copied().unwrap_or(&[])
+}
+
+/// Whether a word begins with a digit, as a number does and no name.
+fn is_numeral(word: &[u8]) -> bool {
+    word.first().is_some_and(|byte| byte.is_ascii_digit())
+}
+
+/// Refuses a word that may not be a name.
+fn judge_name(word: &[u8]) -> Result<(), Fault<'_>> {
+    if word.is_empty() {
+        return Err(Fault::Line("the line ends where a name or a number is expected"));
     }
-    nodes::declared(err, text, start, line, draft);
-}
-
-// ---- Links
-
-fn add_link<E: Write>(err: &mut E, draft: &mut [u32], from: u32, to: u32) {
-    let i = get(draft, table::LINKS_AT);
-    if table::MAX_LINKS <= table::wide(i) {
-        faults::numbers(
-            err,
-            draft,
-            b"one link too many: expected at most # links",
-            &[table::MAX_LINKS as u32],
-        );
-        return;
+    if word == ARROW {
+        return Err(Fault::Word(word, " is no name: expected a name or a number"));
     }
-    let rate = fields::value(draft, fields::RATE);
-    let propagation = fields::value(draft, fields::PROPAGATION);
-    let at = link_at(i);
-    set(draft, at, from);
-    set(draft, at + 1, to);
-    set(draft, at + 2, rate);
-    set(draft, at + 3, propagation);
-    raise(draft, table::LINKS_AT);
-}
-
-fn between<E: Write>(err: &mut E, line: &[u8], from: u32, to: u32, draft: &mut [u32]) {
-    link_fields(err, line, draft);
-    add_link(err, draft, from, to);
-}
-
-fn link_fields<E: Write>(err: &mut E, line: &[u8], draft: &mut [u32]) -> bool {
-    if !fields::read(err, line, 4, fields::LINK, draft) {
-        return false;
+    if crate::MAX_NAME < word.len() {
+        return Err(Fault::Word(word, " is too long: expected a name of at most 64 bytes"));
     }
-    fields::needs(
-        err,
-        draft,
-        fields::RATE,
-        b"the link has no rate: expected one, as in rate 100M",
-    )
+    Ok(())
 }
 
-// Whether the word between two nodes is an arrow.
-fn has_arrow<E: Write>(err: &mut E, line: &[u8], draft: &mut [u32], forms: &[u8]) -> bool {
-    let stood = word(line, 2);
-    if are_same(stood, b"->") {
-        return true;
-    }
-    faults::word(err, draft, stood, forms);
-    false
-}
-
-pub(crate) fn link<E: Write>(
-    err: &mut E,
-    text: &[u8],
-    start: usize,
-    line: &[u8],
-    draft: &mut [u32],
-) {
-    if !has_arrow(
-        err,
-        line,
-        draft,
-        b" stands where -> is expected: link FROM -> TO rate RATE propagation TIME",
-    ) {
-        return;
-    }
-    let first = nodes::met(err, text, start, line, 1, NO_NODE, draft);
-    let Node::Number(from) = first else {
-        return;
-    };
-    let second = nodes::met(err, text, start, line, 3, from, draft);
-    let Node::Number(to) = second else {
-        return;
-    };
-    between(err, line, from, to, draft);
-}
-
-// ---- Streams
-
-// The name of a stream, or nothing.
-pub(crate) fn stream_name<'a>(text: &'a [u8], draft: &[u32], i: u32) -> &'a [u8] {
-    let at = stream_name_at(i);
-    nodes::part(text, get(draft, at), get(draft, at + 1))
-}
-
-fn stream_named(text: &[u8], draft: &[u32], name: &[u8]) -> u32 {
-    let streams = get(draft, table::STREAMS_AT);
-    let mut i: u32 = 0;
-    while i < streams {
-        if are_same(stream_name(text, draft, i), name) {
-            return i;
-        }
-        i = i + 1;
-    }
-    streams
-}
-
-// A number in the place of a name is that of this very stream.
-fn is_own_number<E: Write>(err: &mut E, draft: &mut [u32], stood: &[u8]) -> bool {
-    let own = get(draft, table::STREAMS_AT);
-    let read = decimal::read_decimal(stood);
-    if let Decimal::Value(n) = read {
-        if n == own {
-            return true;
+impl<'t> Reader<'t> {
+    /// Reads the words of a line, of which there is one at least.
+    pub(crate) fn record(&mut self, words: &[&'t [u8]]) -> Result<(), Fault<'t>> {
+        match word(words, 0) {
+            b"leg" => self.leg(words),
+            b"stream" => self.stream(words),
+            b"link" => self.link(words),
+            b"node" => self.node(words),
+            b"plan" => self.plan(words),
+            b"rest" => self.rest(words),
+            kind => Err(Fault::Word(
+                kind,
+                " is no record: expected plan, node, link, stream, leg or rest",
+            )),
         }
     }
-    faults::word_numbers(
-        err,
-        draft,
-        stood,
-        b" is not the number of this stream: expected #, or a name, which does not begin with a digit",
-        &[own],
-    );
-    false
+
+    fn plan(&mut self, words: &[&'t [u8]]) -> Result<(), Fault<'t>> {
+        if self.is_begun {
+            return Err(Fault::Word(
+                word(words, 0),
+                " stands below other records: expected it once, as the first",
+            ));
+        }
+        let mut fields = Fields::default();
+        fields.read(Record::Plan, words, 1)?;
+        let precision = fields.precision.unwrap_or(0);
+        if table::MAX_PRECISION < precision as usize {
+            return Err(Fault::Precision(precision));
+        }
+        self.draft.revision = fields.revision.unwrap_or(0);
+        self.draft.precision = precision;
+        Ok(())
+    }
+
+    // ---- Nodes
+
+    /// A line that declares a name: node NAME NUMBER.
+    fn node(&mut self, words: &[&'t [u8]]) -> Result<(), Fault<'t>> {
+        if let Some(more) = words.get(3) {
+            return Err(Fault::Word(more, " is one word too many: expected node NAME NUMBER"));
+        }
+        let name = word(words, 1);
+        if is_numeral(name) {
+            return Err(Fault::Word(
+                name,
+                " is no name: expected one that does not begin with a digit",
+            ));
+        }
+        judge_name(name)?;
+        let stood = word(words, 2);
+        match decimal::read_decimal(stood) {
+            Ok(number) => self.declare(name, number),
+            Err(DecimalError::Empty) => Err(Fault::Word(
+                name,
+                " has no number: expected node NAME NUMBER",
+            )),
+            Err(DecimalError::NoDigit(_) | DecimalError::TooLarge) => Err(Fault::Word(
+                stood,
+                " is no number of a node: expected 0 to 4294967295",
+            )),
+        }
+    }
+
+    fn declare(&mut self, name: &'t [u8], number: u32) -> Result<(), Fault<'t>> {
+        if let Some(node) = self.draft.node_named(name) {
+            return Err(Fault::NameOfNode(name, node.number));
+        }
+        if let Some(node) = self.draft.node_numbered(number) {
+            return Err(Fault::Named(
+                number,
+                node.name,
+                " already: expected one name for each node, and node lines above other uses of names",
+            ));
+        }
+        self.draft.name_node(Node {
+            name,
+            number,
+            is_declared: true,
+        })?;
+        Ok(())
+    }
+
+    /// The node of a number that stands for itself. Where a name got it by its order, it is not known which of the two is meant.
+    fn node_of_number(&self, stood: &'t [u8]) -> Result<u32, Fault<'t>> {
+        let Ok(number) = decimal::read_decimal(stood) else {
+            return Err(Fault::Word(
+                stood,
+                " is no node: expected a number from 0 to 4294967295, or a name, which does not begin with a digit",
+            ));
+        };
+        match self.draft.node_numbered(number) {
+            Some(node) if !node.is_declared => Err(Fault::Named(
+                number,
+                node.name,
+                ", by the order of the names: expected this name, or a line 'node NAME NUMBER' above its first use",
+            )),
+            _ => Ok(number),
+        }
+    }
+
+    /// The node that a word of a link is. A new name gets a number, past the one that the line has taken already.
+    fn met(&mut self, stood: &'t [u8], but: Option<u32>) -> Result<u32, Fault<'t>> {
+        if is_numeral(stood) {
+            return self.node_of_number(stood);
+        }
+        judge_name(stood)?;
+        if let Some(node) = self.draft.node_named(stood) {
+            return Ok(node.number);
+        }
+        let number = self.draft.take_lowest(but);
+        self.draft.name_node(Node {
+            name: stood,
+            number,
+            is_declared: false,
+        })
+    }
+
+    /// The node that a word of a leg is: one that is known.
+    fn known(&self, stood: &'t [u8]) -> Result<u32, Fault<'t>> {
+        if is_numeral(stood) {
+            return self.node_of_number(stood);
+        }
+        match self.draft.node_named(stood) {
+            Some(node) => Ok(node.number),
+            None => Err(Fault::Word(
+                stood,
+                " is no node so far: expected the ends of a link above",
+            )),
+        }
+    }
+
+    // ---- Links
+
+    fn link(&mut self, words: &[&'t [u8]]) -> Result<(), Fault<'t>> {
+        let arrow = word(words, 2);
+        if arrow != ARROW {
+            return Err(Fault::Word(
+                arrow,
+                " stands where -> is expected: link FROM -> TO rate RATE propagation TIME",
+            ));
+        }
+        let from = self.met(word(words, 1), None)?;
+        let to = self.met(word(words, 3), Some(from))?;
+        let mut fields = Fields::default();
+        let read = link_fields(&mut fields, words);
+        let added = self.add_link(Link {
+            from,
+            to,
+            rate: fields.rate.unwrap_or(0),
+            propagation: fields.propagation.unwrap_or(0),
+        });
+        read.and(added)
+    }
+
+    fn add_link(&mut self, link: Link) -> Result<(), Fault<'t>> {
+        if table::MAX_LINKS <= self.draft.links.len() {
+            return Err(Fault::TooMany("link", table::MAX_LINKS));
+        }
+        self.draft.links.push(link)?;
+        Ok(())
+    }
+
+    // ---- Streams
+
+    fn stream(&mut self, words: &[&'t [u8]]) -> Result<(), Fault<'t>> {
+        if table::MAX_STREAMS <= self.draft.streams.len() {
+            return Err(Fault::TooMany("stream", table::MAX_STREAMS));
+        }
+        let mut fields = Fields::default();
+        let mut name = None;
+        let read = self.stream_line(&mut name, &mut fields, words);
+        self.above = match fields.legs {
+            Some(_) => Above::Counted,
+            None => Above::Counting,
+        };
+        // Its first leg is the next one, unless it is given; its legs are counted, unless they are.
+        let record = Stream {
+            period: fields.period.unwrap_or(0),
+            deadline: fields.deadline.unwrap_or(0),
+            octets: fields.octets.unwrap_or(0),
+            first: fields.first.unwrap_or(count(self.draft.legs.len())),
+            count: fields.legs.unwrap_or(0),
+        };
+        self.draft.streams.push(NamedStream { name, record })?;
+        read
+    }
+
+    fn stream_line(
+        &self,
+        name: &mut Option<&'t [u8]>,
+        fields: &mut Fields,
+        words: &[&'t [u8]],
+    ) -> Result<(), Fault<'t>> {
+        *name = self.name_of_stream(word(words, 1))?;
+        fields.read(Record::Stream, words, 2)?;
+        needs(
+            fields.period,
+            "the stream has no period: expected period, deadline and octets",
+        )?;
+        needs(
+            fields.deadline,
+            "the stream has no deadline: expected period, deadline and octets",
+        )?;
+        needs(
+            fields.octets,
+            "the stream has no octets: expected period, deadline and octets",
+        )
+    }
+
+    /// The name of the next stream. A number in its place is that of this very stream.
+    fn name_of_stream(&self, stood: &'t [u8]) -> Result<Option<&'t [u8]>, Fault<'t>> {
+        if is_numeral(stood) {
+            let own = count(self.draft.streams.len());
+            return match decimal::read_decimal(stood) {
+                Ok(n) if n == own => Ok(None),
+                _ => Err(Fault::NotOwnNumber(stood, own)),
+            };
+        }
+        judge_name(stood)?;
+        match self.draft.stream_named(stood) {
+            Some(other) => Err(Fault::NameOfStream(stood, other)),
+            None => Ok(Some(stood)),
+        }
+    }
+
+    fn rest(&mut self, words: &[&'t [u8]]) -> Result<(), Fault<'t>> {
+        if let Some(more) = words.get(1) {
+            return Err(Fault::Word(
+                more,
+                " is one word too many: expected rest alone, and legs below it",
+            ));
+        }
+        self.above = Above::Rest;
+        Ok(())
+    }
+
+    // ---- Legs
+
+    fn leg(&mut self, words: &[&'t [u8]]) -> Result<(), Fault<'t>> {
+        if self.above == Above::Nothing {
+            return Err(Fault::Word(
+                word(words, 0),
+                " stands below no stream: expected a stream above, or rest",
+            ));
+        }
+        let mut fields = Fields::default();
+        match self.route(words) {
+            Ok(link) => {
+                let read = self.leg_fields(&mut fields, words);
+                let added = self.add_leg(link, &fields);
+                read.and(added)
+            }
+            // A leg that is on no link counts too.
+            Err(fault) => {
+                self.count_leg(0, &fields)?;
+                Err(fault)
+            }
+        }
+    }
+
+    /// The link of a leg, by its ends or its number.
+    fn route(&self, words: &[&'t [u8]]) -> Result<u32, Fault<'t>> {
+        let second = word(words, 2);
+        if second == ARROW {
+            return self.link_between(word(words, 1), word(words, 3));
+        }
+        match (word(words, 1), decimal::read_decimal(second)) {
+            (b"link", Ok(link)) => Ok(link),
+            (b"link", _) => Err(Fault::Word(
+                second,
+                " is no number of a link: expected 0 to 4294967295",
+            )),
+            _ => Err(Fault::Word(
+                second,
+                " stands where -> is expected: leg FROM -> TO offset TIME, or leg link NUMBER offset TIME",
+            )),
+        }
+    }
+
+    fn link_between(&self, from: &'t [u8], to: &'t [u8]) -> Result<u32, Fault<'t>> {
+        let first = self.known(from)?;
+        let second = self.known(to)?;
+        match self.draft.between(first, second) {
+            Between::One(link) => Ok(link),
+            Between::None => Err(Fault::NoLink(from, to)),
+            Between::Several => Err(Fault::ManyLinks(from, to)),
+        }
+    }
+
+    fn leg_fields(&self, fields: &mut Fields, words: &[&'t [u8]]) -> Result<(), Fault<'t>> {
+        // They begin after the two ends, or after the number of the link.
+        let from = if word(words, 2) == ARROW { 4 } else { 3 };
+        fields.read(Record::Leg, words, from)?;
+        needs(
+            fields.offset,
+            "the leg has no offset: expected one, as in offset 1176ns",
+        )?;
+        if self.above == Above::Rest {
+            needs(
+                fields.stream,
+                "the leg stands below rest and names no stream: expected one, as in stream 4",
+            )?;
+        }
+        Ok(())
+    }
+
+    fn add_leg(&mut self, link: u32, fields: &Fields) -> Result<(), Fault<'t>> {
+        if table::MAX_LEGS <= self.draft.legs.len() {
+            return Err(Fault::TooMany("leg", table::MAX_LEGS));
+        }
+        self.count_leg(link, fields)
+    }
+
+    /// Adds a leg, and counts it at the stream above, which is its own unless another is given.
+    fn count_leg(&mut self, link: u32, fields: &Fields) -> Result<(), Fault<'t>> {
+        let above = count(self.draft.streams.len()).wrapping_sub(1);
+        self.draft.legs.push(Leg {
+            stream: fields.stream.unwrap_or(above),
+            link,
+            offset: fields.offset.unwrap_or(0),
+            periods: fields.periods.unwrap_or(0),
+        })?;
+        if self.above == Above::Counting {
+            if let Some(stream) = self.draft.streams.last_mut() {
+                stream.record.count = stream.record.count.wrapping_add(1);
+            }
+        }
+        Ok(())
+    }
 }
 
-// Keeps the name of the next stream.
-fn name_stream<E: Write>(
-    err: &mut E,
-    text: &[u8],
-    start: usize,
-    line: &[u8],
-    draft: &mut [u32],
-) -> bool {
-    let stood = word(line, 1);
-    if nodes::is_numeral(stood) {
-        return is_own_number(err, draft, stood);
-    }
-    if !nodes::is_name(err, draft, stood) {
-        return false;
-    }
-    let own = get(draft, table::STREAMS_AT);
-    let other = stream_named(text, draft, stood);
-    if other < own {
-        faults::word_numbers(
-            err,
-            draft,
-            stood,
-            b" is stream # already: expected each name for one stream",
-            &[other],
-        );
-        return false;
-    }
-    keep_name(draft, own, start, line);
-    true
-}
-
-fn keep_name(draft: &mut [u32], i: u32, start: usize, line: &[u8]) {
-    let p = part_of(line, 1);
-    let at = stream_name_at(i);
-    set(
-        draft,
-        at,
-        reasons::small(std::num::wrapping_add_usize(start, p.start)),
-    );
-    set(
-        draft,
-        at + 1,
-        reasons::small(std::num::wrapping_add_usize(start, p.end)),
-    );
-}
-
-fn stream_fields<E: Write>(err: &mut E, line: &[u8], draft: &mut [u32]) -> bool {
-    if !fields::read(err, line, 2, fields::STREAM, draft) {
-        return false;
-    }
-    if !fields::needs(
-        err,
-        draft,
-        fields::PERIOD,
-        b"the stream has no period: expected period, deadline and octets",
-    ) {
-        return false;
-    }
-    if !fields::needs(
-        err,
-        draft,
-        fields::DEADLINE,
-        b"the stream has no deadline: expected period, deadline and octets",
-    ) {
-        return false;
-    }
-    fields::needs(
-        err,
-        draft,
-        fields::OCTETS,
-        b"the stream has no octets: expected period, deadline and octets",
+fn link_fields<'t>(fields: &mut Fields, words: &[&'t [u8]]) -> Result<(), Fault<'t>> {
+    fields.read(Record::Link, words, 4)?;
+    needs(
+        fields.rate,
+        "the link has no rate: expected one, as in rate 100M",
     )
-}
-
-// Its first leg is the next one, unless it is given; its legs are counted, unless they are.
-fn add_stream(draft: &mut [u32]) {
-    let i = get(draft, table::STREAMS_AT);
-    let period = fields::value(draft, fields::PERIOD);
-    let deadline = fields::value(draft, fields::DEADLINE);
-    let octets = fields::value(draft, fields::OCTETS);
-    let legs = fields::value(draft, fields::LEGS);
-    let at = stream_at(i);
-    set(draft, at, period);
-    set(draft, at + 1, deadline);
-    set(draft, at + 2, octets);
-    set(draft, at + 3, first_leg(draft));
-    set(draft, at + 4, legs);
-    raise(draft, table::STREAMS_AT);
-    set(draft, BELOW_AT, below(draft));
-}
-
-fn below(draft: &[u32]) -> u32 {
-    if fields::is_given(draft, fields::LEGS) {
-        return COUNTED;
-    }
-    COUNTING
-}
-
-fn first_leg(draft: &[u32]) -> u32 {
-    if fields::is_given(draft, fields::FIRST) {
-        return fields::value(draft, fields::FIRST);
-    }
-    get(draft, table::LEGS_AT)
-}
-
-pub(crate) fn stream<E: Write>(
-    err: &mut E,
-    text: &[u8],
-    start: usize,
-    line: &[u8],
-    draft: &mut [u32],
-) {
-    if table::MAX_STREAMS <= table::wide(get(draft, table::STREAMS_AT)) {
-        faults::numbers(
-            err,
-            draft,
-            b"one stream too many: expected at most # streams",
-            &[table::MAX_STREAMS as u32],
-        );
-        return;
-    }
-    read_stream(err, text, start, line, draft);
-    add_stream(draft);
-}
-
-fn read_stream<E: Write>(
-    err: &mut E,
-    text: &[u8],
-    start: usize,
-    line: &[u8],
-    draft: &mut [u32],
-) -> bool {
-    if !name_stream(err, text, start, line, draft) {
-        return false;
-    }
-    stream_fields(err, line, draft)
-}
-
-pub(crate) fn rest<E: Write>(err: &mut E, line: &[u8], draft: &mut [u32]) {
-    if 1 < count(line) {
-        faults::word(
-            err,
-            draft,
-            word(line, 1),
-            b" is one word too many: expected rest alone, and legs below it",
-        );
-        return;
-    }
-    set(draft, BELOW_AT, REST);
-}
-
-// ---- Legs
-
-// The link of a leg, or that the line is wrong, which was said.
-#[derive(Clone, Copy)]
-enum OfLeg {
-    By(u32),
-    Wrong,
-}
-
-fn said_no_link<E: Write>(
-    err: &mut E,
-    line: &[u8],
-    draft: &mut [u32],
-    before: &[u8],
-    after: &[u8],
-) -> OfLeg {
-    faults::two(
-        err,
-        draft,
-        before,
-        word(line, 1),
-        b" to ",
-        word(line, 3),
-        after,
-    );
-    OfLeg::Wrong
-}
-
-fn by_ends<E: Write>(err: &mut E, text: &[u8], line: &[u8], draft: &mut [u32]) -> OfLeg {
-    let first = nodes::known(err, text, word(line, 1), draft);
-    let Node::Number(from) = first else {
-        return OfLeg::Wrong;
-    };
-    let second = nodes::known(err, text, word(line, 3), draft);
-    let Node::Number(to) = second else {
-        return OfLeg::Wrong;
-    };
-    let found = routes::link_between(draft, from, to);
-    match found {
-        Found::One(i) => OfLeg::By(i),
-        Found::None => said_no_link(
-            err,
-            line,
-            draft,
-            b"no link goes from ",
-            b": expected the ends of a link above",
-        ),
-        Found::Several => said_no_link(
-            err,
-            line,
-            draft,
-            b"more than one link goes from ",
-            b": expected the number of one, as in leg link 7",
-        ),
-    }
-}
-
-fn by_number<E: Write>(err: &mut E, line: &[u8], draft: &mut [u32]) -> OfLeg {
-    let stood = word(line, 2);
-    let read = decimal::read_decimal(stood);
-    if let Decimal::Value(n) = read {
-        return OfLeg::By(n);
-    }
-    faults::word(
-        err,
-        draft,
-        stood,
-        b" is no number of a link: expected 0 to 4294967295",
-    );
-    OfLeg::Wrong
-}
-
-fn is_route(line: &[u8]) -> bool {
-    are_same(word(line, 2), b"->")
-}
-
-fn route<E: Write>(err: &mut E, text: &[u8], line: &[u8], draft: &mut [u32]) -> OfLeg {
-    if is_route(line) {
-        return by_ends(err, text, line, draft);
-    }
-    if are_same(word(line, 1), b"link") {
-        return by_number(err, line, draft);
-    }
-    faults::word(
-        err,
-        draft,
-        word(line, 2),
-        b" stands where -> is expected: leg FROM -> TO offset TIME, or leg link NUMBER offset TIME",
-    );
-    OfLeg::Wrong
-}
-
-// Where the fields of a leg begin: after the two ends, or after the number of its link.
-fn fields_from(line: &[u8]) -> usize {
-    if is_route(line) {
-        return 4;
-    }
-    3
-}
-
-// The stream of a leg: the one that it stands below, unless it is given.
-fn stream_of(draft: &[u32]) -> u32 {
-    if fields::is_given(draft, fields::OF_STREAM) {
-        return fields::value(draft, fields::OF_STREAM);
-    }
-    std::num::wrapping_sub_u32(get(draft, table::STREAMS_AT), 1)
-}
-
-fn count_leg(draft: &mut [u32]) {
-    raise(draft, table::LEGS_AT);
-    count_above(draft);
-}
-
-fn count_above(draft: &mut [u32]) {
-    if get(draft, BELOW_AT) != COUNTING {
-        return;
-    }
-    let above = std::num::wrapping_sub_u32(get(draft, table::STREAMS_AT), 1);
-    raise(draft, stream_at(above) + 4);
-}
-
-fn add_leg<E: Write>(err: &mut E, draft: &mut [u32], link: u32) {
-    let i = get(draft, table::LEGS_AT);
-    if table::MAX_LEGS <= table::wide(i) {
-        faults::numbers(
-            err,
-            draft,
-            b"one leg too many: expected at most # legs",
-            &[table::MAX_LEGS as u32],
-        );
-        return;
-    }
-    let of = stream_of(draft);
-    let offset = fields::value(draft, fields::OFFSET);
-    let periods = fields::value(draft, fields::PERIODS);
-    let at = leg_at(i);
-    set(draft, at, of);
-    set(draft, at + 1, link);
-    set(draft, at + 2, offset);
-    set(draft, at + 3, periods);
-    count_leg(draft);
-}
-
-fn leg_fields<E: Write>(err: &mut E, line: &[u8], draft: &mut [u32]) -> bool {
-    if !fields::read(err, line, fields_from(line), fields::LEG, draft) {
-        return false;
-    }
-    if !fields::needs(
-        err,
-        draft,
-        fields::OFFSET,
-        b"the leg has no offset: expected one, as in offset 1176ns",
-    ) {
-        return false;
-    }
-    if get(draft, BELOW_AT) != REST {
-        return true;
-    }
-    fields::needs(
-        err,
-        draft,
-        fields::OF_STREAM,
-        b"the leg stands below rest and names no stream: expected one, as in stream 4",
-    )
-}
-
-pub(crate) fn leg<E: Write>(err: &mut E, text: &[u8], line: &[u8], draft: &mut [u32]) {
-    if get(draft, BELOW_AT) == NOTHING {
-        faults::word(
-            err,
-            draft,
-            word(line, 0),
-            b" stands below no stream: expected a stream above, or rest",
-        );
-        return;
-    }
-    let by = route(err, text, line, draft);
-    let OfLeg::By(link) = by else {
-        count_leg(draft);
-        return;
-    };
-    leg_fields(err, line, draft);
-    add_leg(err, draft, link);
 }

@@ -3,8 +3,6 @@
 // first in the order of its words is said.
 #![tactic(auto)]
 
-ghost use Rattle.std.specs.Prelude.{◌≤◌, length};
-
 use std::io::Write;
 use std::{fmt, io};
 
@@ -12,14 +10,19 @@ pub mod file;
 pub mod lists;
 mod names;
 pub mod records;
+pub mod said;
 
-// Internal: says something as it is.
-pub fn text<E: Write>(err: &mut E, bytes: &[u8]) {
-    let _ = err.write_all(bytes);
+// How an `io::Error` ends that has a number of the system.
+const NUMBERED: &str = " (os error ";
+
+/// Prints a sentence on a line of its own. What cannot be written is lost.
+pub fn report<E: Write, S: fmt::Display + Drop>(err: &mut E, sentence: S) {
+    let _ = writeln!(err, "conepalhui: {sentence}");
 }
 
-fn word<E: Write>(err: &mut E, w: u32) {
-    let _ = write!(err, "{w}");
+/// Prints something as it is.
+pub fn text<E: Write>(err: &mut E, bytes: &[u8]) {
+    let _ = err.write_all(bytes);
 }
 
 // A writer that leaves out the end " (os error N)" that an `io::Error` adds to the system's words.
@@ -31,18 +34,15 @@ struct Words<'a, E> {
 
 impl<E: Write> fmt::Write for Words<'_, E> {
     fn write_str(&mut self, s: &str) -> fmt::Result {
-        if self.is_over || s.starts_with(" (os error ") {
+        if self.is_over || s.starts_with(NUMBERED) {
             self.is_over = true;
             return Ok(());
         }
-        match self.to.write_all(s.as_bytes()) {
-            Ok(()) => Ok(()),
-            Err(_) => Err(fmt::Error),
-        }
+        self.to.write_all(s.as_bytes()).map_err(|_| fmt::Error)
     }
 }
 
-// Internal: says on a line what failed, as the caller names it, and the system's words for it.
+/// Prints on a line what failed, as the caller names it, and the system's words for it.
 pub fn fail<E: Write>(err: &mut E, what: &[u8], error: &io::Error) {
     text(err, what);
     text(err, b": ");
@@ -54,57 +54,34 @@ pub fn fail<E: Write>(err: &mut E, what: &[u8], error: &io::Error) {
     text(err, b"\n");
 }
 
-fn number<E: Write>(err: &mut E, numbers: &[u32], k: usize) {
-    if k < numbers.len() {
-        word(err, numbers[k]);
-    }
-}
-
-// Where the next gap of a sentence is, from a position on, or its end.
-pub(crate) fn gap_from(sentence: &[u8], start: usize) -> usize
-    requires { start ≤ length sentence.now }
-    ensures lower_bound { start ≤ result }
-    ensures upper_bound { result ≤ length sentence.now }
-{
-    let mut i = start;
-    while i < sentence.len() {
-        if sentence[i] == b'#' {
-            return i;
-        }
-        i = i + 1;
-    }
-    i
-}
-
-// Internal: says some words. Each # in them is a gap, for the next of the numbers; there are as many numbers as gaps.
+/// Prints some words. Each # in them is a gap, for the next of the numbers; there are as many numbers as gaps.
 pub fn say<E: Write>(err: &mut E, sentence: &[u8], numbers: &[u32]) {
-    let mut start: usize = 0;
-    let mut k: usize = 0;
-    while start < sentence.len() {
-        let end = gap_from(sentence, start);
-        text(err, &sentence[start..end]);
-        number(err, numbers, k);
-        k = std::num::wrapping_add_usize(k, 1);
-        start = end + 1;
+    let mut numbers = numbers.iter();
+    for words in sentence.split_inclusive(|byte| *byte == b'#') {
+        let Some(before_gap) = words.strip_suffix(b"#") else {
+            text(err, words);
+            continue;
+        };
+        text(err, before_gap);
+        if let Some(n) = numbers.next() {
+            let _ = write!(err, "{n}");
+        }
     }
 }
 
-// Internal: begins a line.
+/// Begins a line.
 pub fn begin<E: Write>(err: &mut E) {
     text(err, b"conepalhui: ");
 }
 
-// Internal: says a sentence on a line of its own.
+/// Prints a sentence with gaps on a line of its own.
 pub fn line<E: Write>(err: &mut E, sentence: &[u8], numbers: &[u32]) {
     begin(err);
     say(err, sentence, numbers);
     text(err, b"\n");
 }
 
-// Internal: a number that fits into a word.
+/// A number as a word, or the largest word where it is larger.
 pub fn small(n: usize) -> u32 {
-    if n <= 4294967295 {
-        return n as u32;
-    }
-    4294967295
+    u32::try_from(n).unwrap_or(u32::MAX)
 }

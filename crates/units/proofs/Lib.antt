@@ -1,3 +1,2 @@
 pub mod Scaling
-pub mod Telling
 pub mod OneAnswer

@@ -1,18 +1,16 @@
-// Times and rates as a person types them: digits with a unit, whole nanoseconds in the end.
+//! Times and rates as a person types them: digits with a unit. The answers are whole nanoseconds.
 #![tactic(auto)]
 
-ghost use Rattle.std.specs.Prelude.{◌≤◌, ◌<◌, ◌^◌, ◌≡◌};
+ghost use Rattle.std.specs.Prelude.{◌≤◌, ◌<◌, ◌^◌, ◌≡◌, IfSome, get_or, length};
 ghost use Rattle.units.specs.Rates.{OctetTime};
-ghost use Rattle.units.specs.Times.{ScaledTold, PlainTold, AfterTold, PointedTold, TimeTold};
+ghost use Rattle.units.specs.Times.{point_byte, NumberTold, ScaledTold, PlainTold, AfterTold, PointedTold, TimeTold};
 
-use decimal::Decimal;
-use lines::place_of;
-use lines::words::are_same;
+use decimal::DecimalError;
+use std::fmt;
 
-// A time read: so many ns; no unit at its end; no number before it; more than nine digits after the point; no whole number of ns; or more than a word holds.
-#[derive(Clone, Copy)]
-pub enum Time {
-    Ns(u32),
+/// Why a word is no time: no unit at its end; no number before the unit; more than nine digits after the point; no whole number of ns; more than a `u32` holds.
+#[derive(Clone, Copy, Debug, PartialEq, Eq)]
+pub enum TimeError {
     NoUnit,
     NoNumber,
     TooFine,
@@ -20,172 +18,152 @@ pub enum Time {
     TooLarge,
 }
 
-// The units: how many bytes each has, and how many ns it is.
-#[derive(Clone, Copy)]
+#[derive(Clone, Copy, Debug, PartialEq, Eq)]
 pub enum Unit {
     Nano,
     Micro,
-    MicroSign,
     Milli,
     Second,
-    Nothing,
 }
 
-pub const US: u64 = 1000;
+impl Unit {
+    /// How many ns the unit is.
+    pub fn ns(self) -> u32
+        ensures some { 0 < result }
+        ensures most { result ≤ 1000000000 }
+    {
+        match self {
+            Unit::Nano => 1,
+            Unit::Micro => 1_000,
+            Unit::Milli => 1_000_000,
+            Unit::Second => 1_000_000_000,
+        }
+    }
+}
 
-pub const MS: u64 = 1000000;
-
-pub const S: u64 = 1000000000;
+impl fmt::Display for Unit {
+    fn fmt<W: fmt::Write>(&self, f: &mut fmt::Formatter<W>) -> fmt::Result {
+        match self {
+            Unit::Nano => write!(f, "ns"),
+            Unit::Micro => write!(f, "us"),
+            Unit::Milli => write!(f, "ms"),
+            Unit::Second => write!(f, "s"),
+        }
+    }
+}
 
 // The most digits after a point.
 const MOST_DIGITS: usize = 9;
 
-fn ends_in(word: &[u8], ending: &[u8]) -> bool {
-    if word.len() < ending.len() {
-        return false;
+// A word without the unit at its end, and the unit. Micro may be written u, or by one of the two signs that look the same: C2 B5 and CE BC.
+fn split_unit(word: &[u8]) -> Option<(&[u8], Unit)> {
+    if let Some(number) = word.strip_suffix(b"ns") {
+        return Some((number, Unit::Nano));
     }
-    let at = word.len() - ending.len();
-    are_same(&word[at..], ending)
-}
-
-// The unit at the end of a word. Micro may be written u, or by one of the two signs that look the same: C2 B5 and CE BC.
-fn unit_of(word: &[u8]) -> Unit {
-    if ends_in(word, b"ns") {
-        return Unit::Nano;
+    if let Some(number) = word.strip_suffix(b"us") {
+        return Some((number, Unit::Micro));
     }
-    if ends_in(word, b"us") {
-        return Unit::Micro;
+    if let Some(number) = word.strip_suffix(b"\xC2\xB5s") {
+        return Some((number, Unit::Micro));
     }
-    if ends_in(word, b"\xC2\xB5s") {
-        return Unit::MicroSign;
+    if let Some(number) = word.strip_suffix(b"\xCE\xBCs") {
+        return Some((number, Unit::Micro));
     }
-    if ends_in(word, b"\xCE\xBCs") {
-        return Unit::MicroSign;
+    if let Some(number) = word.strip_suffix(b"ms") {
+        return Some((number, Unit::Milli));
     }
-    if ends_in(word, b"ms") {
-        return Unit::Milli;
+    if let Some(number) = word.strip_suffix(b"s") {
+        return Some((number, Unit::Second));
     }
-    if ends_in(word, b"s") {
-        return Unit::Second;
-    }
-    Unit::Nothing
-}
-
-// How many parts make a unit, if so many digits stand after the point.
-fn power(digits: usize) -> u64
-    requires { digits ≤ 9 }
-    ensures value { result ≡ 10 ^ digits }
-    ensures result_nonzero { 0 < result }
-{
-    let mut parts: u64 = 1;
-    let mut i: usize = 0;
-    while i < digits {
-        parts = parts * decimal::BASE;
-        i = i + 1;
-    }
-    parts
+    None
 }
 
 // What a number before a point and the digits after it are worth: the latter are parts of a unit, so many to a unit as scale says.
-fn scaled(a: u32, b: u32, scale: u64, unit: u64) -> Time
+fn scaled(a: u32, b: u32, scale: u64, unit: u64) -> Result<u32, TimeError>
     requires scale_nonzero { 0 < scale }
     requires unit_bound { unit ≤ 1000000000 }
     ensures { ScaledTold a b scale unit result }
 {
     let part = (b as u64) * unit;
     if part % scale != 0 {
-        return Time::NotWhole;
+        return Err(TimeError::NotWhole);
     }
     let ns = (a as u64) * unit + part / scale;
-    if decimal::MAX_WORD < ns {
-        return Time::TooLarge;
+    if ns > u32::MAX as u64 {
+        return Err(TimeError::TooLarge);
     }
-    Time::Ns(ns as u32)
+    Ok(ns as u32)
 }
 
-fn plain(digits: &[u8], unit: u64) -> Time
+// The number that digits are. What is said of digits worth more than a `u32` holds differs by where they are.
+fn number(digits: &[u8], too_large: TimeError) -> Result<u32, TimeError>
+    ensures { NumberTold digits.now result }
+{
+    match decimal::read_decimal(digits) {
+        Ok(n) => Ok(n),
+        Err(DecimalError::TooLarge) => Err(too_large),
+        Err(DecimalError::Empty | DecimalError::NoDigit(_)) => Err(TimeError::NoNumber),
+    }
+}
+
+fn plain(digits: &[u8], unit: u64) -> Result<u32, TimeError>
     requires { unit ≤ 1000000000 }
     ensures { PlainTold digits.now unit result }
 {
-    let read = decimal::read_decimal(digits);
-    match read {
-        Decimal::Value(a) => scaled(a, 0, 1, unit),
-        Decimal::TooLarge => Time::TooLarge,
-        Decimal::Empty => Time::NoNumber,
-        Decimal::NoDigit(_) => Time::NoNumber,
-    }
+    let a = number(digits, TimeError::TooLarge)?;
+    scaled(a, 0, 1, unit)
 }
 
-fn after_point(a: u32, digits: &[u8], unit: u64) -> Time
+fn after_point(a: u32, digits: &[u8], unit: u64) -> Result<u32, TimeError>
     requires { unit ≤ 1000000000 }
     ensures { AfterTold a digits.now unit result }
 {
-    if MOST_DIGITS < digits.len() {
-        return Time::TooFine;
+    if digits.len() > MOST_DIGITS {
+        return Err(TimeError::TooFine);
     }
-    let read = decimal::read_decimal(digits);
-    match read {
-        Decimal::Value(b) => scaled(a, b, power(digits.len()), unit),
-        Decimal::TooLarge => Time::TooFine,
-        Decimal::Empty => Time::NoNumber,
-        Decimal::NoDigit(_) => Time::NoNumber,
-    }
+    let b = number(digits, TimeError::TooFine)?;
+    scaled(a, b, 10u64.pow(digits.len() as u32), unit)
 }
 
-fn pointed(before: &[u8], after: &[u8], unit: u64) -> Time
+fn pointed(before: &[u8], after: &[u8], unit: u64) -> Result<u32, TimeError>
     requires { unit ≤ 1000000000 }
     ensures { PointedTold before.now after.now unit result }
 {
-    let read = decimal::read_decimal(before);
-    match read {
-        Decimal::Value(a) => after_point(a, after, unit),
-        Decimal::TooLarge => Time::TooLarge,
-        Decimal::Empty => Time::NoNumber,
-        Decimal::NoDigit(_) => Time::NoNumber,
-    }
+    let a = number(before, TimeError::TooLarge)?;
+    after_point(a, after, unit)
 }
 
-// What a number in a unit is worth. That the byte at the place of the point is one is looked at here, since place_of promises only where it is.
-fn with_unit(number: &[u8], unit: u64) -> Time
+// Where the first point is.
+fn point_of(text: &[u8]) -> Option<usize>
+    ensures { IfSome result (λ p. (p < length text.now) × (get_or text.now p 0 ≡ point_byte)) }
+{
+    for (i, byte) in text.iter().enumerate() {
+        if *byte == b'.' {
+            return Some(i);
+        }
+    }
+    None
+}
+
+// What a number in a unit is worth.
+fn with_unit(number: &[u8], unit: u64) -> Result<u32, TimeError>
     requires { unit ≤ 1000000000 }
     ensures { TimeTold number.now unit result }
 {
-    let point = place_of(number, 0, b'.');
-    if point == number.len() {
+    let Some(point) = point_of(number) else {
         return plain(number, unit);
-    }
-    if number[point] != b'.' {
-        return Time::NoNumber;
-    }
-    let next = point + 1;
-    pointed(&number[0..point], &number[next..], unit)
+    };
+    pointed(&number[..point], &number[point + 1..], unit)
 }
 
-fn before(word: &[u8], bytes: usize, unit: u64) -> Time
-    requires { unit ≤ 1000000000 }
-{
-    if word.len() < bytes {
-        return Time::NoUnit;
-    }
-    let end = word.len() - bytes;
-    with_unit(&word[0..end], unit)
+/// Internal: reads a time: digits, perhaps a point and at most nine digits, and a unit.
+pub fn read_time(word: &[u8]) -> Result<u32, TimeError> {
+    let (number, unit) = split_unit(word).ok_or(TimeError::NoUnit)?;
+    with_unit(number, unit.ns() as u64)
 }
 
-// Internal: reads a time: digits, perhaps a point and at most nine digits, and a unit.
-pub fn read_time(word: &[u8]) -> Time {
-    let unit = unit_of(word);
-    match unit {
-        Unit::Nano => before(word, 2, 1),
-        Unit::Micro => before(word, 2, US),
-        Unit::MicroSign => before(word, 3, US),
-        Unit::Milli => before(word, 2, MS),
-        Unit::Second => before(word, 1, S),
-        Unit::Nothing => Time::NoUnit,
-    }
-}
-
-// The rates that have a name: 10, 100 and 1,000 Mb/s.
-#[derive(Clone, Copy)]
+/// The rates that have a name: 10, 100 and 1,000 Mb/s.
+#[derive(Clone, Copy, Debug, PartialEq, Eq)]
 pub enum Named {
     Ten,
     Hundred,
@@ -203,59 +181,38 @@ fn octet(rate: Named) -> u32
     }
 }
 
-// Internal: reads a rate as ns per octet: 10M, 100M, 1G, or a time with /octet after it.
-pub fn read_rate(word: &[u8]) -> Time {
-    if are_same(word, b"1G") {
-        return Time::Ns(octet(Named::Thousand));
+/// Internal: reads a rate as ns per octet: 10M, 100M, 1G, or a time with /octet after it.
+pub fn read_rate(word: &[u8]) -> Result<u32, TimeError> {
+    match word {
+        b"1G" => Ok(octet(Named::Thousand)),
+        b"100M" => Ok(octet(Named::Hundred)),
+        b"10M" => Ok(octet(Named::Ten)),
+        _ => read_time(word.strip_suffix(b"/octet").ok_or(TimeError::NoUnit)?),
     }
-    if are_same(word, b"100M") {
-        return Time::Ns(octet(Named::Hundred));
-    }
-    if are_same(word, b"10M") {
-        return Time::Ns(octet(Named::Ten));
-    }
-    if !ends_in(word, b"/octet") {
-        return Time::NoUnit;
-    }
-    if word.len() < 6 {
-        return Time::NoUnit;
-    }
-    let end = word.len() - 6;
-    read_time(&word[0..end])
 }
 
-// A number and the unit in which it is whole.
-#[derive(Clone, Copy)]
+/// A number and the unit in which it is whole.
+#[derive(Clone, Copy, Debug, PartialEq, Eq)]
 pub struct Whole {
     pub number: u32,
     pub unit: Unit,
 }
 
-// Internal: a time in the largest unit in which it is whole. Nothing is 0 ns.
+impl fmt::Display for Whole {
+    fn fmt<W: fmt::Write>(&self, f: &mut fmt::Formatter<W>) -> fmt::Result {
+        write!(f, "{}{}", self.number, self.unit)
+    }
+}
+
+/// Internal: a time in the largest unit in which it is whole. Nothing is 0 ns.
 pub fn largest(ns: u32) -> Whole {
-    if ns == 0 {
-        return Whole {
-            number: 0,
-            unit: Unit::Nano,
-        };
-    }
-    if ns % 1000000000 == 0 {
-        return Whole {
-            number: ns / 1000000000,
-            unit: Unit::Second,
-        };
-    }
-    if ns % 1000000 == 0 {
-        return Whole {
-            number: ns / 1000000,
-            unit: Unit::Milli,
-        };
-    }
-    if ns % 1000 == 0 {
-        return Whole {
-            number: ns / 1000,
-            unit: Unit::Micro,
-        };
+    for unit in [Unit::Second, Unit::Milli, Unit::Micro] {
+        if ns != 0 && ns % unit.ns() == 0 {
+            return Whole {
+                number: ns / unit.ns(),
+                unit,
+            };
+        }
     }
     Whole {
         number: ns,

@@ -1,10 +1,8 @@
 -- A number as a person types it: a sign or none, and digits.
-use Rattle.std.specs.Prelude.{◌≡◌, ℕ, ◌<◌, Bool, true, false, List, drop, ◌≢◌, get_or}
+use Rattle.std.specs.Prelude.{◌≡◌, ℕ, ◌<◌, Bool, true, false, List, drop, ◌≢◌, get_or, Option, Some, None}
 use Rattle.decimal.specs.Decimal.{Typed, worth_of}
 use Rattle.wishes.specs.declared.number.Number.{Number}
 use Rattle.wishes.specs.declared.number.Number.TheVariants as number
-use Rattle.wishes.specs.declared.number.Worth.{Worth}
-use Rattle.wishes.specs.declared.number.Worth.TheVariants as worth
 
 -- The bytes of the signs.
 abbrev pub minus_sign : ℕ
@@ -18,9 +16,9 @@ abbrev pub max_size : ℕ
 max_size = 9223372036854775808
 
 -- What digits are worth, or that it is more than any number of 64 bits with a sign.
-abbrev pub WorthTold : List ℕ → Worth → Type 0
-WorthTold s (worth.Value v) = worth_of s ≡ v
-WorthTold s worth.Far = max_size < worth_of s
+abbrev pub WorthTold : List ℕ → Option ℕ → Type 0
+WorthTold s (Some v) = worth_of s ≡ v
+WorthTold s None = max_size < worth_of s
 
 -- Digits after a sign: their worth, with the sign; that it is too much; or that there are not digits alone.
 abbrev pub ReadsDigits : List ℕ → Bool → Number → Type 0

@@ -1,170 +1,134 @@
-// The forms of a line. They are told apart by the number of words and the second word, so that an event may have any word for its name.
+//! The forms of a line. They are told apart by the number of words and the words of the form, so that an event may have any word for its name.
 use crate::number;
 use crate::number::Number;
-use decimal::Decimal;
-use lines::place_of;
-use lines::words::{are_same, count, has_control, word};
+use decimal::DecimalError;
+use lines::words::{has_control, words};
+use std::alloc::{AllocError, Global};
 
-// What a line of a network says: nothing; the name of an event; that the first name minus the third word is at most a number, or the third word minus the
-// first name; or what is none of these.
+/// Internal: what a line of a network says: nothing; the name of an event; a constraint between two; or what is none of these.
 #[derive(Clone, Copy)]
-pub enum Wish {
+pub enum Wish<'a> {
     Nothing,
-    Event,
-    Most(i64),
-    Least(i64),
+    Event(&'a [u8]),
+    Constraint(Between<'a>),
     Wrong,
 }
 
-// What a line of a claim says: nothing; the first line of an answer; the time of an event, or one that has more than 64 bits; the line of a constraint; or what
-// is none of these.
+/// The time of the first event minus that of the second is at most a number, or the time of the second minus that of the first. A number that no constraint may have
+/// is one past the limit.
 #[derive(Clone, Copy)]
-pub enum Claim {
+pub struct Between<'a> {
+    pub first: &'a [u8],
+    pub second: &'a [u8],
+    pub is_turned: bool,
+    pub most: i64,
+    /// The number as it is in the text.
+    pub number: &'a [u8],
+}
+
+/// Internal: what a line of a claim says: nothing; the first line of an answer; the time of an event, or one that has more than 64 bits; the line of a constraint; or what
+/// is none of these.
+#[derive(Clone, Copy)]
+pub enum Claim<'a> {
     Nothing,
     Head,
-    Time(i64),
-    FarTime,
+    Time(&'a [u8], i64),
+    FarTime(&'a [u8]),
     Line(u32),
     Wrong,
 }
 
-// More than a constraint may have.
-const PAST_MOST: u64 = 1000000001;
+// One more than a constraint may have.
+const PAST_MOST: u64 = 1_000_000_001;
 
+// A number of that size or, if it is larger, one past the limit.
 fn limited(below: bool, size: u64) -> i64 {
-    if PAST_MOST < size {
-        return number::whole(below, PAST_MOST);
-    }
-    number::whole(below, size)
+    let most = size.min(PAST_MOST) as i64;
+    if below { -most } else { most }
 }
 
-fn bounded(sign: &[u8], below: bool, size: u64) -> Wish {
-    if are_same(sign, b"<=") {
-        return Wish::Most(limited(below, size));
-    }
-    if are_same(sign, b">=") {
-        return Wish::Least(limited(!below, size));
-    }
-    Wish::Wrong
+fn constraint<'a>(first: &'a [u8], second: &'a [u8], sign: &'a [u8], number: &'a [u8]) -> Wish<'a> {
+    let (below, size) = match number::read(number) {
+        Number::Value(below, size) => (below, size),
+        Number::Far(below) => (below, PAST_MOST),
+        Number::Wrong => return Wish::Wrong,
+    };
+    let is_turned = match sign {
+        b"<=" => false,
+        b">=" => true,
+        _ => return Wish::Wrong,
+    };
+    Wish::Constraint(Between {
+        first,
+        second,
+        is_turned,
+        most: limited(below != is_turned, size),
+        number,
+    })
 }
 
-fn constraint(line: &[u8]) -> Wish {
-    if !are_same(word(line, 1), b"-") {
-        return Wish::Wrong;
-    }
-    let number = number::read(word(line, 4));
-    match number {
-        Number::Value(below, size) => bounded(word(line, 3), below, size),
-        Number::Far(below) => bounded(word(line, 3), below, PAST_MOST),
-        Number::Wrong => Wish::Wrong,
-    }
-}
-
-// Internal: what a line of a network says. A number that no constraint may have is one past the limit.
-pub fn wish_in(line: &[u8]) -> Wish {
-    if has_control(line) {
-        return Wish::Wrong;
-    }
-    let words = count(line);
+fn wish_of<'a>(words: &[&'a [u8]]) -> Wish<'a> {
     match words {
-        0 => Wish::Nothing,
-        2 => {
-            if are_same(word(line, 0), b"event") {
-                return Wish::Event;
-            }
-            Wish::Wrong
-        }
-        5 => constraint(line),
+        [] => Wish::Nothing,
+        [b"event", name] => Wish::Event(name),
+        [first, b"-", second, sign, number] => constraint(first, second, sign, number),
         _ => Wish::Wrong,
     }
 }
 
+/// Internal: what a line of a network says.
+pub fn wish_in<'a>(alloc: Global, line: &'a [u8]) -> Result<Wish<'a>, AllocError> {
+    if has_control(line) {
+        return Ok(Wish::Wrong);
+    }
+    let words = words(alloc, line)?;
+    Ok(wish_of(&words))
+}
+
 fn is_number(word: &[u8]) -> bool {
-    let read = number::read(word);
-    match read {
-        Number::Value(_, _) => true,
-        Number::Far(_) => true,
-        Number::Wrong => false,
-    }
+    !matches!(number::read(word), Number::Wrong)
 }
 
-// Whether a line of a claim is the first one of an answer: times N, or chain L sum S.
-fn is_head(line: &[u8], words: usize) -> bool {
-    if !is_number(word(line, 1)) {
-        return false;
-    }
-    if words == 2 {
-        return are_same(word(line, 0), b"times");
-    }
-    if words != 4 {
-        return false;
-    }
-    if !are_same(word(line, 0), b"chain") {
-        return false;
-    }
-    if !are_same(word(line, 2), b"sum") {
-        return false;
-    }
-    is_number(word(line, 3))
-}
-
-fn timed(below: bool, size: u64) -> Claim {
-    if number::MAX_SIZE < size {
-        return Claim::FarTime;
-    }
-    if size < number::MAX_SIZE {
-        return Claim::Time(number::whole(below, size));
-    }
-    if below {
-        return Claim::Time(number::whole(below, size));
-    }
-    Claim::FarTime
-}
-
-fn time(line: &[u8]) -> Claim {
-    let number = number::read(word(line, 2));
-    match number {
-        Number::Value(below, size) => timed(below, size),
-        Number::Far(_) => Claim::FarTime,
+fn time<'a>(event: &'a [u8], number: &'a [u8]) -> Claim<'a> {
+    match number::read(number) {
+        Number::Value(below, size) => match number::signed_of(below, size) {
+            Some(time) => Claim::Time(event, time),
+            None => Claim::FarTime(number),
+        },
+        Number::Far(_) => Claim::FarTime(number),
         Number::Wrong => Claim::Wrong,
     }
 }
 
-// The line of a constraint, by the word that ends in a colon. No text has as many lines as a word has values.
-fn numbered(word: &[u8]) -> Claim {
-    let colon = place_of(word, 0, b':');
-    if colon == word.len() {
+// The line of a constraint, by the word that ends in a colon. No text has as many lines as a u32 has values.
+fn numbered<'a>(word: &[u8]) -> Claim<'a> {
+    let Some(colon) = word.iter().position(|byte| *byte == b':') else {
         return Claim::Wrong;
-    }
-    let read = decimal::read_decimal(&word[0..colon]);
-    match read {
-        Decimal::Value(n) => Claim::Line(n),
-        Decimal::Empty => Claim::Wrong,
-        Decimal::NoDigit(_) => Claim::Wrong,
-        Decimal::TooLarge => Claim::Line(4294967295),
+    };
+    match decimal::read_decimal(&word[..colon]) {
+        Ok(n) => Claim::Line(n),
+        Err(DecimalError::TooLarge) => Claim::Line(u32::MAX),
+        Err(DecimalError::Empty | DecimalError::NoDigit(_)) => Claim::Wrong,
     }
 }
 
-// Internal: what a line of a claim says.
-pub fn claim_in(line: &[u8]) -> Claim {
+// The first line of an answer is times N, or chain L sum S.
+fn claim_of<'a>(words: &[&'a [u8]]) -> Claim<'a> {
+    match words {
+        [] => Claim::Nothing,
+        [b"line", number, ..] => numbered(number),
+        [b"times", count] if is_number(count) => Claim::Head,
+        [b"chain", length, b"sum", sum] if is_number(length) && is_number(sum) => Claim::Head,
+        [b"time", event, number] => time(event, number),
+        _ => Claim::Wrong,
+    }
+}
+
+/// Internal: what a line of a claim says.
+pub fn claim_in<'a>(alloc: Global, line: &'a [u8]) -> Result<Claim<'a>, AllocError> {
     if has_control(line) {
-        return Claim::Wrong;
+        return Ok(Claim::Wrong);
     }
-    let words = count(line);
-    if words == 0 {
-        return Claim::Nothing;
-    }
-    if are_same(word(line, 0), b"line") {
-        return numbered(word(line, 1));
-    }
-    if is_head(line, words) {
-        return Claim::Head;
-    }
-    if words != 3 {
-        return Claim::Wrong;
-    }
-    if are_same(word(line, 0), b"time") {
-        return time(line);
-    }
-    Claim::Wrong
+    let words = words(alloc, line)?;
+    Ok(claim_of(&words))
 }

@@ -5,8 +5,8 @@ use Rattle.wishes.proofs.number.worth_of.Goals as goal
 pub returns-then-value-gt-ENOUGH : goal.returns-then-value-gt-ENOUGH
 returns-then-value-gt-ENOUGH c = search passing_far
 
-pub loop-i-preserved : goal.loop-i-preserved
-loop-i-preserved c = search passing_more
+pub loop-byte-preserved : goal.loop-byte-preserved
+loop-byte-preserved c = search passing_more
 
 pub returns : goal.returns
 returns c = search passing_ends

@@ -1,9 +1,0 @@
--- `plan_text::reading::read` is safe and ends: each line begins inside the text, or past its end. Assumes nothing.
-use Rattle.std.proofs.Common.{◌≡◌, ◌+◌, ◌-◌, length}
-use Rattle.plan_text.proofs.reading.read.Given as goal
-
-abbrev pub invariant-loop-start : goal.invariant-loop-start
-invariant-loop-start g l = length l.draft ≡ length l.initial.draft
-
-abbrev pub decreases-loop-start : goal.decreases-loop-start
-decreases-loop-start g l = length l.text + 1 - l.start

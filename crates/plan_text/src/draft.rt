@@ -1,0 +1,216 @@
+//! A draft: the records of a plan and the names of its nodes and streams.
+use crate::fault::Fault;
+use reasons::records;
+use std::alloc::{AllocError, Global};
+use std::io;
+use std::io::Write;
+use table::{Leg, Link, Stream};
+
+/// A node that has a name. The number is declared where a line of its own gave it.
+#[derive(Clone, Copy, Debug)]
+pub(crate) struct Node<'t> {
+    pub(crate) name: &'t [u8],
+    pub(crate) number: u32,
+    pub(crate) is_declared: bool,
+}
+
+/// A stream, and its name if it has one.
+#[derive(Clone, Copy)]
+pub(crate) struct NamedStream<'t> {
+    pub(crate) name: Option<&'t [u8]>,
+    pub(crate) record: Stream,
+}
+
+/// The links between two nodes.
+#[derive(Clone, Copy, Debug, PartialEq, Eq)]
+pub(crate) enum Between {
+    One(u32),
+    None,
+    Several,
+}
+
+/// A plan whose names lie in a text.
+#[derive(Drop)]
+pub struct Draft<'t> {
+    pub(crate) revision: u32,
+    pub(crate) precision: u32,
+    pub(crate) nodes: Vec<Node<'t>>,
+    pub(crate) links: Vec<Link>,
+    pub(crate) streams: Vec<NamedStream<'t>>,
+    pub(crate) legs: Vec<Leg>,
+    /// No number below it is free for a name.
+    lowest_free: u32,
+}
+
+/// A count as a word.
+pub(crate) fn count(n: usize) -> u32 {
+    u32::try_from(n).unwrap_or(u32::MAX)
+}
+
+impl<'t> Draft<'t> {
+    /// A draft with no record.
+    pub(crate) fn empty(alloc: Global) -> Draft<'t> {
+        Draft {
+            revision: 0,
+            precision: 0,
+            nodes: Vec::new(alloc),
+            links: Vec::new(alloc),
+            streams: Vec::new(alloc),
+            legs: Vec::new(alloc),
+            lowest_free: 0,
+        }
+    }
+
+    /// The draft of a table, with no names.
+    pub fn of_table(alloc: Global, t: &[u32]) -> Result<Draft<'t>, AllocError> {
+        let mut draft = Draft::empty(alloc);
+        draft.revision = records::header_word(t, table::REVISION_AT);
+        draft.precision = records::header_word(t, table::PRECISION_AT);
+        for i in 0..records::header_word(t, table::LINKS_AT) {
+            draft.links.push(records::link_at(t, i))?;
+        }
+        for i in 0..records::header_word(t, table::STREAMS_AT) {
+            let record = records::stream_at(t, i);
+            draft.streams.push(NamedStream { name: None, record })?;
+        }
+        for a in 0..records::header_word(t, table::LEGS_AT) {
+            draft.legs.push(records::leg_at(t, a))?;
+        }
+        Ok(draft)
+    }
+
+    /// The table of the draft.
+    pub fn table(&self, alloc: Global) -> Result<Vec<u32>, AllocError> {
+        let mut words = vec![in alloc;
+            self.revision,
+            count(self.links.len()),
+            count(self.streams.len()),
+            count(self.legs.len()),
+            self.precision,
+        ]?;
+        for l in &self.links {
+            words.extend_from_slice(&[l.from, l.to, l.rate, l.propagation])?;
+        }
+        for stream in &self.streams {
+            let s = stream.record;
+            words.extend_from_slice(&[s.period, s.deadline, s.octets, s.first, s.count])?;
+        }
+        for l in &self.legs {
+            words.extend_from_slice(&[l.stream, l.link, l.offset, l.periods])?;
+        }
+        Ok(words)
+    }
+
+    /// Takes revision, offsets and period words from a table that is the same but for them.
+    pub(crate) fn moved_to(&mut self, t: &[u32]) {
+        self.revision = records::header_word(t, table::REVISION_AT);
+        for (leg, a) in self.legs.iter_mut().zip(0..u32::MAX) {
+            *leg = records::leg_at(t, a);
+        }
+    }
+
+    /// Whether a node or a stream has a name.
+    pub fn has_names(&self) -> bool {
+        !self.nodes.is_empty() || self.streams.iter().any(|stream| stream.name.is_some())
+    }
+
+    pub(crate) fn node_named(&self, name: &[u8]) -> Option<Node<'t>> {
+        self.nodes.iter().copied().find(|node| node.name == name)
+    }
+
+    pub(crate) fn node_numbered(&self, number: u32) -> Option<Node<'t>> {
+        self.nodes
+            .iter()
+            .copied()
+            .find(|node| node.number == number)
+    }
+
+    /// The name of a node, if it has one.
+    pub fn node_name(&self, number: u32) -> Option<&'t [u8]> {
+        let node = self.node_numbered(number)?;
+        Some(node.name)
+    }
+
+    /// The name of a stream, if it has one.
+    pub fn stream_name(&self, number: u32) -> Option<&'t [u8]> {
+        self.streams.get(number as usize)?.name
+    }
+
+    /// The number of the stream with a name.
+    pub(crate) fn stream_named(&self, name: &[u8]) -> Option<u32> {
+        let i = self
+            .streams
+            .iter()
+            .position(|stream| stream.name == Some(name))?;
+        Some(count(i))
+    }
+
+    /// The links from one node to another.
+    pub(crate) fn between(&self, from: u32, to: u32) -> Between {
+        let mut found = Between::None;
+        for (i, link) in self.links.iter().enumerate() {
+            if link.from == from && link.to == to {
+                if found != Between::None {
+                    return Between::Several;
+                }
+                found = Between::One(count(i));
+            }
+        }
+        found
+    }
+
+    /// Whether a name or a link has this number.
+    fn is_taken(&self, number: u32) -> bool {
+        self.nodes.iter().any(|node| node.number == number)
+            || self
+                .links
+                .iter()
+                .any(|link| link.from == number || link.to == number)
+    }
+
+    /// The lowest number that no name and no link has so far, nor the line at hand. Such numbers are only ever taken.
+    pub(crate) fn take_lowest(&mut self, but: Option<u32>) -> u32 {
+        for number in self.lowest_free..u32::MAX {
+            if but != Some(number) && !self.is_taken(number) {
+                self.lowest_free = number;
+                return number;
+            }
+        }
+        u32::MAX
+    }
+
+    /// Gives a node a name.
+    pub(crate) fn name_node(&mut self, node: Node<'t>) -> Result<u32, Fault<'t>> {
+        if crate::MAX_NAMED <= self.nodes.len() {
+            return Err(Fault::TooManyNames(node.name));
+        }
+        self.nodes.push(node)?;
+        Ok(node.number)
+    }
+
+    /// Prints the name of a node, or its number.
+    pub fn print_node<O: Write>(&self, out: &mut O, number: u32) -> io::Result<()> {
+        match self.node_name(number) {
+            Some(name) => out.write_all(name),
+            None => write!(out, "node {number}"),
+        }
+    }
+
+    /// Prints the name of a stream, or its number.
+    pub fn print_stream<O: Write>(&self, out: &mut O, number: u32) -> io::Result<()> {
+        match self.stream_name(number) {
+            Some(name) => out.write_all(name),
+            None => write!(out, "stream {number}"),
+        }
+    }
+
+    /// Prints the two ends of a link, or its number where there is no such link.
+    pub fn print_link<O: Write>(&self, out: &mut O, number: u32) -> io::Result<()> {
+        let Some(link) = self.links.get(number as usize) else {
+            return write!(out, "link {number}");
+        };
+        self.print_node(out, link.from)?;
+        out.write_all(b" -> ")?;
+        self.print_node(out, link.to)
+    }
+}
