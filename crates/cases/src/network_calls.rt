@@ -1,336 +1,182 @@
 // The calls on temporal networks, and those for C. A line has the number of events, how many words the constraints are, what the call takes besides, and after a
 // colon the words, which are repeated until they are as many.
 use crate::files_calls::WORD_MARK;
-use crate::{integers, text};
-use claims::{ChainTest, TimesTest};
+use crate::text::Numbers;
+use crate::{Call, integers, text};
+use basics::Refusal;
 use network_host::Verdict;
-use solver::Outcome;
+use std::alloc::Global;
 use std::io;
 use std::io::Write;
 
-const COLON: u8 = 58;
-
-// How many words a line may name for constraints, for a chain and for times, and how many numbers stand before what the call takes besides.
+// How many words a line may name for constraints, for a chain and for times, and how many numbers are before what the call takes besides.
 const MAX_WORDS: usize = 6150;
 
 const MAX_LENT: usize = 160;
 
 const BEFORE: usize = 2;
 
-// Prints the sum of the constraints with these numbers. Neither of the two sums wraps: a chain has 128 constraints or fewer.
-fn show_sum<O: Write>(out: &mut O, constraints: &[i64], chain: &[u32]) -> io::Result<()> {
-    let mut up: u64 = 0;
-    let mut down: u64 = 0;
-    let mut i: usize = 0;
-    while i < chain.len() {
-        let most = most_of(constraints, network::wide(chain[i]));
-        up = std::num::wrapping_add_u64(up, integers::above(most));
-        down = std::num::wrapping_add_u64(down, integers::below(most));
-        i = i + 1;
-    }
-    integers::show_difference(out, up, down)
-}
-
-// The number that constraint k may not pass, 0 where there is no such constraint.
-fn most_of(constraints: &[i64], k: usize) -> i64 {
-    if constraints.len() < 3 {
-        return 0;
-    }
-    if (constraints.len() - 3) / 3 < k {
-        return 0;
-    }
-    constraints[3 * k + 2]
-}
-
-fn chain_test<O: Write>(out: &mut O, test: ChainTest) -> io::Result<()> {
-    match test {
-        ChainTest::Chain => {
-            show::text(out, b"chain\n")?;
-        }
-        ChainTest::NoChain => {
-            show::text(out, b"no chain\n")?;
-        }
-        ChainTest::Refused(number, at) => {
-            show::refused(out, number, at)?;
-        }
-    }
-    Ok(())
-}
-
-fn times_test<O: Write>(out: &mut O, test: TimesTest) -> io::Result<()> {
-    match test {
-        TimesTest::Kept => {
-            show::text(out, b"kept\n")?;
-        }
-        TimesTest::Broken(k) => {
-            show::text(out, b"broken ")?;
-            show::number(out, k as u64)?;
-            show::end_line(out)?;
-        }
-        TimesTest::Refused(number, at) => {
-            show::refused(out, number, at)?;
-        }
-    }
-    Ok(())
-}
-
-// Prints what a chain is worth: which one was given is not told.
-fn given_chain<O: Write>(
-    out: &mut O,
+// A network as a line gives it.
+#[derive(Clone, Copy)]
+struct Given<'a> {
+    alloc: Global,
     events: usize,
-    constraints: &[i64],
-    chain: &[u32],
-    n: usize,
-) -> io::Result<()> {
-    if chain.len() < n {
-        show::text(out, b"longer than what was lent\n")?;
-        return Ok(());
+    constraints: &'a [i64],
+}
+
+impl Given<'_> {
+    // The number that constraint k may not pass, 0 where there is no such constraint.
+    fn most_of(self, k: u32) -> i64 {
+        match self.constraints.chunks_exact(3).nth(k as usize) {
+            Some([_, _, most]) => *most,
+            _ => 0,
+        }
     }
-    show::text(out, b"sum ")?;
-    show_sum(out, constraints, &chain[0..n])?;
-    show::text(out, b" tested: ")?;
-    chain_test(out, claims::test_chain(events, constraints, &chain[0..n]))
+
+    // The sum of the constraints with these numbers. It does not wrap: a chain has 128 constraints or fewer.
+    fn sum(self, chain: &[u32]) -> i64 {
+        chain
+            .iter()
+            .fold(0, |sum: i64, k| sum.wrapping_add(self.most_of(*k)))
+    }
+
+    // Prints what a chain is worth: which one was given is not told.
+    fn chain<O: Write>(self, out: &mut O, lent: &[u32], n: usize) -> io::Result<()> {
+        let Some(chain) = lent.get(..n) else {
+            return writeln!(out, "longer than what was lent");
+        };
+        let sum = self.sum(chain);
+        write!(out, "sum {sum} tested: ")?;
+        chain_test(
+            out,
+            claims::test_chain(self.events, self.constraints, chain),
+        )
+    }
+
+    // Prints all that was lent or given besides the outcome.
+    fn lent<O: Write>(self, out: &mut O, times: &[i64], lent: &[u32], n: usize) -> io::Result<()> {
+        if 0 < n {
+            self.chain(out, lent, n)?;
+        }
+        write!(out, "times:")?;
+        integers::show_used(out, times)?;
+        write!(out, "rest: ")?;
+        show::rest_words(out, lent, n)
+    }
+
+    fn solve<O: Write>(self, out: &mut O, room: usize) -> io::Result<()> {
+        let mut chain = vec![in self.alloc; WORD_MARK; room]?;
+        let solved = solver::solve(self.events, self.constraints, &mut chain);
+        let n = outcome(out, solved.outcome)?;
+        self.lent(out, &solved.times, &chain, n)
+    }
+
+    fn host_solve<O: Write>(self, out: &mut O, room: usize) -> io::Result<()> {
+        let mut chain = vec![in self.alloc; WORD_MARK; room]?;
+        let answer = network_host::conepalhui_network(self.events, self.constraints, &mut chain);
+        writeln!(out, "result {} number {}", answer.result, answer.number)?;
+        // How many words of the chain the answer says: 1 is a chain.
+        let n = match answer.result {
+            1 => answer.number as usize,
+            _ => 0,
+        };
+        self.lent(out, &answer.times, &chain, n)
+    }
+
+    // A test of the words in front, as times or as the numbers of a chain.
+    fn tested<O: Write>(self, out: &mut O, verb: &[u8], front: &[u8]) -> io::Result<bool> {
+        let times = integers::words(self.alloc, front)?;
+        let numbers = text::words(self.alloc, front)?;
+        if MAX_LENT < times.len() {
+            return Ok(false);
+        }
+        let (Some(times), Some(numbers)) = (times.get(BEFORE..), numbers.get(BEFORE..)) else {
+            return Ok(false);
+        };
+        let Given {
+            events,
+            constraints,
+            ..
+        } = self;
+        match verb {
+            b"test-times" => times_test(out, claims::test_times(events, constraints, times))?,
+            b"c-test-times" => verdict(
+                out,
+                network_host::conepalhui_network_times(events, constraints, times),
+            )?,
+            b"test-chain" => chain_test(out, claims::test_chain(events, constraints, numbers))?,
+            b"c-test-chain" => verdict(
+                out,
+                network_host::conepalhui_network_chain(events, constraints, numbers),
+            )?,
+            _ => return Ok(false),
+        }
+        Ok(true)
+    }
+}
+
+fn chain_test<O: Write>(out: &mut O, test: Result<bool, Refusal>) -> io::Result<()> {
+    match test {
+        Ok(true) => writeln!(out, "chain"),
+        Ok(false) => writeln!(out, "no chain"),
+        Err(refusal) => show::refused(out, refusal),
+    }
+}
+
+fn times_test<O: Write>(out: &mut O, test: Result<Option<usize>, Refusal>) -> io::Result<()> {
+    match test {
+        Ok(None) => writeln!(out, "kept"),
+        Ok(Some(k)) => writeln!(out, "broken {k}"),
+        Err(refusal) => show::refused(out, refusal),
+    }
 }
 
 // Prints an outcome: how many words of the chain were written.
-fn outcome_line<O: Write>(out: &mut O, outcome: Outcome) -> io::Result<usize> {
+fn outcome<O: Write>(out: &mut O, outcome: Result<Option<usize>, Refusal>) -> io::Result<usize> {
     match outcome {
-        Outcome::Times => {
-            show::text(out, b"times\n")?;
+        Ok(None) => {
+            writeln!(out, "times")?;
             Ok(0)
         }
-        Outcome::Chain(n) => {
-            show::text(out, b"chain ")?;
-            show::number(out, n as u64)?;
-            show::end_line(out)?;
+        Ok(Some(n)) => {
+            writeln!(out, "chain {n}")?;
             Ok(n)
         }
-        Outcome::Refused(number, at) => {
-            show::refused(out, number, at)?;
+        Err(refusal) => {
+            show::refused(out, refusal)?;
             Ok(0)
         }
     }
 }
 
-// Prints all that was lent or given besides the outcome.
-fn lent_lines<O: Write>(
-    out: &mut O,
-    events: usize,
-    constraints: &[i64],
-    times: &[i64],
-    chain: &[u32],
-    n: usize,
-) -> io::Result<()> {
-    if 0 < n {
-        given_chain(out, events, constraints, chain, n)?;
-    }
-    show::text(out, b"times:")?;
-    integers::show_used(out, times)?;
-    show::text(out, b"rest: ")?;
-    show::rest_words(out, chain, n)
+fn verdict<O: Write>(out: &mut O, verdict: Verdict) -> io::Result<()> {
+    writeln!(out, "result {} number {}", verdict.result, verdict.number)
 }
 
-fn solve<O: Write>(
-    out: &mut O,
-    events: usize,
-    constraints: &[i64],
-    chain: &mut [u32],
-) -> io::Result<()> {
-    let solved = solver::solve(events, constraints, chain);
-    let outcome = solved.outcome;
-    let times = solved.times;
-    let n = outcome_line(out, outcome)?;
-    lent_lines(out, events, constraints, &times, chain, n)
-}
-
-fn result_line<O: Write>(out: &mut O, res: u32, number: u32) -> io::Result<()> {
-    show::text(out, b"result ")?;
-    show::number(out, res as u64)?;
-    show::text(out, b" number ")?;
-    show::number(out, number as u64)?;
-    show::end_line(out)
-}
-
-// How many words of a chain a result for C says.
-fn chain_words(res: u32, number: u32) -> usize {
-    if res == 1 {
-        return number as usize;
-    }
-    0
-}
-
-fn host_solve<O: Write>(
-    out: &mut O,
-    events: usize,
-    constraints: &[i64],
-    chain: &mut [u32],
-) -> io::Result<()> {
-    let answer = network_host::conepalhui_network(events, constraints, chain);
-    let times = answer.times;
-    let result = answer.result;
-    let number = answer.number;
-    result_line(out, result, number)?;
-    lent_lines(
-        out,
-        events,
-        constraints,
-        &times,
-        chain,
-        chain_words(result, number),
-    )
-}
-
-fn verdict_line<O: Write>(out: &mut O, verdict: Verdict) -> io::Result<()> {
-    result_line(out, verdict.result, verdict.number)
-}
-
-// A call that is lent words for a chain.
-fn solved<O: Write>(
-    out: &mut O,
-    verb: &[u8],
-    events: usize,
-    constraints: &[i64],
-    room: usize,
-) -> io::Result<bool> {
-    let mut chain = [WORD_MARK; MAX_LENT];
-    if MAX_LENT < room {
+pub(crate) fn asked<O: Write>(out: &mut O, alloc: Global, call: &Call<'_>) -> io::Result<bool> {
+    let Some((front, words)) = text::split_once(call.rest, b':') else {
         return Ok(false);
-    }
-    if text::is(verb, b"solve") {
-        solve(out, events, constraints, &mut chain[0..room])?;
-        return Ok(true);
-    }
-    if text::is(verb, b"c-solve") {
-        host_solve(out, events, constraints, &mut chain[0..room])?;
-        return Ok(true);
-    }
-    Ok(false)
-}
-
-// A test of the times in the first n words of a buffer, after the two numbers that stand before them.
-fn tested_times<O: Write>(
-    out: &mut O,
-    verb: &[u8],
-    events: usize,
-    constraints: &[i64],
-    words: &[i64],
-    n: usize,
-) -> io::Result<bool> {
-    if n < BEFORE {
-        return Ok(false);
-    }
-    if words.len() < n {
-        return Ok(false);
-    }
-    if text::is(verb, b"test-times") {
-        times_test(
-            out,
-            claims::test_times(events, constraints, &words[BEFORE..n]),
-        )?;
-        return Ok(true);
-    }
-    if text::is(verb, b"c-test-times") {
-        verdict_line(
-            out,
-            network_host::conepalhui_network_times(events, constraints, &words[BEFORE..n]),
-        )?;
-        return Ok(true);
-    }
-    Ok(false)
-}
-
-// Likewise for a chain.
-fn tested_chain<O: Write>(
-    out: &mut O,
-    verb: &[u8],
-    events: usize,
-    constraints: &[i64],
-    words: &[u32],
-    n: usize,
-) -> io::Result<bool> {
-    if n < BEFORE {
-        return Ok(false);
-    }
-    if words.len() < n {
-        return Ok(false);
-    }
-    if text::is(verb, b"test-chain") {
-        chain_test(
-            out,
-            claims::test_chain(events, constraints, &words[BEFORE..n]),
-        )?;
-        return Ok(true);
-    }
-    if text::is(verb, b"c-test-chain") {
-        verdict_line(
-            out,
-            network_host::conepalhui_network_chain(events, constraints, &words[BEFORE..n]),
-        )?;
-        return Ok(true);
-    }
-    Ok(false)
-}
-
-fn called<O: Write>(
-    out: &mut O,
-    verb: &[u8],
-    front: &[u8],
-    events: usize,
-    room: usize,
-    constraints: &[i64],
-) -> io::Result<bool> {
-    if solved(out, verb, events, constraints, room)? {
-        return Ok(true);
-    }
-    let mut times = [0i64; MAX_LENT];
-    let count = integers::words(front, &mut times);
-    if tested_times(out, verb, events, constraints, &times, count)? {
-        return Ok(true);
-    }
-    let mut chain = [0u32; MAX_LENT];
-    let n = text::words(front, &mut chain);
-    tested_chain(out, verb, events, constraints, &chain, n)
-}
-
-// Repeats the first n words of a buffer up to a position.
-fn repeat(words: &mut [i64], n: usize, end: usize) {
-    if n == 0 {
-        return;
-    }
-    if words.len() < end {
-        return;
-    }
-    let mut at = n;
-    while at < end {
-        let word = words[at - n];
-        words[at] = word;
-        at = at + 1;
-    }
-}
-
-fn on_words<O: Write>(out: &mut O, verb: &[u8], front: &[u8], text: &[u8]) -> io::Result<bool> {
-    let numbers = text::five(front);
-    let count = numbers[1] as usize;
+    };
+    let numbers = Numbers::of(alloc, front)?;
+    let count = numbers.size(1);
     if MAX_WORDS < count {
         return Ok(false);
     }
-    let mut constraints = [0i64; MAX_WORDS];
-    let given = integers::words(text, &mut constraints);
-    repeat(&mut constraints, given, count);
-    called(
-        out,
-        verb,
-        front,
-        numbers[0] as usize,
-        numbers[2] as usize,
-        &constraints[0..count],
-    )
-}
-
-pub(crate) fn asked<O: Write>(out: &mut O, verb: &[u8], rest: &[u8]) -> io::Result<bool> {
-    let end = text::until(rest, 0, COLON);
-    if end < rest.len() {
-        return on_words(out, verb, &rest[0..end], &rest[end + 1..]);
+    let words = integers::words(alloc, words)?;
+    let mut constraints = vec![in alloc; 0i64; count]?;
+    for (word, z) in constraints.iter_mut().zip(words.iter().cycle()) {
+        *word = *z;
     }
-    Ok(false)
+    let given = Given {
+        alloc,
+        events: numbers.size(0),
+        constraints: &constraints,
+    };
+    let room = numbers.size(2);
+    match call.verb {
+        b"solve" if room <= MAX_LENT => given.solve(out, room)?,
+        b"c-solve" if room <= MAX_LENT => given.host_solve(out, room)?,
+        verb => return given.tested(out, verb, front),
+    }
+    Ok(true)
 }

@@ -1,88 +1,61 @@
 // The calls on a table, each with its answer printed.
-use crate::text;
-use basics::Checked;
-use checker::{Grant, SliceAnswer};
-use files::Cursor;
+use crate::Call;
+use basics::Refusal;
+use checker::SliceAnswer;
+use files::{Cursor, Returned};
 use rules::Rule;
+use show::told;
 use std::io;
 use std::io::Write;
 use table::Move;
 
-fn number<O: Write>(out: &mut O, n: u32) -> io::Result<()> {
-    show::text(out, b" ")?;
-    show::number(out, n as u64)
-}
-
-// Prints a cursor, and ends no line.
+/// Prints a cursor, and ends no line.
 pub(crate) fn cursor<O: Write>(out: &mut O, c: Cursor) -> io::Result<()> {
-    show::text(out, b"cursor")?;
-    number(out, c.revision)?;
-    number(out, c.leg)?;
-    number(out, c.place)
+    let Cursor {
+        revision,
+        leg,
+        place,
+    } = c;
+    write!(out, "cursor {revision} {leg} {place}")
 }
 
-fn steps<O: Write>(out: &mut O, n: u32) -> io::Result<()> {
-    show::text(out, b" steps")?;
-    number(out, n)
-}
-
-fn refused<O: Write>(out: &mut O, number: u32, position: usize, back: Cursor) -> io::Result<()> {
-    show::refused(out, number, position)?;
-    show::text(out, b"given back: ")?;
+/// Prints the cursor that a refusal gave back.
+pub(crate) fn given_back<O: Write>(out: &mut O, back: Cursor) -> io::Result<()> {
+    write!(out, "given back: ")?;
     cursor(out, back)?;
-    show::end_line(out)
+    writeln!(out)
 }
 
-fn violated<O: Write>(out: &mut O, c: Cursor, n: u32, r: Rule) -> io::Result<()> {
-    show::text(out, b"violated: ")?;
-    cursor(out, c)?;
-    steps(out, n)?;
-    show::text(out, b" rule ")?;
-    show::told::rule(out, r)?;
-    show::end_line(out)
+fn refused<O: Write>(out: &mut O, refusal: Refusal, back: Cursor) -> io::Result<()> {
+    show::refused(out, refusal)?;
+    given_back(out, back)
 }
 
-fn went<O: Write>(out: &mut O, kind: &[u8], c: Cursor, n: u32) -> io::Result<()> {
-    show::text(out, kind)?;
+fn violated<O: Write>(out: &mut O, c: Cursor, steps: u32, rule: Rule) -> io::Result<()> {
+    let rule = told::rule_word(rule);
+    write!(out, "violated: ")?;
     cursor(out, c)?;
-    steps(out, n)?;
-    show::end_line(out)
+    writeln!(out, " steps {steps} rule {rule}")
+}
+
+fn went<O: Write>(out: &mut O, kind: &str, c: Cursor, steps: u32) -> io::Result<()> {
+    write!(out, "{kind}: ")?;
+    cursor(out, c)?;
+    writeln!(out, " steps {steps}")
 }
 
 // Prints what a start or a move gave.
-fn granted<O: Write>(out: &mut O, answer: Grant) -> io::Result<Cursor> {
+fn granted<O: Write>(out: &mut O, answer: Result<Cursor, Returned>) -> io::Result<Cursor> {
     match answer {
-        Grant::Granted(c) => {
-            show::text(out, b"granted: ")?;
+        Ok(c) => {
+            write!(out, "granted: ")?;
             cursor(out, c)?;
-            show::end_line(out)?;
+            writeln!(out)?;
             Ok(c)
         }
-        Grant::Refused(number, position, c) => {
-            refused(out, number, position, c)?;
-            Ok(c)
-        }
-    }
-}
-
-// Prints what a slice gave.
-fn sliced<O: Write>(out: &mut O, answer: SliceAnswer) -> io::Result<Cursor> {
-    match answer {
-        SliceAnswer::Violated(c, n, r) => {
-            violated(out, c, n, r)?;
-            Ok(c)
-        }
-        SliceAnswer::NothingViolated(c, n) => {
-            went(out, b"nothing violated: ", c, n)?;
-            Ok(c)
-        }
-        SliceAnswer::Paused(c, n) => {
-            went(out, b"paused: ", c, n)?;
-            Ok(c)
-        }
-        SliceAnswer::Refused(number, position, c) => {
-            refused(out, number, position, c)?;
-            Ok(c)
+        Err(Returned { refusal, cursor }) => {
+            refused(out, refusal, cursor)?;
+            Ok(cursor)
         }
     }
 }
@@ -97,7 +70,24 @@ pub(crate) fn slice<O: Write>(
     c: Cursor,
     budget: u32,
 ) -> io::Result<Cursor> {
-    sliced(out, checker::slice(t, c, budget))
+    match checker::slice(t, c, budget) {
+        SliceAnswer::Violated(c, steps, rule) => {
+            violated(out, c, steps, rule)?;
+            Ok(c)
+        }
+        SliceAnswer::NothingViolated(c, steps) => {
+            went(out, "nothing violated", c, steps)?;
+            Ok(c)
+        }
+        SliceAnswer::Paused(c, steps) => {
+            went(out, "paused", c, steps)?;
+            Ok(c)
+        }
+        SliceAnswer::Refused(refusal, c) => {
+            refused(out, refusal, c)?;
+            Ok(c)
+        }
+    }
 }
 
 pub(crate) fn move_leg<O: Write>(
@@ -106,48 +96,33 @@ pub(crate) fn move_leg<O: Write>(
     c: Cursor,
     mv: Move,
 ) -> io::Result<Cursor> {
-    let d = granted(out, checker::move_leg(t, c, mv))?;
-    show::text(out, b"table: ")?;
+    let after = granted(out, checker::move_leg(t, c, mv))?;
+    write!(out, "table: ")?;
     show::rest_words(out, t, 0)?;
-    Ok(d)
+    Ok(after)
 }
 
-fn shape_line<O: Write>(out: &mut O, t: &[u32]) -> io::Result<()> {
-    let shape = shape::judged_shape(t);
-    match shape {
-        Checked::Clear => {
-            show::text(out, b"well-formed\n")?;
-        }
-        Checked::Refused(number, at) => {
-            show::refused(out, number, at)?;
-        }
+fn shape<O: Write>(out: &mut O, t: &[u32]) -> io::Result<()> {
+    match shape::judged_shape(t) {
+        Ok(()) => writeln!(out, "well-formed"),
+        Err(refusal) => show::refused(out, refusal),
     }
-    Ok(())
 }
 
 // How many places so many legs have.
-fn places_line<O: Write>(out: &mut O, legs: usize) -> io::Result<()> {
-    if legs <= table::MAX_LEGS {
-        show::text(out, b"places ")?;
-        show::number(out, places::place_count(legs) as u64)?;
-        show::end_line(out)?;
+fn places<O: Write>(out: &mut O, legs: usize) -> io::Result<()> {
+    if table::MAX_LEGS < legs {
+        return Ok(());
     }
-    Ok(())
+    let places = places::place_count(legs);
+    writeln!(out, "places {places}")
 }
 
-pub(crate) fn asked<O: Write>(
-    out: &mut O,
-    verb: &[u8],
-    numbers: [u32; 5],
-    t: &[u32],
-) -> io::Result<bool> {
-    if text::is(verb, b"shape") {
-        shape_line(out, t)?;
-        return Ok(true);
+pub(crate) fn asked<O: Write>(out: &mut O, call: &Call<'_>, t: &[u32]) -> io::Result<bool> {
+    match call.verb {
+        b"shape" => shape(out, t)?,
+        b"places" => places(out, call.numbers.size(0))?,
+        _ => return Ok(false),
     }
-    if text::is(verb, b"places") {
-        places_line(out, numbers[0] as usize)?;
-        return Ok(true);
-    }
-    Ok(false)
+    Ok(true)
 }

@@ -1,128 +1,89 @@
 // The lines of a list: words between single spaces, decimal numbers, and bytes in hexadecimal.
-ghost use Rattle.std.specs.Prelude.{◌≤◌, length};
+ghost use Rattle.std.specs.Prelude.{◌≤◌};
 
-use basics::Holds;
-use decimal::Decimal;
 use files::Cursor;
+use std::alloc::{AllocError, Global};
 
-pub(crate) const NEW_LINE: u8 = 10;
+/// The numbers of a line. One that is missing is 0.
+#[derive(Drop)]
+pub(crate) struct Numbers {
+    words: Vec<u32>,
+}
 
-pub(crate) const SPACE: u8 = 32;
+impl Numbers {
+    pub(crate) fn of(alloc: Global, text: &[u8]) -> Result<Numbers, AllocError> {
+        let words = words(alloc, text)?;
+        Ok(Numbers { words })
+    }
 
-// Whether two texts are the same.
-pub(crate) fn is(text: &[u8], other: &[u8]) -> bool {
-    let told = seen::same(text, other);
-    match told {
-        Holds::Yes => true,
-        Holds::No => false,
+    pub(crate) fn at(&self, i: usize) -> u32 {
+        self.words.get(i).copied().unwrap_or(0)
+    }
+
+    pub(crate) fn size(&self, i: usize) -> usize {
+        self.at(i) as usize
+    }
+
+    /// The cursor of the first three numbers.
+    pub(crate) fn cursor(&self) -> Cursor {
+        Cursor {
+            revision: self.at(0),
+            leg: self.at(1),
+            place: self.at(2),
+        }
     }
 }
 
-// The next position from one on at which a byte stands, or the length.
-pub(crate) fn until(text: &[u8], from: usize, stop: u8) -> usize
-    requires { from ≤ length text.now }
-    ensures { (from ≤ result) × (result ≤ length text.now) }
-{
-    let mut at = from;
-    while at < text.len() {
-        if text[at] == stop {
-            return at;
-        }
-        at = at + 1;
+/// What is before a byte where it is first, and what is after it.
+pub(crate) fn split_once(text: &[u8], at: u8) -> Option<(&[u8], &[u8])> {
+    let i = text.iter().position(|byte| *byte == at)?;
+    Some((&text[..i], &text[i + 1..]))
+}
+
+/// The words of a text, each after a space.
+pub(crate) fn words_of<'t>(alloc: Global, text: &'t [u8]) -> Result<Vec<&'t [u8]>, AllocError> {
+    match text.split_first() {
+        Some((_, words)) => words.split(|byte| *byte == b' ').collect(alloc),
+        None => Ok(Vec::new(alloc)),
     }
-    at
 }
 
 // A number in decimal. What is no number is 0.
-fn number(text: &[u8]) -> u32 {
-    let read = decimal::read_decimal(text);
-    match read {
-        Decimal::Value(value) => value,
-        Decimal::Empty => 0,
-        Decimal::NoDigit(_) => 0,
-        Decimal::TooLarge => 0,
-    }
+fn number(word: &[u8]) -> u32 {
+    decimal::read_decimal(word).unwrap_or(0)
 }
 
-// Puts a word where there is room for it.
-fn put_number(word: u32, out: &mut [u32], at: usize) {
-    if at < out.len() {
-        out[at] = word;
-    }
+/// The words of a text as numbers.
+pub(crate) fn words(alloc: Global, text: &[u8]) -> Result<Vec<u32>, AllocError> {
+    words_of(alloc, text)?
+        .iter()
+        .map(|word| number(word))
+        .collect(alloc)
 }
 
-// The numbers after the spaces of a text, put into the first words, and how many they are.
-pub(crate) fn words(text: &[u8], out: &mut [u32]) -> usize {
-    let mut at: usize = 0;
-    let mut n: usize = 0;
-    while at < text.len() {
-        let end = until(text, at + 1, SPACE);
-        put_number(number(&text[at + 1..end]), out, n);
-        n = n + 1;
-        at = end;
-    }
-    n
-}
-
-// The first five numbers of a text, 0 for those that are not there.
-pub(crate) fn five(text: &[u8]) -> [u32; 5] {
-    let mut numbers = [0u32; 5];
-    words(text, &mut numbers);
-    numbers
-}
-
-pub(crate) fn cursor(text: &[u8]) -> Cursor {
-    let numbers = five(text);
-    Cursor {
-        revision: numbers[0],
-        leg: numbers[1],
-        place: numbers[2],
-    }
-}
-
-// The value of a digit in hexadecimal. What is no digit is 0.
-pub(crate) fn digit(b: u8) -> u32
+/// The value of a digit in hexadecimal. What is no digit is 0.
+pub(crate) fn digit(byte: u8) -> u8
     ensures { result ≤ 15 }
 {
-    if b < 48 {
-        return 0;
+    match byte {
+        b'0'..=b'9' => byte - b'0',
+        b'a'..=b'f' => byte - b'a' + 10,
+        _ => 0,
     }
-    if b <= 57 {
-        return b as u32 - 48;
-    }
-    if b < 97 {
-        return 0;
-    }
-    if b <= 102 {
-        return b as u32 - 87;
-    }
-    0
 }
 
 // A byte of two digits in hexadecimal.
-fn octet(text: &[u8]) -> u8 {
-    if text.len() < 2 {
-        return 0;
-    }
-    (16 * digit(text[0]) + digit(text[1])) as u8
-}
-
-// Puts a byte where there is room for it.
-fn put_octet(byte: u8, out: &mut [u8], at: usize) {
-    if at < out.len() {
-        out[at] = byte;
+fn octet(word: &[u8]) -> u8 {
+    match word {
+        [high, low, ..] => 16 * digit(*high) + digit(*low),
+        _ => 0,
     }
 }
 
-// The bytes after the spaces of a text, put into the first bytes, and how many they are.
-pub(crate) fn bytes(text: &[u8], out: &mut [u8]) -> usize {
-    let mut at: usize = 0;
-    let mut n: usize = 0;
-    while at < text.len() {
-        let end = until(text, at + 1, SPACE);
-        put_octet(octet(&text[at + 1..end]), out, n);
-        n = n + 1;
-        at = end;
-    }
-    n
+/// The words of a text as bytes.
+pub(crate) fn bytes(alloc: Global, text: &[u8]) -> Result<Vec<u8>, AllocError> {
+    words_of(alloc, text)?
+        .iter()
+        .map(|word| octet(word))
+        .collect(alloc)
 }

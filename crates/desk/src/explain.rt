@@ -1,20 +1,18 @@
-// Why a place holds or not: its rule with the plan's own numbers put in. The numbers are those of margins::margin_at, meeting::meeting and margins::nearest_at, and of
-// rules::times::frame; how they are put into sentences is tested, not proved.
-use crate::legs;
-use crate::legs::{Framed, numbered};
-use checker::{Grant, SliceAnswer};
-use files::Cursor;
-use margins::{Margin, MarginAnswer, Nearest, NearestAnswer, Offset, Sides, Spare, Turns};
-use meeting::MeetingAnswer;
-use reasons::records;
+//! Why a place holds or not: its rule with the plan's own numbers put in. The numbers are those of margins::margin_at, meeting::meeting and margins::nearest_at, and of
+//! rules::times::frame; how they are put into sentences is tested, not proved.
+use crate::legs::NamedTable;
+use basics::{Cause, Refusal};
+use checker::SliceAnswer;
+use margins::{Margin, Nearest, Sides, Spare, Turns};
+use reasons::{records, report};
 use repeats::Meeting;
 use rules::Frame;
-use show::{answers, text};
-use std::io;
+use show::answers;
 use std::io::Write;
+use std::{fmt, io};
 
-// More than any table has places.
-const ENOUGH: u32 = 4294967295;
+/// More than any table has places.
+const ENOUGH: u32 = u32::MAX;
 
 const WINDOW: u32 = 0;
 
@@ -22,144 +20,100 @@ const HOP: u32 = 1;
 
 const DEADLINE: u32 = 2;
 
-// How many places a leg has before those with lower legs.
+/// How many places a leg has before those with lower legs.
 const OWN: u32 = 3;
 
-// The rule of a place, and the lower leg of an overlap.
-fn rule_word<O: Write>(out: &mut O, place: u32) -> io::Result<()> {
+/// The word of a place's rule.
+fn rule_word(place: u32) -> &'static str {
     match place {
-        WINDOW => {
-            text(out, b"window")?;
-        }
-        HOP => {
-            text(out, b"hop")?;
-        }
-        DEADLINE => {
-            text(out, b"deadline")?;
-        }
-        _ => {
-            text(out, b"overlap")?;
-        }
+        WINDOW => "window",
+        HOP => "hop",
+        DEADLINE => "deadline",
+        _ => "overlap",
     }
-    Ok(())
 }
 
-fn title<O: Write>(out: &mut O, word: &[u8], leg: u32, place: u32) -> io::Result<()> {
-    text(out, word)?;
-    numbered(out, b" ", leg as u64)?;
-    numbered(out, b" ", place as u64)?;
-    text(out, b" ")?;
-    rule_word(out, place)?;
-    text(out, b"\n")
-}
-
-// The first line: the place, and whether its rule is kept there.
+/// The first line: the place, and whether its rule is kept there.
 fn verdict<O: Write>(out: &mut O, leg: u32, place: u32, spare: Spare) -> io::Result<()> {
-    match spare {
-        Spare::Free => {
-            title(out, b"holds", leg, place)?;
-        }
-        Spare::Left(n) => {
-            title(out, b"holds", leg, place)?;
-        }
-        Spare::Lacks(n) => {
-            title(out, b"violated", leg, place)?;
-        }
-    }
-    Ok(())
-}
-
-// The line by how much it is kept or missed.
-fn by_how_much<O: Write>(out: &mut O, spare: Spare) -> io::Result<()> {
-    match spare {
-        Spare::Free => {}
-        Spare::Left(n) => {
-            numbered(out, b"kept, with ", n)?;
-            text(out, b" ns left\n")?;
-        }
-        Spare::Lacks(n) => {
-            numbered(out, b"fails by ", n)?;
-            text(out, b" ns\n")?;
-        }
-    }
-    Ok(())
+    let verdict = match spare {
+        Spare::Free | Spare::Left(_) => "holds",
+        Spare::Lacks(_) => "violated",
+    };
+    let rule = rule_word(place);
+    writeln!(out, "{verdict} {leg} {place} {rule}")
 }
 
 fn window<O: Write>(out: &mut O, f: Frame, s: Sides) -> io::Result<()> {
-    numbered(out, b"window: offset and hold time are ", f.offset)?;
-    numbered(out, b" + ", f.hold)?;
-    numbered(out, b" = ", s.needs)?;
-    numbered(out, b" ns, and the period is ", s.has)?;
-    text(out, b" ns\n")
+    writeln!(
+        out,
+        "window: offset and hold time are {} + {} = {} ns, and the period is {} ns",
+        f.offset, f.hold, s.needs, s.has
+    )
 }
 
-// The hop needs the leg before.
+/// The hop needs the leg before.
 fn hop<O: Write>(
     out: &mut O,
-    t: &[u32],
+    plan: NamedTable,
     leg: u32,
     f: Frame,
     before: Frame,
     s: Sides,
 ) -> io::Result<()> {
-    let previous = std::num::wrapping_sub_u32(leg, 1);
-    numbered(out, b"hop: leg ", previous as u64)?;
-    text(out, b", which starts at ")?;
-    legs::start(out, t, previous, before)?;
-    text(out, b" ns, has arrived at ")?;
-    legs::ready(out, t, before, s.needs)?;
-    numbered(out, b", and leg ", leg as u64)?;
-    text(out, b" starts at ")?;
-    legs::start(out, t, leg, f)?;
-    text(out, b" ns\n")
+    let previous = leg.wrapping_sub(1);
+    let began = plan.start(previous, before);
+    let ready = plan.ready(before, s.needs);
+    let start = plan.start(leg, f);
+    writeln!(
+        out,
+        "hop: leg {previous}, which starts at {began} ns, has arrived at {ready}, and leg {leg} starts at {start} ns"
+    )
 }
 
-// The deadline needs the first leg.
+/// The deadline needs the first leg.
 fn deadline<O: Write>(
     out: &mut O,
-    t: &[u32],
+    plan: NamedTable,
     leg: u32,
     f: Frame,
     first: Frame,
     s: Sides,
 ) -> io::Result<()> {
-    numbered(out, b"deadline: leg ", leg as u64)?;
-    text(out, b", which starts at ")?;
-    legs::start(out, t, leg, f)?;
-    text(out, b" ns, has arrived at ")?;
-    legs::ready(out, t, f, s.needs)?;
-    numbered(out, b", and is due at ", first.start)?;
-    numbered(out, b" + ", f.deadline)?;
-    numbered(out, b" = ", s.has)?;
-    text(out, b" ns (first leg's start, deadline)\n")
+    let start = plan.start(leg, f);
+    let ready = plan.ready(f, s.needs);
+    write!(
+        out,
+        "deadline: leg {leg}, which starts at {start} ns, has arrived at {ready}, and is due at "
+    )?;
+    writeln!(
+        out,
+        "{} + {} = {} ns (first leg's start, deadline)",
+        first.start, f.deadline, s.has
+    )
 }
 
 fn sides<O: Write>(
     out: &mut O,
-    t: &[u32],
+    plan: NamedTable,
     leg: u32,
     place: u32,
     f: Frame,
     s: Sides,
 ) -> io::Result<()> {
-    if place == WINDOW {
-        window(out, f, s)?;
-        return Ok(());
+    match place {
+        WINDOW => window(out, f, s),
+        HOP => match plan.frame(leg.wrapping_sub(1)) {
+            Some(before) => hop(out, plan, leg, f, before, s),
+            None => Ok(()),
+        },
+        _ => match plan.frame(plan.first_of(leg)) {
+            Some(first) => deadline(out, plan, leg, f, first, s),
+            None => Ok(()),
+        },
     }
-    if place == HOP {
-        if let Framed::Of(before) = legs::frame_of(t, std::num::wrapping_sub_u32(leg, 1)) {
-            hop(out, t, leg, f, before, s)?;
-        }
-        return Ok(());
-    }
-    let first_leg = legs::first_of(t, leg);
-    if let Framed::Of(first) = legs::frame_of(t, first_leg) {
-        deadline(out, t, leg, f, first, s)?;
-    }
-    Ok(())
 }
 
-// How far two legs lie apart, going round by the divisor of their periods.
+/// How far two legs lie apart, going round by the divisor of their periods.
 fn turns<O: Write>(
     out: &mut O,
     leg: u32,
@@ -168,46 +122,43 @@ fn turns<O: Write>(
     g: Frame,
     s: Turns,
 ) -> io::Result<()> {
-    numbered(out, b"overlap: the periods ", f.period)?;
-    numbered(out, b" and ", g.period)?;
-    numbered(out, b" ns have the greatest common divisor ", s.divisor)?;
-    numbered(out, b" ns. By it leg ", other as u64)?;
-    numbered(out, b" begins ", s.after)?;
-    numbered(out, b" ns after leg ", leg as u64)?;
-    numbered(out, b", which holds the link for ", s.hold)?;
-    numbered(out, b" ns, and leg ", leg as u64)?;
-    numbered(
+    write!(
         out,
-        b" begins ",
-        std::num::wrapping_sub_u64(s.divisor, s.after),
+        "overlap: the periods {} and {} ns have the greatest common divisor {} ns. ",
+        f.period, g.period, s.divisor
     )?;
-    numbered(out, b" ns after leg ", other as u64)?;
-    numbered(out, b", which holds it for ", s.other)?;
-    text(out, b" ns\n")
+    write!(
+        out,
+        "By it leg {other} begins {} ns after leg {leg}, which holds the link for {} ns, ",
+        s.after, s.hold
+    )?;
+    writeln!(
+        out,
+        "and leg {leg} begins {} ns after leg {other}, which holds it for {} ns",
+        s.divisor.wrapping_sub(s.after),
+        s.other
+    )
 }
 
-// When the repeat of a leg that holds its link at an instant began: that lies a whole number of periods after its offset, and less than a period before the instant.
+/// When the repeat of a leg that holds its link at an instant began: that lies a whole number of periods after its offset, and less than a period before the instant.
 fn begun_at(f: Frame, instant: u64) -> u64 {
-    if f.period == 0 {
-        return instant;
-    }
-    let since = std::num::wrapping_sub_u64(instant, f.offset);
-    std::num::wrapping_sub_u64(instant, since % f.period)
+    let since = instant.wrapping_sub(f.offset);
+    instant.wrapping_sub(since.checked_rem(f.period).unwrap_or(0))
 }
 
-// One leg at a meeting: its repeat, when that begins, and when it ends.
+/// One leg at a meeting: its repeat, when that begins, and when it ends.
 fn repeat<O: Write>(out: &mut O, leg: u32, f: Frame, k: u64, instant: u64) -> io::Result<()> {
     let begun = begun_at(f, instant);
-    numbered(out, b"leg ", leg as u64)?;
-    numbered(out, b" in its repeat ", k)?;
-    numbered(out, b", from ", f.offset)?;
-    numbered(out, b" + ", k)?;
-    numbered(out, b" x ", f.period)?;
-    numbered(out, b" = ", begun)?;
-    numbered(out, b" up to ", std::num::wrapping_add_u64(begun, f.hold))?;
-    text(out, b" ns")
+    write!(
+        out,
+        "leg {leg} in its repeat {k}, from {} + {k} x {} = {begun} up to {} ns",
+        f.offset,
+        f.period,
+        begun.wrapping_add(f.hold)
+    )
 }
 
+/// Where two legs meet first.
 fn meeting_line<O: Write>(
     out: &mut O,
     leg: u32,
@@ -216,253 +167,162 @@ fn meeting_line<O: Write>(
     g: Frame,
     met: Meeting,
 ) -> io::Result<()> {
-    numbered(out, b"both hold the link at ", met.instant)?;
-    text(out, b" ns, and at no earlier instant: ")?;
-    repeat(out, leg, f, met.first, met.instant)?;
-    text(out, b"; ")?;
-    repeat(out, other, g, met.second, met.instant)?;
-    text(out, b"\n")
+    let instant = met.instant;
+    write!(
+        out,
+        "both hold the link at {instant} ns, and at no earlier instant: "
+    )?;
+    repeat(out, leg, f, met.first, instant)?;
+    write!(out, "; ")?;
+    repeat(out, other, g, met.second, instant)?;
+    writeln!(out)
 }
 
-fn meeting_of<O: Write>(
-    out: &mut O,
-    t: &[u32],
-    leg: u32,
-    other: u32,
-    f: Frame,
-    g: Frame,
-) -> io::Result<()> {
-    let told = meeting::meeting(t, leg, other);
-    match told {
-        MeetingAnswer::Met(met) => {
-            meeting_line(out, leg, other, f, g, met)?;
-        }
-        MeetingAnswer::Never => {}
-        MeetingAnswer::Refused(number, at) => {}
-    }
-    Ok(())
-}
-
-// An overlap: the other leg's line, how far they lie apart, and where they meet first.
+/// An overlap: the other leg's line, how far they lie apart, and where they meet first.
 fn overlap<O: Write>(
     out: &mut O,
-    t: &[u32],
-    names_text: &[u8],
-    draft: &[u32],
+    plan: NamedTable,
     leg: u32,
     place: u32,
     f: Frame,
     s: Turns,
 ) -> io::Result<()> {
-    let other = std::num::wrapping_sub_u32(place, OWN);
-    if let Framed::Of(g) = legs::frame_of(t, other) {
-        legs::line(out, t, names_text, draft, other, g)?;
-        turns(out, leg, other, f, g, s)?;
-        meeting_of(out, t, leg, other, f, g)?;
+    let other = place.wrapping_sub(OWN);
+    let Some(g) = plan.frame(other) else {
+        return Ok(());
+    };
+    plan.put_leg(out, other, g)?;
+    turns(out, leg, other, f, g, s)?;
+    match meeting::meeting(plan.t, leg, other) {
+        Ok(Some(met)) => meeting_line(out, leg, other, f, g, met),
+        Ok(None) | Err(_) => Ok(()),
     }
-    Ok(())
 }
 
-// Nothing is asked: of which leg that is, the rule says.
+/// Nothing is asked: of which leg that is, the rule says.
 fn nothing_asked<O: Write>(out: &mut O, place: u32) -> io::Result<()> {
     match place {
-        HOP => {
-            text(out, b"hop: nothing is asked of the first leg of a route\n")?;
-        }
-        DEADLINE => {
-            text(
-                out,
-                b"deadline: nothing is asked but of the last leg of a route\n",
-            )?;
-        }
-        _ => {
-            text(
-                out,
-                b"overlap: nothing is asked of legs on different links\n",
-            )?;
-        }
+        HOP => writeln!(out, "hop: nothing is asked of the first leg of a route"),
+        DEADLINE => writeln!(
+            out,
+            "deadline: nothing is asked but of the last leg of a route"
+        ),
+        _ => writeln!(out, "overlap: nothing is asked of legs on different links"),
     }
-    Ok(())
 }
 
 fn rule<O: Write>(
     out: &mut O,
-    t: &[u32],
-    names_text: &[u8],
-    draft: &[u32],
+    plan: NamedTable,
     leg: u32,
     place: u32,
     f: Frame,
-    m: Margin,
+    margin: Margin,
 ) -> io::Result<()> {
-    match m {
-        Margin::Free => {
-            nothing_asked(out, place)?;
-        }
-        Margin::Sides(s) => {
-            sides(out, t, leg, place, f, s)?;
-        }
-        Margin::Turns(s) => {
-            overlap(out, t, names_text, draft, leg, place, f, s)?;
-        }
+    match margin {
+        Margin::Free => nothing_asked(out, place),
+        Margin::Sides(s) => sides(out, plan, leg, place, f, s),
+        Margin::Turns(s) => overlap(out, plan, leg, place, f, s),
     }
-    Ok(())
 }
 
-fn offset_word<O: Write>(out: &mut O, offset: Offset, side: &[u8]) -> io::Result<()> {
-    match offset {
-        Offset::At(x) => {
-            numbered(out, b"", x as u64)?;
-            text(out, b" ns")?;
-        }
-        Offset::None => {
-            text(out, b"none")?;
+/// An offset, if there is one.
+#[derive(Clone, Copy, Debug, PartialEq, Eq)]
+struct Offset(Option<u32>);
+
+impl fmt::Display for Offset {
+    fn fmt<W: fmt::Write>(&self, f: &mut fmt::Formatter<W>) -> fmt::Result {
+        match self.0 {
+            Some(x) => write!(f, "{x} ns"),
+            None => f.write_str("none"),
         }
     }
-    text(out, side)
 }
 
-// The nearest offsets that mend a place.
+/// The nearest offsets that mend a place.
 fn mends<O: Write>(out: &mut O, leg: u32, near: Nearest) -> io::Result<()> {
-    numbered(out, b"nearest offsets of leg ", leg as u64)?;
-    text(out, b" in its window with which this place holds: ")?;
-    let below = near.below;
-    let above = near.above;
-    offset_word(out, below, b" below, ")?;
-    offset_word(out, above, b" above\n")
+    let below = Offset(near.below);
+    let above = Offset(near.above);
+    writeln!(
+        out,
+        "nearest offsets of leg {leg} in its window with which this place holds: {below} below, {above} above"
+    )
 }
 
-fn mended<O: Write>(out: &mut O, t: &[u32], leg: u32, place: u32) -> io::Result<()> {
-    let told = margins::nearest_at(t, leg, place);
-    match told {
-        NearestAnswer::At(near) => {
-            mends(out, leg, near)?;
-        }
-        NearestAnswer::Refused(number, at) => {}
-    }
-    Ok(())
-}
-
-// The last lines: by how much, and where a place is violated what mends it.
+/// The last lines: by how much, and where a place is violated what mends it.
 fn ended<O: Write>(out: &mut O, t: &[u32], leg: u32, place: u32, spare: Spare) -> io::Result<()> {
-    by_how_much(out, spare)?;
-    if let Spare::Lacks(n) = spare {
-        mended(out, t, leg, place)?;
-        text(out, b"status 1\n")?;
-        return Ok(());
+    match spare {
+        Spare::Free => writeln!(out, "status 0"),
+        Spare::Left(n) => writeln!(out, "kept, with {n} ns left\nstatus 0"),
+        Spare::Lacks(n) => {
+            writeln!(out, "fails by {n} ns")?;
+            if let Ok(near) = margins::nearest_at(t, leg, place) {
+                mends(out, leg, near)?;
+            }
+            writeln!(out, "status 1")
+        }
     }
-    text(out, b"status 0\n")
 }
 
-// A place that the plan has.
-fn told<O: Write>(
-    out: &mut O,
-    t: &[u32],
-    names_text: &[u8],
-    draft: &[u32],
-    leg: u32,
-    place: u32,
-    m: Margin,
-    spare: Spare,
-) -> io::Result<()> {
-    verdict(out, leg, place, spare)?;
-    if let Framed::Of(f) = legs::frame_of(t, leg) {
-        legs::line(out, t, names_text, draft, leg, f)?;
-        rule(out, t, names_text, draft, leg, place, f, m)?;
-    }
-    ended(out, t, leg, place, spare)
-}
-
-// Says why a place cannot be explained: the plan is refused, or it has no such place.
-fn no_place<E: Write>(err: &mut E, t: &[u32], number: u32, at: usize, leg: u32, place: u32) {
-    if number < checker::cursors::STALE_CURSOR {
-        records::why(err, t, number, at);
-        return;
+/// Says why a place cannot be explained: the plan is refused, or it has no such place.
+fn no_place<E: Write>(err: &mut E, t: &[u32], refusal: Refusal, leg: u32, place: u32) {
+    if !matches!(refusal.cause, Cause::NoPlace | Cause::NoLeg) {
+        return records::why(err, t, refusal);
     }
     let legs = records::header_word(t, table::LEGS_AT);
     if legs <= leg {
-        reasons::line(
+        return report(
             err,
-            b"there is no leg #: the plan has # legs, counted from 0",
-            &[leg, legs],
+            format_args!("there is no leg {leg}: the plan has {legs} legs, counted from 0"),
         );
-        return;
     }
-    reasons::line(
+    report(
         err,
-        b"leg # has no place #: its places are 0, 1, 2, and 3 + b for each leg b below it",
-        &[leg, place],
+        format_args!(
+            "leg {leg} has no place {place}: its places are 0, 1, 2, and 3 + b for each leg b below it"
+        ),
     );
 }
 
-// Explains a place of a plan.
+/// Explains a place of a plan.
 pub(crate) fn place<O: Write, E: Write>(
     out: &mut O,
     err: &mut E,
-    t: &[u32],
-    names_text: &[u8],
-    draft: &[u32],
+    plan: NamedTable,
     leg: u32,
     place: u32,
 ) -> io::Result<()> {
-    let answer = margins::margin_at(t, leg, place);
-    match answer {
-        MarginAnswer::At(m, spare) => {
-            told(out, t, names_text, draft, leg, place, m, spare)?;
+    match margins::margin_at(plan.t, leg, place) {
+        Ok(at) => {
+            verdict(out, leg, place, at.spare)?;
+            if let Some(f) = plan.frame(leg) {
+                plan.put_leg(out, leg, f)?;
+                rule(out, plan, leg, place, f, at.margin)?;
+            }
+            ended(out, plan.t, leg, place, at.spare)
         }
-        MarginAnswer::Refused(number, at) => {
-            no_place(err, t, number, at, leg, place);
-            answers::plan_refused(out, number, at)?;
+        Err(refusal) => {
+            no_place(err, plan.t, refusal, leg, place);
+            answers::plan_refused(out, refusal)
         }
     }
-    Ok(())
 }
 
-fn found<O: Write, E: Write>(
-    out: &mut O,
-    err: &mut E,
-    t: &[u32],
-    names_text: &[u8],
-    draft: &[u32],
-    answer: SliceAnswer,
-) -> io::Result<()> {
-    match answer {
-        SliceAnswer::Violated(at, steps, rule) => {
-            place(out, err, t, names_text, draft, at.leg, at.place)?;
-        }
-        SliceAnswer::NothingViolated(end, steps) => {
-            answers::accepted(out)?;
-        }
-        SliceAnswer::Paused(at, steps) => {}
-        SliceAnswer::Refused(number, at, given) => {}
-    }
-    Ok(())
-}
-
-// Explains the first violated place of a plan.
+/// Explains the first violated place of a plan.
 pub(crate) fn first<O: Write, E: Write>(
     out: &mut O,
     err: &mut E,
-    t: &[u32],
-    names_text: &[u8],
-    draft: &[u32],
+    plan: NamedTable,
 ) -> io::Result<()> {
-    let started = checker::start(t);
-    match started {
-        Grant::Refused(number, at, given) => {
-            records::why(err, t, number, at);
-            answers::plan_refused(out, number, at)?;
-        }
-        Grant::Granted(cursor) => {
-            found(
-                out,
-                err,
-                t,
-                names_text,
-                draft,
-                checker::slice(t, cursor, ENOUGH),
-            )?;
+    match checker::start(plan.t) {
+        Ok(cursor) => match checker::slice(plan.t, cursor, ENOUGH) {
+            SliceAnswer::Violated(at, _, _) => place(out, err, plan, at.leg, at.place),
+            SliceAnswer::NothingViolated(_, _) => answers::accepted(out),
+            SliceAnswer::Paused(_, _) | SliceAnswer::Refused(_, _) => Ok(()),
+        },
+        Err(returned) => {
+            records::why(err, plan.t, returned.refusal);
+            answers::plan_refused(out, returned.refusal)
         }
     }
-    Ok(())
 }

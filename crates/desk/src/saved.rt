@@ -1,141 +1,103 @@
-// The place at which a saved cursor stands.
+//! The place at which a saved cursor stands.
 use crate::explain;
-use basics::Checked;
+use crate::legs::NamedTable;
+use basics::{Cause, Refusal};
 use durable::FileRead;
-use files::{Cursor, CursorRead};
-use reasons::records;
+use files::Cursor;
+use reasons::{records, report};
 use show::answers;
 use show::answers::Part;
 use std::io;
 use std::io::Write;
 use std::rt::Files;
 
-// The bytes of the longest cursor and one more, so that a byte left over is seen.
-const CURSOR_ROOM: usize = 16;
+/// The bytes of the longest cursor and one more, so that a byte left over is seen.
+const CURSOR_ROOM: usize = files::MAX_CURSOR_BYTES + 1;
 
 fn standing<O: Write, E: Write>(
     out: &mut O,
     err: &mut E,
-    t: &[u32],
-    names_text: &[u8],
-    draft: &[u32],
+    plan: NamedTable,
     at: Cursor,
 ) -> io::Result<()> {
-    if records::header_word(t, table::LEGS_AT) == at.leg {
-        show::text(
+    if records::header_word(plan.t, table::LEGS_AT) == at.leg {
+        return writeln!(
             out,
-            b"the cursor is at the end: there is no place to explain\nstatus 0\n",
-        )?;
-        return Ok(());
-    }
-    explain::place(out, err, t, names_text, draft, at.leg, at.place)
-}
-
-// Says why a cursor does not stand at a place of the plan.
-fn not_standing<E: Write>(err: &mut E, at: Cursor, number: u32, revision: u32) {
-    if number == checker::cursors::STALE_CURSOR {
-        reasons::line(
-            err,
-            b"the cursor is of revision #, and the plan of revision #",
-            &[at.revision, revision],
+            "the cursor is at the end: there is no place to explain\nstatus 0"
         );
-        return;
     }
-    reasons::line(
-        err,
-        b"the cursor is at leg #, place #, which the plan does not have",
-        &[at.leg, at.place],
-    );
+    explain::place(out, err, plan, at.leg, at.place)
 }
 
-// A cursor that was read: 8 and 9 are the cursor's, what comes before them the plan's.
-fn judged<O: Write, E: Write>(
+/// A cursor that does not stand at a place of the plan: 8 and 9 are the cursor's, what comes before them the plan's.
+fn not_standing<O: Write, E: Write>(
     out: &mut O,
     err: &mut E,
     t: &[u32],
-    names_text: &[u8],
-    draft: &[u32],
     at: Cursor,
+    refusal: Refusal,
 ) -> io::Result<()> {
-    let told = checker::cursors::judged_cursor(t, at);
-    match told {
-        Checked::Refused(number, position) => {
-            if number < checker::cursors::STALE_CURSOR {
-                records::why(err, t, number, position);
-                answers::plan_refused(out, number, position)?;
-                return Ok(());
-            }
-            let revision = records::header_word(t, table::REVISION_AT);
-            not_standing(err, at, number, revision);
-            answers::judged(out, number, position, revision, Part::Cursor)?;
-        }
-        Checked::Clear => {
-            standing(out, err, t, names_text, draft, at)?;
+    let revision = records::header_word(t, table::REVISION_AT);
+    match refusal.cause {
+        Cause::StaleCursor => report(
+            err,
+            format_args!(
+                "the cursor is of revision {}, and the plan of revision {revision}",
+                at.revision
+            ),
+        ),
+        Cause::NoPlace => report(
+            err,
+            format_args!(
+                "the cursor is at leg {}, place {}, which the plan does not have",
+                at.leg, at.place
+            ),
+        ),
+        _ => {
+            records::why(err, t, refusal);
+            return answers::plan_refused(out, refusal);
         }
     }
-    Ok(())
+    answers::judged(out, refusal, revision, Part::Cursor)
 }
 
 fn read<O: Write, E: Write>(
     out: &mut O,
     err: &mut E,
-    t: &[u32],
-    names_text: &[u8],
-    draft: &[u32],
+    plan: NamedTable,
     bytes: &[u8],
 ) -> io::Result<()> {
-    let saved = files::read_cursor(bytes);
-    match saved {
-        CursorRead::Saved(at) => {
-            judged(out, err, t, names_text, draft, at)?;
-        }
-        CursorRead::Refused(number, position) => {
-            reasons::line(
+    let at = match files::read_cursor(bytes) {
+        Ok(at) => at,
+        Err(refusal) => {
+            report(
                 err,
-                b"the file that is given as the cursor is no saved cursor",
-                &[],
+                "the file that is given as the cursor is no saved cursor",
             );
-            answers::unread(out, number, position, Part::Cursor)?;
+            return answers::unread(out, refusal, Part::Cursor);
         }
+    };
+    match checker::cursors::judged_cursor(plan.t, at) {
+        Ok(()) => standing(out, err, plan, at),
+        Err(refusal) => not_standing(out, err, plan.t, at, refusal),
     }
-    Ok(())
 }
 
-fn read_first<O: Write, E: Write>(
-    out: &mut O,
-    err: &mut E,
-    t: &[u32],
-    names_text: &[u8],
-    draft: &[u32],
-    bytes: &[u8],
-    n: usize,
-) -> io::Result<()> {
-    if bytes.len() < n {
-        return Ok(());
-    }
-    read(out, err, t, names_text, draft, &bytes[0..n])
-}
-
-// Explains the place at which the cursor in a file stands.
+/// Explains the place at which the cursor in a file stands.
 pub(crate) fn place<R: Files, O: Write, E: Write>(
     rt: &R,
     out: &mut O,
     err: &mut E,
-    t: &[u32],
-    names_text: &[u8],
-    draft: &[u32],
+    plan: NamedTable,
     path: &[u8],
 ) -> io::Result<()> {
-    let mut bytes = [0u8; CURSOR_ROOM];
-    let got = durable::file(rt, err, path, &mut bytes);
-    match got {
-        FileRead::Bytes(n) => {
-            read_first(out, err, t, names_text, draft, &bytes, n)?;
-        }
+    let mut room = [0u8; CURSOR_ROOM];
+    match durable::file(rt, err, path, &mut room) {
+        FileRead::Bytes(bytes) => read(out, err, plan, bytes),
         FileRead::Missing => {
             durable::missing(err, path);
+            Ok(())
         }
-        FileRead::Failed => {}
+        FileRead::Failed => Ok(()),
     }
-    Ok(())
 }

@@ -1,35 +1,26 @@
-// A survey: every violated place, each on a line as a check tells its first.
+//! A survey: every violated place, each on a line as a check tells its first.
 ghost use Rattle.checker.specs.Cursors.{CursorRight};
 
 use crate::args;
-use crate::args::Word;
-use basics::Checked;
-use checker::Grant;
 use files::Cursor;
 use reasons::records;
-use rules::Rule;
 use show::{answers, told};
 use std::env::Env;
 use std::io;
 use std::io::Write;
 use survey::Found;
 
-// More than any table has places.
-const ENOUGH: u32 = 4294967295;
+/// More than any table has places.
+const ENOUGH: u32 = u32::MAX;
 
-// How a survey ended: with so many violated places, and nothing violated after them up to the end; or paused, with where it stands.
+/// How a survey ended: with so many violated places, and nothing violated after them up to the end; or paused, with where it stands.
 #[derive(Clone, Copy)]
 enum Ended {
     Over(u32, Cursor),
     Stands(u32, Cursor),
 }
 
-fn noted<O: Write>(out: &mut O, at: Cursor, rule: Rule) -> io::Result<()> {
-    told::violated(out, at, rule)?;
-    show::end_line(out)
-}
-
-// Looks at the next places, as many as the budget says, and notes each violated one.
+/// Looks at the next places, as many as the budget says, and notes each violated one.
 fn surveyed<O: Write>(out: &mut O, t: &[u32], from: Cursor, budget: u32) -> io::Result<Ended>
     requires { CursorRight t.now from }
 {
@@ -46,58 +37,38 @@ fn surveyed<O: Write>(out: &mut O, t: &[u32], from: Cursor, budget: u32) -> io::
                 return Ok(Ended::Stands(count, at));
             }
             Found::Violated(at, steps, rule, next) => {
-                noted(out, at, rule)?;
+                told::violated(out, at, rule)?;
+                writeln!(out)?;
                 c = next;
                 left = left - steps;
-                count = std::num::wrapping_add_u32(count, 1);
+                count = count.wrapping_add(1);
             }
         }
     }
     Ok(Ended::Stands(count, c))
 }
 
-// The last line of a whole survey. It cannot pause: the budget is more than the places.
-fn summed_up<O: Write>(out: &mut O, ended: Ended, legs: usize) -> io::Result<()> {
-    match ended {
-        Ended::Over(count, end) => {
-            answers::survey_told(out, count, legs)?;
-        }
-        Ended::Stands(count, at) => {}
-    }
-    Ok(())
-}
-
-// Every violated place of a plan.
+/// Every violated place of a plan.
 pub(crate) fn all<O: Write, E: Write>(out: &mut O, err: &mut E, t: &[u32]) -> io::Result<()> {
     let started = checker::start(t);
     match started {
-        Grant::Refused(number, at, given) => {
-            records::why(err, t, number, at);
-            answers::plan_refused(out, number, at)?;
+        Ok(cursor) => {
+            let legs = records::leg_count(t);
+            answers::counts(out, legs)?;
+            match surveyed(out, t, cursor, ENOUGH)? {
+                Ended::Over(count, _) => answers::survey_told(out, count, legs),
+                // It cannot pause: the budget is more than the places.
+                Ended::Stands(_, _) => Ok(()),
+            }
         }
-        Grant::Granted(cursor) => {
-            answers::counts(out, records::leg_count(t))?;
-            let ended = surveyed(out, t, cursor, ENOUGH)?;
-            summed_up(out, ended, records::leg_count(t))?;
-        }
-    }
-    Ok(())
-}
-
-// The last line of a part: where the survey stands, or that it is over.
-fn part_ended<O: Write>(out: &mut O, ended: Ended, legs: usize) -> io::Result<()> {
-    match ended {
-        Ended::Over(count, at) => {
-            answers::survey_part(out, b"status 0 over", count, at, legs)?;
-        }
-        Ended::Stands(count, at) => {
-            answers::survey_part(out, b"status 3 stands", count, at, legs)?;
+        Err(returned) => {
+            records::why(err, t, returned.refusal);
+            answers::plan_refused(out, returned.refusal)
         }
     }
-    Ok(())
 }
 
-// A part of a survey, from where it stands on.
+/// A part of a survey, from where it stands on. Its last line says where it stands then, or that it is over.
 fn part_from<O: Write, E: Write>(
     out: &mut O,
     err: &mut E,
@@ -107,46 +78,44 @@ fn part_from<O: Write, E: Write>(
 ) -> io::Result<()> {
     let told = checker::cursors::judged_cursor(t, from);
     match told {
-        Checked::Refused(number, at) => {
-            records::why(err, t, number, at);
-            answers::plan_refused(out, number, at)?;
+        Ok(()) => {
+            let legs = records::leg_count(t);
+            match surveyed(out, t, from, budget)? {
+                Ended::Over(count, at) => {
+                    answers::survey_part(out, b"status 0 over", count, at, legs)
+                }
+                Ended::Stands(count, at) => {
+                    answers::survey_part(out, b"status 3 stands", count, at, legs)
+                }
+            }
         }
-        Checked::Clear => {
-            let ended = surveyed(out, t, from, budget)?;
-            part_ended(out, ended, records::leg_count(t))?;
+        Err(refusal) => {
+            records::why(err, t, refusal);
+            answers::plan_refused(out, refusal)
         }
     }
-    Ok(())
 }
 
+/// The part of a survey that the arguments ask for.
 pub(crate) fn part<R: Env, O: Write, E: Write>(
     rt: &R,
     out: &mut O,
     err: &mut E,
     t: &[u32],
 ) -> io::Result<()> {
-    let first = args::number_at(rt, err, args::LEG_AT, b"the leg");
-    let Word::Given(leg) = first else {
+    let Some(leg) = args::number_at(rt, err, args::LEG_AT, "the leg") else {
         return Ok(());
     };
-    let second = args::number_at(rt, err, args::PLACE_AT, b"the place");
-    let Word::Given(place) = second else {
+    let Some(place) = args::number_at(rt, err, args::PLACE_AT, "the place") else {
         return Ok(());
     };
-    let third = args::number_at(rt, err, args::BUDGET_AT, b"the budget");
-    let Word::Given(budget) = third else {
+    let Some(budget) = args::number_at(rt, err, args::BUDGET_AT, "the budget") else {
         return Ok(());
     };
-    let revision = records::header_word(t, table::REVISION_AT);
-    part_from(
-        out,
-        err,
-        t,
-        Cursor {
-            revision,
-            leg,
-            place,
-        },
-        budget,
-    )
+    let from = Cursor {
+        revision: records::header_word(t, table::REVISION_AT),
+        leg,
+        place,
+    };
+    part_from(out, err, t, from, budget)
 }

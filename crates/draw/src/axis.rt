@@ -1,217 +1,152 @@
-// The axis of time: where an instant stands, and round steps along it.
+//! The axis of time: where an instant stands, and round steps along it.
+ghost use Rattle.std.specs.Prelude.{◌≤◌};
+ghost use Rattle.std.specs.Iterator.{at_most};
+
 use crate::svg;
-use crate::svg::{larger, lesser, minus, plus};
-use show::{number, text};
 use std::io;
 use std::io::Write;
 
-// Internal: where the plot begins, and how wide it is.
+/// Where the plot begins, and how wide it is.
 pub(crate) const LEFT: u64 = 25000;
 
 pub(crate) const WIDTH: u64 = 80000;
 
-// More than any span of time that is drawn, in ns.
-const LONGEST: u64 = 100000000000;
+/// More than any span of time that is drawn, in ns.
+const LONGEST: u64 = 100_000_000_000;
 
-// There are at most so many steps: labels of eleven digits have room then.
+/// There are at most so many steps: labels of eleven digits have room then.
 const MOST_STEPS: u64 = 10;
 
 const MOST_LINES: u64 = 12;
 
-const MOST_POWERS: u64 = 11;
+const MOST_PERIODS: u64 = 10;
 
-// Internal: the stretch of time that is drawn.
-#[derive(Clone, Copy)]
+/// The powers of ten that a step is made of.
+const POWERS: [u64; 11] = [
+    1,
+    10,
+    100,
+    1000,
+    10_000,
+    100_000,
+    1_000_000,
+    10_000_000,
+    100_000_000,
+    1_000_000_000,
+    10_000_000_000,
+];
+
+/// Numbers from one on, each the step after the one before it: those below an end, and so many at most.
+#[derive(Clone, Copy, Debug, Drop)]
+pub(crate) struct Steps {
+    pub(crate) next: u64,
+    pub(crate) step: u64,
+    pub(crate) end: u64,
+    pub(crate) most: u64,
+}
+
+impl Iterator for Steps {
+    type Item = u64;
+
+    ghost remaining = { λ s. at_most s.most };
+
+    fn next(&mut self) -> Option<u64> {
+        if self.end <= self.next || self.most == 0 {
+            return None;
+        }
+        let next = self.next;
+        self.next = next.saturating_add(self.step);
+        self.most -= 1;
+        Some(next)
+    }
+}
+
+/// The stretch of time that is drawn.
+#[derive(Clone, Copy, Debug, PartialEq, Eq)]
 pub(crate) struct Axis {
     pub(crate) from: u64,
     pub(crate) to: u64,
 }
 
-// Internal: how long the stretch is, at least 1 ns.
-pub(crate) fn span(axis: Axis) -> u64 {
-    larger(minus(axis.to, axis.from), 1)
-}
+impl Axis {
+    /// How long the stretch is, at least 1 ns.
+    pub(crate) fn span(self) -> u64
+        ensures { 1 ≤ result }
+    {
+        self.to.saturating_sub(self.from).max(1)
+    }
 
-// Internal: where an instant stands. What lies outside the stretch stands at its end.
-pub(crate) fn place(axis: Axis, instant: u64) -> u64 {
-    let long = span(axis);
-    let past = lesser(minus(lesser(instant, axis.to), axis.from), LONGEST);
-    if LONGEST < past {
-        return LEFT;
+    /// Where an instant stands. What lies outside the stretch stands at its end.
+    pub(crate) fn place(self, instant: u64) -> u64 {
+        let past = instant.min(self.to).saturating_sub(self.from).min(LONGEST);
+        LEFT.saturating_add(past.saturating_mul(WIDTH) / self.span())
     }
-    if long == 0 {
-        return LEFT;
-    }
-    plus(LEFT, past * WIDTH / long)
-}
 
-fn is_step(axis: Axis, step: u64) -> bool {
-    if step == 0 {
-        return false;
-    }
-    span(axis) / step <= MOST_STEPS
-}
-
-// The least of a power of ten, its double and its fivefold that makes few steps, or 0.
-fn step_of(axis: Axis, power: u64) -> u64 {
-    if LONGEST < power {
-        return power;
-    }
-    if is_step(axis, power) {
-        return power;
-    }
-    if is_step(axis, 2 * power) {
-        return 2 * power;
-    }
-    if is_step(axis, 5 * power) {
-        return 5 * power;
-    }
-    0
-}
-
-fn ten_times(power: u64) -> u64 {
-    if LONGEST < power {
-        return power;
-    }
-    10 * power
-}
-
-// The step between two lines: 1, 2 or 5 times a power of ten.
-fn step(axis: Axis) -> u64 {
-    let mut power: u64 = 1;
-    let mut left = MOST_POWERS;
-    while 0 < left {
-        let found = step_of(axis, power);
-        if 0 < found {
-            return found;
+    /// The step between two lines: the least of 1, 2 or 5 times a power of ten that makes few steps.
+    fn step(self) -> u64 {
+        for power in POWERS {
+            for times in [1, 2, 5] {
+                let step = power.saturating_mul(times);
+                if self.steps(step) <= MOST_STEPS {
+                    return step;
+                }
+            }
         }
-        power = ten_times(power);
-        left = left - 1;
+        LONGEST
     }
-    power
+
+    /// How many steps there are in the stretch.
+    fn steps(self, step: u64) -> u64 {
+        self.span().checked_div(step).unwrap_or(u64::MAX)
+    }
+
+    /// The multiples of a step in the stretch.
+    fn multiples(self, step: u64) -> Steps {
+        Steps {
+            next: self
+                .from
+                .checked_next_multiple_of(step)
+                .unwrap_or(self.from),
+            step,
+            end: self.to.saturating_add(1),
+            most: MOST_LINES,
+        }
+    }
 }
 
-// The unit of a step: the coarsest in which it is whole.
-fn unit(step: u64) -> u64 {
-    if step % 1000000000 == 0 {
-        return 1000000000;
-    }
-    if step % 1000000 == 0 {
-        return 1000000;
-    }
-    if step % 1000 == 0 {
-        return 1000;
-    }
-    1
-}
-
-// The first multiple of a step that is not before an instant.
-fn first_from(instant: u64, step: u64) -> u64 {
-    if step == 0 {
-        return instant;
-    }
-    let over = instant % step;
-    if over == 0 {
-        return instant;
-    }
-    plus(minus(instant, over), step)
-}
-
-fn label<O: Write>(out: &mut O, axis: Axis, at: u64, unit: u64, y: u64) -> io::Result<()> {
-    if unit == 0 {
-        return Ok(());
-    }
-    svg::begin_text(out, b"mid small tick", place(axis, at), y)?;
-    number(out, at / unit)?;
-    svg::end_text(out)
-}
-
-// Internal: the lines of the steps from a height to another.
+/// The lines of the steps from a height to another.
 pub(crate) fn grid<O: Write>(out: &mut O, axis: Axis, top: u64, bottom: u64) -> io::Result<()> {
-    let by = step(axis);
-    let mut at = first_from(axis.from, by);
-    let mut left = MOST_LINES;
-    while 0 < left {
-        if axis.to < at {
-            return Ok(());
-        }
-        svg::line(out, b"grid", place(axis, at), top, place(axis, at), bottom)?;
-        at = plus(at, by);
-        left = left - 1;
+    for at in axis.multiples(axis.step()) {
+        let x = axis.place(at);
+        svg::line(out, "grid", x, top, x, bottom)?;
     }
     Ok(())
 }
 
-// Internal: the numbers of the steps, on one line of text.
+/// The numbers of the steps, on one line of text.
 pub(crate) fn labels<O: Write>(out: &mut O, axis: Axis, y: u64) -> io::Result<()> {
-    let by = step(axis);
-    let mut at = first_from(axis.from, by);
-    let mut left = MOST_LINES;
-    while 0 < left {
-        if axis.to < at {
-            return Ok(());
-        }
-        label(out, axis, at, unit(by), y)?;
-        at = plus(at, by);
-        left = left - 1;
+    let step = axis.step();
+    let (unit, _) = svg::coarsest_unit(step);
+    for at in axis.multiples(step) {
+        let n = at.checked_div(unit).unwrap_or(at);
+        svg::text(out, "mid small tick", axis.place(at), y, n)?;
     }
     Ok(())
 }
 
-// Internal: the line of the axis itself.
+/// The line of the axis itself.
 pub(crate) fn base<O: Write>(out: &mut O, y: u64) -> io::Result<()> {
-    svg::line(out, b"axis", LEFT, y, LEFT + WIDTH, y)
+    svg::line(out, "axis", LEFT, y, LEFT + WIDTH, y)
 }
 
-fn unit_name<O: Write>(out: &mut O, unit: u64) -> io::Result<()> {
-    if unit == 1000000000 {
-        text(out, b"s")?;
-        return Ok(());
-    }
-    if unit == 1000000 {
-        text(out, b"ms")?;
-        return Ok(());
-    }
-    if unit == 1000 {
-        text(out, b"\xC2\xB5s")?;
-        return Ok(());
-    }
-    text(out, b"ns")
+/// What the numbers are.
+pub(crate) fn caption<O: Write>(out: &mut O, axis: Axis, y: u64, after: &str) -> io::Result<()> {
+    let (_, unit) = svg::coarsest_unit(axis.step());
+    let caption = format_args!("time in {unit}{after}");
+    svg::text(out, "mid small quiet", LEFT + WIDTH / 2, y, caption)
 }
 
-// Internal: what the numbers are.
-pub(crate) fn caption<O: Write>(out: &mut O, axis: Axis, y: u64, after: &[u8]) -> io::Result<()> {
-    svg::begin_text(out, b"mid small quiet", LEFT + WIDTH / 2, y)?;
-    text(out, b"time in ")?;
-    unit_name(out, unit(step(axis)))?;
-    text(out, after)?;
-    svg::end_text(out)
-}
-
-// ---- The periods of a stream
-
-const MOST_PERIODS: u64 = 10;
-
-fn period_line<O: Write>(
-    out: &mut O,
-    axis: Axis,
-    at: u64,
-    period: u64,
-    top: u64,
-    bottom: u64,
-) -> io::Result<()> {
-    if period == 0 {
-        return Ok(());
-    }
-    let x = place(axis, at);
-    svg::line(out, b"period", x, top, x, bottom)?;
-    svg::begin_text(out, b"mid small quiet", x, minus(top, 2400))?;
-    svg::labelled(out, b"", at / period)?;
-    text(out, b" T")?;
-    svg::end_text(out)
-}
-
-// Internal: where periods begin, if those are few. Their names stand so far above that the deadline's has room below them.
+/// Where periods of a stream begin, if those are few. Their names stand so far above that the deadline's has room below them.
 pub(crate) fn periods<O: Write>(
     out: &mut O,
     axis: Axis,
@@ -219,21 +154,14 @@ pub(crate) fn periods<O: Write>(
     top: u64,
     bottom: u64,
 ) -> io::Result<()> {
-    if period == 0 {
+    if MOST_PERIODS < axis.steps(period) {
         return Ok(());
     }
-    if MOST_PERIODS < span(axis) / period {
-        return Ok(());
-    }
-    let mut at = first_from(axis.from, period);
-    let mut left = MOST_LINES;
-    while 0 < left {
-        if axis.to < at {
-            return Ok(());
-        }
-        period_line(out, axis, at, period, top, bottom)?;
-        at = plus(at, period);
-        left = left - 1;
+    for at in axis.multiples(period) {
+        let x = axis.place(at);
+        svg::line(out, "period", x, top, x, bottom)?;
+        let name = format_args!("{} T", at.checked_div(period).unwrap_or(0));
+        svg::text(out, "mid small quiet", x, top.saturating_sub(2400), name)?;
     }
     Ok(())
 }

@@ -1,221 +1,160 @@
-// The rows of a link's picture: the holds of each leg within the stretch.
-ghost use Rattle.shape.specs.Guarantees.{Guarantees};
-
-use crate::axis::{LEFT, WIDTH, place};
-use crate::page::{Page, get};
-use crate::svg::{labelled, larger, lesser, minus, plus};
+//! The rows of a link's picture: the holds of each leg within the stretch.
+use crate::axis::{LEFT, Steps, WIDTH};
+use crate::page::Page;
+use crate::plan::Named;
 use crate::{names, svg};
-use reasons::{records, small};
 use rules::Frame;
-use show::text;
 use std::io;
 use std::io::Write;
 
-// The columns that the name of a stream has.
+/// The columns that the name of a stream has.
 const STREAM_ROOM: u64 = 20;
 
 const MOST_REPEATS: u64 = 30000;
 
-// A hold is seen, however short it is.
+const MOST_STRIPES: u64 = 1024;
+
+/// A hold is seen, however short it is.
 const THINNEST: u64 = 200;
 
-// A gap is drawn where it is as wide as this.
+/// A gap is drawn where it is as wide as this.
 const SEEN: u64 = 100;
 
-// The first start of a leg whose hold is not over before an instant.
+/// A part of a row, from its upper edge on.
+#[derive(Clone, Copy, Debug)]
+struct Bars {
+    y: u64,
+    height: u64,
+}
+
+/// The first start of a leg whose hold is not over before an instant.
 fn first_start(f: Frame, instant: u64) -> u64 {
-    let end = plus(f.offset, f.hold);
-    if instant < end {
-        return f.offset;
-    }
-    if f.period == 0 {
-        return f.offset;
-    }
-    let past = instant - end;
-    plus(plus(f.offset, minus(past, past % f.period)), f.period)
-}
-
-// Where a stretch of time is drawn: from one end to the other, and at least as wide as a hold has to be.
-fn bar<O: Write>(
-    out: &mut O,
-    p: Page,
-    name: &[u8],
-    y: u64,
-    height: u64,
-    from: u64,
-    to: u64,
-) -> io::Result<()> {
-    let x = place(p.axis, larger(from, p.axis.from));
-    let end = place(p.axis, lesser(to, p.axis.to));
-    svg::rect(out, name, x, y, larger(minus(end, x), THINNEST), height)
-}
-
-fn gap<O: Write>(out: &mut O, p: Page, y: u64, height: u64, from: u64, to: u64) -> io::Result<()> {
-    if p.axis.to <= from {
-        return Ok(());
-    }
-    if to <= p.axis.from {
-        return Ok(());
-    }
-    bar(out, p, b"gap", y, height, from, to)
-}
-
-// Whether the gap after a frame is wide enough to be seen.
-fn gap_seen(p: Page, f: Frame) -> bool {
-    let wide = minus(
-        place(p.axis, plus(p.axis.from, f.hold)),
-        place(p.axis, plus(p.axis.from, f.wire)),
-    );
-    SEEN <= wide
-}
-
-fn hold<O: Write>(
-    out: &mut O,
-    p: Page,
-    f: Frame,
-    start: u64,
-    y: u64,
-    height: u64,
-) -> io::Result<()> {
-    bar(out, p, b"wire", y, height, start, plus(start, f.hold))?;
-    if gap_seen(p, f) {
-        gap(out, p, y, height, plus(start, f.wire), plus(start, f.hold))?;
-    }
-    Ok(())
-}
-
-// The holds of a leg within the stretch.
-fn holds<O: Write>(out: &mut O, p: Page, f: Frame, y: u64, height: u64) -> io::Result<()> {
-    let mut start = first_start(f, p.axis.from);
-    let mut left = MOST_REPEATS;
-    while 0 < left {
-        if p.axis.to <= start {
-            return Ok(());
+    match instant.checked_sub(f.offset.saturating_add(f.hold)) {
+        Some(past) if f.period != 0 => {
+            let whole = past.saturating_sub(past % f.period);
+            f.offset.saturating_add(whole).saturating_add(f.period)
         }
-        hold(out, p, f, start, y, height)?;
-        start = plus(start, f.period);
-        left = left - 1;
+        _ => f.offset,
     }
-    Ok(())
 }
 
-// What is shown where the pointer rests on a row.
-fn told<O: Write>(out: &mut O, f: Frame, a: u32) -> io::Result<()> {
-    labelled(out, b"<title>leg ", a as u64)?;
-    labelled(out, b": from ", f.offset)?;
-    labelled(out, b" to ", plus(f.offset, f.hold))?;
-    labelled(out, b" ns of each period of ", f.period)?;
-    text(out, b" ns</title>\n")
+impl Bars {
+    /// Draws a stretch of time: from one end to the other, and at least as wide as a hold has to be.
+    fn bar<O: Write>(
+        self,
+        out: &mut O,
+        page: &Page,
+        class: &str,
+        from: u64,
+        to: u64,
+    ) -> io::Result<()> {
+        let x = page.axis.place(from.max(page.axis.from));
+        let end = page.axis.place(to.min(page.axis.to));
+        let width = end.saturating_sub(x).max(THINNEST);
+        svg::rect(out, class, x, self.y, width, self.height)
+    }
+
+    fn hold<O: Write>(self, out: &mut O, page: &Page, f: Frame, start: u64) -> io::Result<()> {
+        let sent = start.saturating_add(f.wire);
+        let end = start.saturating_add(f.hold);
+        self.bar(out, page, "wire", start, end)?;
+        if is_gap_seen(page, f) && sent < page.axis.to && page.axis.from < end {
+            self.bar(out, page, "gap", sent, end)?;
+        }
+        Ok(())
+    }
+
+    /// The holds of a leg within the stretch.
+    fn holds<O: Write>(self, out: &mut O, page: &Page, f: Frame) -> io::Result<()> {
+        let starts = Steps {
+            next: first_start(f, page.axis.from),
+            step: f.period,
+            end: page.axis.to,
+            most: MOST_REPEATS,
+        };
+        for start in starts {
+            self.hold(out, page, f, start)?;
+        }
+        Ok(())
+    }
 }
 
-fn label<O: Write>(
-    out: &mut O,
-    t: &[u32],
-    names: &[u8],
-    draft: &[u32],
-    a: u32,
-    y: u64,
-) -> io::Result<()> {
-    svg::begin_text(out, b"leg-name", 2000, y)?;
-    labelled(out, b"leg ", a as u64)?;
-    svg::end_text(out)?;
-    svg::begin_text(out, b"stream-name", 9200, y)?;
-    names::stream(out, names, draft, records::leg_at(t, a).stream, STREAM_ROOM)?;
+/// Whether the gap after a frame is wide enough to be seen.
+fn is_gap_seen(page: &Page, f: Frame) -> bool {
+    let from = page.axis.from;
+    let end = page.axis.place(from.saturating_add(f.hold));
+    let sent = page.axis.place(from.saturating_add(f.wire));
+    SEEN <= end.saturating_sub(sent)
+}
+
+fn label<O: Write>(out: &mut O, plan: &Named, a: usize, y: u64) -> io::Result<()> {
+    svg::text(out, "leg-name", 2000, y, format_args!("leg {a}"))?;
+    svg::begin_text(out, "stream-name", 9200, y)?;
+    names::stream(out, plan.names, plan.leg(a).stream, STREAM_ROOM)?;
     svg::end_text(out)
-}
-
-fn begin_row<O: Write>(out: &mut O, bad: bool) -> io::Result<()> {
-    if bad {
-        text(out, b"<g class=\"leg bad\">\n")?;
-        return Ok(());
-    }
-    text(out, b"<g class=\"leg\">\n")
 }
 
 fn row<O: Write>(
     out: &mut O,
-    t: &[u32],
-    names: &[u8],
-    draft: &[u32],
-    p: Page,
-    a: u32,
-    f: Frame,
-    y: u64,
-    bad: bool,
-) -> io::Result<()> {
-    let inset = p.tall / 7;
-    label(out, t, names, draft, a, plus(plus(y, p.tall / 2), 430))?;
-    begin_row(out, bad)?;
-    told(out, f, a)?;
-    holds(out, p, f, plus(y, inset), minus(p.tall, plus(inset, inset)))?;
-    text(out, b"</g>\n")
-}
-
-fn row_of<O: Write>(
-    out: &mut O,
-    t: &[u32],
-    names: &[u8],
-    draft: &[u32],
-    p: Page,
+    plan: &Named,
+    page: &Page,
     a: usize,
-    ys: &[u64],
-    bad: &[u64],
-) -> io::Result<()>
-    requires { Guarantees t.now }
-{
-    if table::wide(t[table::LEGS_AT]) <= a {
+    y: u64,
+    is_bad: bool,
+) -> io::Result<()> {
+    let Some(leg) = plan.timed(a) else {
         return Ok(());
-    }
-    if rules::judge::link(t, a) != p.link {
-        return Ok(());
-    }
-    row(
+    };
+    let f = leg.frame;
+    let middle = y.saturating_add(page.tall / 2);
+    label(out, plan, a, middle.saturating_add(430))?;
+    let class = if is_bad { "leg bad" } else { "leg" };
+    writeln!(out, "<g class=\"{class}\">")?;
+    let offset = f.offset;
+    let end = f.offset.saturating_add(f.hold);
+    let period = f.period;
+    // What is shown where the pointer rests on a row.
+    writeln!(
         out,
-        t,
-        names,
-        draft,
-        p,
-        small(a),
-        rules::times::frame(t, a),
-        get(ys, a),
-        0 < get(bad, a),
-    )
+        "<title>leg {a}: from {offset} to {end} ns of each period of {period} ns</title>"
+    )?;
+    let inset = page.tall / 7;
+    let bars = Bars {
+        y: y.saturating_add(inset),
+        height: page.tall.saturating_sub(inset.saturating_add(inset)),
+    };
+    bars.holds(out, page, f)?;
+    writeln!(out, "</g>")
 }
 
-// Internal: the rows of all legs on the link.
+/// The rows of all legs on the link. Those that are in a violated place are marked.
 pub(crate) fn all<O: Write>(
     out: &mut O,
-    t: &[u32],
-    names: &[u8],
-    draft: &[u32],
-    p: Page,
-    ys: &[u64],
-    bad: &[u64],
-) -> io::Result<()>
-    requires { Guarantees t.now }
-{
-    let legs = table::wide(t[table::LEGS_AT]);
-    let mut a: usize = 0;
-    while a < legs {
-        row_of(out, t, names, draft, p, a, ys, bad)?;
-        a = a + 1;
+    plan: &Named,
+    page: &Page,
+    is_bad: &[bool],
+) -> io::Result<()> {
+    let mut i: u64 = 0;
+    for a in 0..plan.legs() {
+        if plan.leg(a).link == page.link {
+            let bad = is_bad.get(a).copied().unwrap_or(false);
+            row(out, plan, page, a, page.row(i), bad)?;
+            i = i.saturating_add(1);
+        }
     }
     Ok(())
 }
 
-const MOST_STRIPES: u64 = 1024;
-
-// Internal: every other row has a ground of its own, so that it can be followed.
-pub(crate) fn stripes<O: Write>(out: &mut O, p: Page, bottom: u64) -> io::Result<()> {
-    let mut y = p.top;
-    let mut left = MOST_STRIPES;
-    while 0 < left {
-        if bottom <= y {
-            return Ok(());
-        }
-        svg::rect(out, b"stripe", 1200, y, LEFT + WIDTH - 1200, p.tall)?;
-        y = plus(y, plus(p.tall, p.tall));
-        left = left - 1;
+/// Every other row has a ground of its own, so that it can be followed.
+pub(crate) fn stripes<O: Write>(out: &mut O, page: &Page) -> io::Result<()> {
+    let every_other = Steps {
+        next: page.top,
+        step: page.tall.saturating_add(page.tall),
+        end: page.bottom(),
+        most: MOST_STRIPES,
+    };
+    for y in every_other {
+        svg::rect(out, "stripe", 1200, y, LEFT + WIDTH - 1200, page.tall)?;
     }
     Ok(())
 }

@@ -1,19 +1,13 @@
-// The picture of a stream: its legs over links and time, for the frame of period 0.
-ghost use Rattle.shape.specs.Guarantees.{Guarantees};
-ghost use Rattle.rules.specs.Steps.{LegIn, FrameOf};
-
-use crate::axis::{Axis, LEFT, WIDTH, place};
-use crate::svg::{labelled, larger, lasting, minus, plus};
+//! The picture of a stream: its legs over links and time, for the frame of period 0.
+use crate::axis::{Axis, LEFT, WIDTH};
+use crate::plan::Named;
+use crate::svg::Lasting;
 use crate::{axis, names, svg};
-use basics::Holds;
-use reasons::records::header_word;
-use reasons::{records, small};
-use rules::Frame;
-use show::text;
+use rules::leg::TimedLeg;
 use std::io;
 use std::io::Write;
 
-// Where what is told of each leg stands, and how wide the picture is.
+/// Where what is told of each leg stands, and how wide the picture is.
 const TOLD: u64 = LEFT + WIDTH + 1500;
 
 const PAGE: u64 = TOLD + 20500;
@@ -24,7 +18,7 @@ const ROW: u64 = 5000;
 
 const FOOT: u64 = 8000;
 
-// The columns that names have: of a stream and of nodes in the title, and of a node beside its row.
+/// The columns that names have: of a stream and of nodes in the title, and of a node beside its row.
 const STREAM_ROOM: u64 = 24;
 
 const NODE_ROOM: u64 = 24;
@@ -33,163 +27,115 @@ const ROW_NODE_ROOM: u64 = 14;
 
 const THINNEST: u64 = 200;
 
-// Internal: what is drawn: the stretch of time, the legs from the first to before the end, and when the deadline is.
-#[derive(Clone, Copy)]
+/// What is drawn: the stretch of time, the legs from the first to before the end, and when the deadline is.
+#[derive(Clone, Copy, Debug)]
 struct Route {
+    stream: u32,
     axis: Axis,
     first: usize,
     end: usize,
     due: u64,
 }
 
-// ---- Times
-
-fn precision(t: &[u32]) -> u64 {
-    header_word(t, table::PRECISION_AT) as u64
+/// Where the row of the i-th leg of a route begins.
+fn row_at(i: usize) -> u64 {
+    TOP.saturating_add((i as u64).saturating_mul(ROW))
 }
 
-// When a frame is at the next node by every clock.
-fn ready(t: &[u32], f: Frame) -> u64 {
-    plus(plus(plus(f.start, f.wire), f.propagation), precision(t))
-}
-
-fn start_at(t: &[u32], a: usize) -> u64
-    requires { Guarantees t.now }
-{
-    if table::wide(t[table::LEGS_AT]) <= a {
-        return 0;
-    }
-    rules::times::frame(t, a).start
-}
-
-fn ready_at(t: &[u32], a: usize) -> u64
-    requires { Guarantees t.now }
-{
-    if table::wide(t[table::LEGS_AT]) <= a {
-        return 0;
-    }
-    ready(t, rules::times::frame(t, a))
-}
-
-// When nothing more is drawn of a leg.
-fn over_at(t: &[u32], a: usize) -> u64
-    requires { Guarantees t.now }
-{
-    if table::wide(t[table::LEGS_AT]) <= a {
-        return 0;
-    }
-    let f = rules::times::frame(t, a);
-    larger(plus(f.start, f.hold), ready(t, f))
-}
-
-fn latest(t: &[u32], first: usize, end: usize) -> u64
-    requires { Guarantees t.now }
-{
-    let mut last: u64 = 0;
-    let mut a = first;
-    while a < end {
-        last = larger(last, over_at(t, a));
-        a = a + 1;
-    }
-    last
-}
-
-fn earliest(t: &[u32], first: usize, end: usize) -> u64
-    requires { Guarantees t.now }
-{
-    let mut least = start_at(t, first);
-    let mut a = first;
-    while a < end {
-        least = svg::lesser(least, start_at(t, a));
-        a = a + 1;
-    }
-    least
-}
-
-// The end of what is drawn: a deadline that is far off is not waited for.
+/// The end of what is drawn: a deadline that is far off is not waited for.
 fn end_of(from: u64, over: u64, due: u64) -> u64 {
-    let long = minus(over, from);
-    let twice = plus(long, long);
-    if plus(from, plus(twice, twice)) < due {
+    let long = over.saturating_sub(from);
+    if from.saturating_add(long.saturating_mul(4)) < due {
         return over;
     }
-    larger(over, due)
+    over.max(due)
 }
 
+/// A stretch of time with a margin.
 fn framed(from: u64, to: u64) -> Axis {
-    let margin = plus(minus(to, from) / 20, 1);
+    let margin = (to.saturating_sub(from) / 20).saturating_add(1);
     Axis {
-        from: minus(from, margin),
-        to: plus(to, margin),
+        from: from.saturating_sub(margin),
+        to: to.saturating_add(margin),
     }
 }
 
-fn route_of(t: &[u32], stream: u32) -> Route
-    requires { Guarantees t.now }
-{
-    let s = records::stream_at(t, stream);
-    let first = table::wide(s.first);
-    let end = std::num::wrapping_add_usize(first, table::wide(s.count));
-    let from = earliest(t, first, end);
-    let due = plus(start_at(t, first), s.deadline as u64);
-    Route {
-        axis: framed(from, end_of(from, latest(t, first, end), due)),
-        first,
-        end,
-        due,
+fn start_at(plan: &Named, a: usize) -> u64 {
+    match plan.timed(a) {
+        Some(leg) => leg.frame.start,
+        None => 0,
+    }
+}
+
+fn ready_at(plan: &Named, a: usize) -> u64 {
+    match plan.timed(a) {
+        Some(leg) => leg.ready(),
+        None => 0,
+    }
+}
+
+impl Route {
+    fn of(plan: &Named, stream: u32) -> Route {
+        let s = plan.stream(stream);
+        let first = s.first as usize;
+        let end = first.saturating_add(s.count as usize);
+        let mut from = start_at(plan, first);
+        let mut over = 0;
+        for a in first..end {
+            if let Some(leg) = plan.timed(a) {
+                let f = leg.frame;
+                from = from.min(f.start);
+                // Nothing more is drawn of a leg then.
+                over = over.max(f.start.saturating_add(f.hold)).max(leg.ready());
+            }
+        }
+        let due = start_at(plan, first).saturating_add(u64::from(s.deadline));
+        Route {
+            stream,
+            axis: framed(from, end_of(from, over, due)),
+            first,
+            end,
+            due,
+        }
+    }
+
+    /// The last leg.
+    fn last(&self) -> usize {
+        self.end.saturating_sub(1)
+    }
+
+    /// Where the last row ends.
+    fn bottom(&self) -> u64 {
+        row_at(self.end.saturating_sub(self.first))
     }
 }
 
 // ---- What is told of a rule
 
-fn is_kept(told: Holds) -> bool {
-    match told {
-        Holds::Yes => true,
-        Holds::No => false,
-    }
-}
-
-// How much time is left, or lacking.
-fn spare<O: Write>(out: &mut O, kept: bool, from: u64, to: u64) -> io::Result<()> {
+/// Prints how much time is left, or lacking.
+fn put_spare<O: Write>(out: &mut O, kept: bool, from: u64, to: u64) -> io::Result<()> {
     if kept {
-        labelled(out, b"", minus(to, from))?;
-        text(out, b" ns left")?;
-        return Ok(());
+        return write!(out, "{} ns left", to.saturating_sub(from));
     }
-    labelled(out, b"lacks ", minus(from, to))?;
-    text(out, b" ns")
+    write!(out, "lacks {} ns", from.saturating_sub(to))
 }
 
-fn begin_told<O: Write>(out: &mut O, kept: bool, x: u64, y: u64) -> io::Result<()> {
-    if kept {
-        svg::begin_text(out, b"small", x, y)?;
-        return Ok(());
-    }
-    svg::begin_text(out, b"small fault", x, y)
-}
-
-fn rule_told<O: Write>(
+fn put_rule<O: Write>(
     out: &mut O,
-    rule: &[u8],
+    rule: &str,
     kept: bool,
     from: u64,
     to: u64,
     y: u64,
 ) -> io::Result<()> {
-    begin_told(out, kept, TOLD, y)?;
-    text(out, rule)?;
-    spare(out, kept, from, to)?;
+    let class = if kept { "small" } else { "small fault" };
+    svg::begin_text(out, class, TOLD, y)?;
+    write!(out, "{rule}: ")?;
+    put_spare(out, kept, from, to)?;
     svg::end_text(out)
 }
 
-fn start_told<O: Write>(out: &mut O, f: Frame, y: u64) -> io::Result<()> {
-    svg::begin_text(out, b"small", TOLD, y)?;
-    labelled(out, b"starts at ", f.start)?;
-    text(out, b" ns")?;
-    svg::end_text(out)
-}
-
-// The time between two instants as a line, by whether the first is the earlier.
+/// The time between two instants as a line, by whether the first is the earlier.
 fn between<O: Write>(
     out: &mut O,
     axis: Axis,
@@ -198,25 +144,13 @@ fn between<O: Write>(
     to: u64,
     y: u64,
 ) -> io::Result<()> {
+    let (from, to) = (axis.place(from), axis.place(to));
     if kept {
-        svg::line(
-            out,
-            b"spare",
-            place(axis, from),
-            plus(y, 2200),
-            place(axis, to),
-            plus(y, 2200),
-        )?;
-        return Ok(());
+        let y = y.saturating_add(2200);
+        return svg::line(out, "spare", from, y, to, y);
     }
-    svg::line(
-        out,
-        b"lack",
-        place(axis, to),
-        plus(y, 3700),
-        place(axis, from),
-        plus(y, 3700),
-    )
+    let y = y.saturating_add(3700);
+    svg::line(out, "lack", to, y, from, y)
 }
 
 // ---- A leg
@@ -224,416 +158,226 @@ fn between<O: Write>(
 fn bar<O: Write>(
     out: &mut O,
     axis: Axis,
-    name: &[u8],
+    class: &str,
     y: u64,
     from: u64,
     to: u64,
 ) -> io::Result<()> {
-    let x = place(axis, from);
-    svg::rect(
-        out,
-        name,
-        x,
-        plus(y, 1200),
-        larger(minus(place(axis, to), x), THINNEST),
-        2000,
-    )
+    let x = axis.place(from);
+    let width = axis.place(to).saturating_sub(x).max(THINNEST);
+    svg::rect(out, class, x, y.saturating_add(1200), width, 2000)
 }
 
-fn way<O: Write>(out: &mut O, t: &[u32], axis: Axis, f: Frame, y: u64) -> io::Result<()> {
-    let x = place(axis, ready(t, f));
-    svg::line(
+/// The way of a frame to the next node, after it was sent.
+fn way<O: Write>(out: &mut O, axis: Axis, leg: &TimedLeg, y: u64) -> io::Result<()> {
+    let f = leg.frame;
+    let sent = axis.place(f.start.saturating_add(f.wire));
+    let x = axis.place(leg.ready());
+    let middle = y.saturating_add(2200);
+    svg::line(out, "way", sent, middle, x, middle)?;
+    let (upper, lower) = (y.saturating_add(1700), y.saturating_add(2700));
+    svg::line(out, "way", x, upper, x, lower)
+}
+
+fn frame<O: Write>(out: &mut O, axis: Axis, leg: &TimedLeg, y: u64, kept: bool) -> io::Result<()> {
+    let f = leg.frame;
+    let class = if kept { "leg" } else { "leg bad" };
+    writeln!(out, "<g class=\"{class}\">")?;
+    bar(out, axis, "gap", y, f.start, f.start.saturating_add(f.hold))?;
+    bar(
         out,
-        b"way",
-        place(axis, plus(f.start, f.wire)),
-        plus(y, 2200),
-        x,
-        plus(y, 2200),
+        axis,
+        "wire",
+        y,
+        f.start,
+        f.start.saturating_add(f.wire),
     )?;
-    svg::line(out, b"way", x, plus(y, 1700), x, plus(y, 2700))
+    writeln!(out, "</g>")?;
+    way(out, axis, leg, y)
 }
 
-fn frame_drawn<O: Write>(
-    out: &mut O,
-    t: &[u32],
-    axis: Axis,
-    f: Frame,
-    y: u64,
-    kept: bool,
-) -> io::Result<()> {
-    if kept {
-        text(out, b"<g class=\"leg\">\n")?;
-    } else {
-        text(out, b"<g class=\"leg bad\">\n")?;
-    }
-    bar(out, axis, b"gap", y, f.start, plus(f.start, f.hold))?;
-    bar(out, axis, b"wire", y, f.start, plus(f.start, f.wire))?;
-    text(out, b"</g>\n")?;
-    way(out, t, axis, f, y)
-}
-
-fn label<O: Write>(
-    out: &mut O,
-    t: &[u32],
-    names: &[u8],
-    draft: &[u32],
-    a: usize,
-    link: u32,
-    y: u64,
-) -> io::Result<()> {
-    svg::begin_text(out, b"leg-name", 2000, plus(y, 2100))?;
-    labelled(out, b"leg ", a as u64)?;
-    labelled(out, b", link ", link as u64)?;
-    svg::end_text(out)?;
-    svg::begin_text(out, b"small quiet", 2000, plus(y, 3800))?;
-    names::link(out, names, draft, t, link, ROW_NODE_ROOM)?;
+fn label<O: Write>(out: &mut O, plan: &Named, a: usize, link: u32, y: u64) -> io::Result<()> {
+    let name = format_args!("leg {a}, link {link}");
+    svg::text(out, "leg-name", 2000, y.saturating_add(2100), name)?;
+    svg::begin_text(out, "small quiet", 2000, y.saturating_add(3800))?;
+    plan.put_ends(out, link, ROW_NODE_ROOM)?;
     svg::end_text(out)
 }
 
-// From when the leg before it is ready to when a leg starts.
+/// From when the leg before it is ready to when a leg starts.
 fn hop<O: Write>(
     out: &mut O,
-    t: &[u32],
-    r: Route,
-    a: usize,
-    f: Frame,
-    y: u64,
-    kept: bool,
-) -> io::Result<()>
-    requires { Guarantees t.now }
-{
-    if a <= r.first {
-        start_told(out, f, plus(y, 2100))?;
-        return Ok(());
-    }
-    let at = ready_at(t, a - 1);
-    let x = place(r.axis, at);
-    svg::line(out, b"hop", x, minus(y, 2300), x, plus(y, 2200))?;
-    between(out, r.axis, kept, at, f.start, y)?;
-    rule_told(out, b"hop: ", kept, at, f.start, plus(y, 2100))
-}
-
-fn window<O: Write>(out: &mut O, f: Frame, y: u64, kept: bool) -> io::Result<()> {
-    rule_told(
-        out,
-        b"window: ",
-        kept,
-        plus(f.offset, f.hold),
-        f.period,
-        plus(y, 3800),
-    )
-}
-
-fn deadline<O: Write>(
-    out: &mut O,
-    t: &[u32],
-    r: Route,
-    a: usize,
-    f: Frame,
+    plan: &Named,
+    r: &Route,
+    leg: &TimedLeg,
     y: u64,
     kept: bool,
 ) -> io::Result<()> {
-    if std::num::wrapping_add_usize(a, 1) < r.end {
+    let a = leg.at;
+    let start = leg.frame.start;
+    let told = y.saturating_add(2100);
+    if a <= r.first {
+        let starts = format_args!("starts at {start} ns");
+        return svg::text(out, "small", TOLD, told, starts);
+    }
+    let at = ready_at(plan, a.saturating_sub(1));
+    let x = r.axis.place(at);
+    let (upper, lower) = (y.saturating_sub(2300), y.saturating_add(2200));
+    svg::line(out, "hop", x, upper, x, lower)?;
+    between(out, r.axis, kept, at, start, y)?;
+    put_rule(out, "hop", kept, at, start, told)
+}
+
+fn leg<O: Write>(out: &mut O, plan: &Named, r: &Route, a: usize, y: u64) -> io::Result<()> {
+    let Some(leg) = plan.timed(a) else {
         return Ok(());
+    };
+    let f = leg.frame;
+    let in_window = leg.keeps_window();
+    let in_hop = leg.keeps_hop();
+    let in_time = leg.keeps_deadline();
+    label(out, plan, a, f.link, y)?;
+    hop(out, plan, r, &leg, y, in_hop)?;
+    if a == r.last() {
+        between(out, r.axis, in_time, leg.ready(), r.due, y)?;
     }
-    between(out, r.axis, kept, ready(t, f), r.due, y)
+    let kept = in_window && in_hop && in_time;
+    frame(out, r.axis, &leg, y, kept)?;
+    let over = f.offset.saturating_add(f.hold);
+    let below = y.saturating_add(3800);
+    put_rule(out, "window", in_window, over, f.period, below)
 }
 
-fn both(a: bool, b: bool) -> bool {
-    if a {
-        return b;
-    }
-    false
-}
-
-fn leg<O: Write>(
-    out: &mut O,
-    t: &[u32],
-    names: &[u8],
-    draft: &[u32],
-    r: Route,
-    a: usize,
-    y: u64,
-) -> io::Result<()>
-    requires { LegIn t.now a }
-{
-    let f = rules::times::frame(t, a);
-    let in_window = is_kept(rules::judge::window_told(t, a, f));
-    let in_hop = is_kept(rules::judge::hop_told(t, a, f));
-    let in_time = is_kept(rules::judge::deadline_told(t, a, f));
-    label(out, t, names, draft, a, f.link, y)?;
-    hop(out, t, r, a, f, y, in_hop)?;
-    deadline(out, t, r, a, f, y, in_time)?;
-    frame_drawn(out, t, r.axis, f, y, both(in_window, both(in_hop, in_time)))?;
-    window(out, f, y, in_window)
-}
-
-fn stripe<O: Write>(out: &mut O, r: Route, a: usize, y: u64) -> io::Result<()> {
-    if std::num::wrapping_sub_usize(a, r.first) % 2 == 0 {
-        svg::rect(out, b"stripe", 1200, y, PAGE - 2400, ROW)?;
-    }
-    Ok(())
-}
-
-fn row<O: Write>(
-    out: &mut O,
-    t: &[u32],
-    names: &[u8],
-    draft: &[u32],
-    r: Route,
-    a: usize,
-    y: u64,
-) -> io::Result<()>
-    requires { Guarantees t.now }
-{
-    if table::wide(t[table::LEGS_AT]) <= a {
-        return Ok(());
-    }
-    leg(out, t, names, draft, r, a, y)
-}
-
-fn rows<O: Write>(out: &mut O, t: &[u32], names: &[u8], draft: &[u32], r: Route) -> io::Result<()>
-    requires { Guarantees t.now }
-{
-    let mut y = TOP;
-    let mut a = r.first;
-    while a < r.end {
-        row(out, t, names, draft, r, a, y)?;
-        y = plus(y, ROW);
-        a = a + 1;
-    }
-    Ok(())
-}
-
-// The grounds of the rows. Answers where the last row ends.
-fn stripes<O: Write>(out: &mut O, r: Route, drawn: bool) -> io::Result<u64> {
-    let mut y = TOP;
-    let mut a = r.first;
-    while a < r.end {
-        if drawn {
-            stripe(out, r, a, y)?;
+/// The grounds of every other row.
+fn stripes<O: Write>(out: &mut O, r: &Route) -> io::Result<()> {
+    for i in 0..r.end.saturating_sub(r.first) {
+        if i % 2 == 0 {
+            svg::rect(out, "stripe", 1200, row_at(i), PAGE - 2400, ROW)?;
         }
-        y = plus(y, ROW);
-        a = a + 1;
     }
-    Ok(y)
+    Ok(())
+}
+
+fn rows<O: Write>(out: &mut O, plan: &Named, r: &Route) -> io::Result<()> {
+    for a in r.first..r.end {
+        leg(out, plan, r, a, row_at(a.saturating_sub(r.first)))?;
+    }
+    Ok(())
 }
 
 // ---- The whole
 
-fn is_due_kept(t: &[u32], r: Route) -> bool
-    requires { Guarantees t.now }
-{
-    let last = std::num::wrapping_sub_usize(r.end, 1);
-    if table::wide(t[table::LEGS_AT]) <= last {
-        return true;
-    }
-    is_kept(rules::judge::deadline_told(t, last, rules::times::frame(t, last)))
-}
-
-fn due_told<O: Write>(out: &mut O, t: &[u32], r: Route) -> io::Result<()>
-    requires { Guarantees t.now }
-{
-    labelled(out, b"deadline at ", r.due)?;
-    text(out, b" ns: ")?;
-    spare(
-        out,
-        is_due_kept(t, r),
-        ready_at(t, std::num::wrapping_sub_usize(r.end, 1)),
-        r.due,
-    )
-}
-
-fn due_class<O: Write>(
-    out: &mut O,
-    kept: bool,
-    name: &[u8],
-    fault: &[u8],
-    x: u64,
-) -> io::Result<()> {
-    if kept {
-        svg::begin_text(out, name, x, TOP - 600)?;
-        return Ok(());
-    }
-    svg::begin_text(out, fault, x, TOP - 600)
-}
-
-fn due_text<O: Write>(out: &mut O, t: &[u32], r: Route, x: u64) -> io::Result<()>
-    requires { Guarantees t.now }
-{
-    if x < LEFT + WIDTH / 2 {
-        due_class(
-            out,
-            is_due_kept(t, r),
-            b"small due-text",
-            b"small due-text fault",
-            plus(x, 600),
-        )?;
-        return Ok(());
-    }
-    due_class(
-        out,
-        is_due_kept(t, r),
-        b"small due-text end",
-        b"small due-text end fault",
-        minus(x, 600),
-    )
-}
-
-// The deadline, or that it lies further on.
-fn due<O: Write>(out: &mut O, t: &[u32], r: Route, bottom: u64) -> io::Result<()>
-    requires { Guarantees t.now }
-{
-    let x = place(r.axis, r.due);
-    due_text(out, t, r, x)?;
-    due_told(out, t, r)?;
+/// The deadline, or that it lies further on.
+fn due<O: Write>(out: &mut O, plan: &Named, r: &Route) -> io::Result<()> {
+    let kept = match plan.timed(r.last()) {
+        Some(leg) => leg.keeps_deadline(),
+        None => true,
+    };
+    let x = r.axis.place(r.due);
+    let y = TOP - 600;
+    // The text has its room on the longer side.
+    let is_left = x < LEFT + WIDTH / 2;
+    let class = match (is_left, kept) {
+        (true, true) => "small due-text",
+        (true, false) => "small due-text fault",
+        (false, true) => "small due-text end",
+        (false, false) => "small due-text end fault",
+    };
+    let beside = if is_left {
+        x.saturating_add(600)
+    } else {
+        x.saturating_sub(600)
+    };
+    svg::begin_text(out, class, beside, y)?;
+    write!(out, "deadline at {} ns: ", r.due)?;
+    put_spare(out, kept, ready_at(plan, r.last()), r.due)?;
     if r.axis.to < r.due {
-        text(out, b", further on \xE2\x86\x92")?;
-        svg::end_text(out)?;
-        return Ok(());
+        write!(out, ", further on \u{2192}")?;
+        return svg::end_text(out);
     }
     svg::end_text(out)?;
-    svg::line(out, b"due", x, TOP - 1700, x, bottom)
+    svg::line(out, "due", x, TOP - 1700, x, r.bottom())
 }
 
-fn name<O: Write>(
-    out: &mut O,
-    t: &[u32],
-    names: &[u8],
-    draft: &[u32],
-    r: Route,
-    stream: u32,
-) -> io::Result<()> {
-    names::stream_title(out, names, draft, stream, STREAM_ROOM)?;
-    text(out, b": ")?;
-    let first = records::leg_at(t, small(r.first));
-    let last = records::leg_at(t, small(std::num::wrapping_sub_usize(r.end, 1)));
-    names::nodes(
+fn put_name<O: Write>(out: &mut O, plan: &Named, r: &Route) -> io::Result<()> {
+    names::stream_title(out, plan.names, r.stream, STREAM_ROOM)?;
+    write!(out, ": ")?;
+    let from = plan.link(plan.leg(r.first).link).from;
+    let to = plan.link(plan.leg(r.last()).link).to;
+    names::nodes(out, plan.names, from, to, NODE_ROOM)
+}
+
+fn put_about<O: Write>(out: &mut O, plan: &Named, stream: u32) -> io::Result<()> {
+    let s = plan.stream(stream);
+    let period = Lasting(u64::from(s.period));
+    let deadline = Lasting(u64::from(s.deadline));
+    let octets = s.octets;
+    let legs = s.count;
+    let word = if legs == 1 { "leg" } else { "legs" };
+    let precision = plan.plan.precision();
+    write!(out, "period T = {period}, deadline {deadline}, ")?;
+    write!(
         out,
-        names,
-        draft,
-        records::link_at(t, first.link).from,
-        records::link_at(t, last.link).to,
-        NODE_ROOM,
+        "{octets} octets, {legs} {word}, clock precision {precision} ns"
     )
 }
 
-fn about<O: Write>(out: &mut O, t: &[u32], stream: u32) -> io::Result<()> {
-    let s = records::stream_at(t, stream);
-    text(out, b"period T = ")?;
-    lasting(out, s.period as u64)?;
-    text(out, b", deadline ")?;
-    lasting(out, s.deadline as u64)?;
-    labelled(out, b", ", s.octets as u64)?;
-    text(out, b" octets, ")?;
-    svg::counted(out, s.count as u64, b" leg", b" legs")?;
-    labelled(out, b", clock precision ", precision(t))?;
-    text(out, b" ns")
-}
-
-fn head<O: Write>(
-    out: &mut O,
-    t: &[u32],
-    names: &[u8],
-    draft: &[u32],
-    r: Route,
-    stream: u32,
-    height: u64,
-) -> io::Result<()> {
+fn head<O: Write>(out: &mut O, plan: &Named, r: &Route, height: u64) -> io::Result<()> {
     svg::begin(out, PAGE, height)?;
-    text(out, b"<title>")?;
-    name(out, t, names, draft, r, stream)?;
-    text(
+    write!(out, "<title>")?;
+    put_name(out, plan, r)?;
+    write!(
         out,
-        b"</title>\n<desc>The way of the frame of period 0 over its links: ",
+        "</title>\n<desc>The way of the frame of period 0 over its links: "
     )?;
-    about(out, t, stream)?;
-    text(out, b"</desc>\n")?;
+    put_about(out, plan, r.stream)?;
+    writeln!(out, "</desc>")?;
     svg::style(out, PAGE, height)?;
-    svg::begin_text(out, b"title", 2000, 3000)?;
-    name(out, t, names, draft, r, stream)?;
+    svg::begin_text(out, "title", 2000, 3000)?;
+    put_name(out, plan, r)?;
     svg::end_text(out)?;
-    svg::begin_text(out, b"quiet", 2000, 5200)?;
-    about(out, t, stream)?;
+    svg::begin_text(out, "quiet", 2000, 5200)?;
+    put_about(out, plan, r.stream)?;
     svg::end_text(out)
 }
 
+/// What the colours mean.
 fn legend<O: Write>(out: &mut O, y: u64) -> io::Result<()> {
-    svg::rect(out, b"wire", LEFT, minus(y, 1000), 1200, 1200)?;
-    svg::words(out, b"small", LEFT + 1900, y, b"frame on the wire")?;
-    svg::rect(out, b"gap", LEFT + 16000, minus(y, 1000), 1200, 1200)?;
-    svg::words(out, b"small", LEFT + 17900, y, b"gap after it")?;
-    svg::line(
-        out,
-        b"way",
-        LEFT + 28000,
-        minus(y, 400),
-        LEFT + 30000,
-        minus(y, 400),
-    )?;
-    svg::words(
-        out,
-        b"small",
-        LEFT + 30700,
-        y,
-        b"propagation and clock precision",
-    )?;
-    svg::line(
-        out,
-        b"spare",
-        LEFT + 54000,
-        minus(y, 400),
-        LEFT + 56000,
-        minus(y, 400),
-    )?;
-    svg::words(out, b"small", LEFT + 56700, y, b"time left")?;
-    svg::line(
-        out,
-        b"lack",
-        LEFT + 65000,
-        minus(y, 400),
-        LEFT + 67000,
-        minus(y, 400),
-    )?;
-    svg::words(out, b"small", LEFT + 67700, y, b"time lacking")
+    let top = y.saturating_sub(1000);
+    svg::rect(out, "wire", LEFT, top, 1200, 1200)?;
+    svg::text(out, "small", LEFT + 1900, y, "frame on the wire")?;
+    svg::rect(out, "gap", LEFT + 16000, top, 1200, 1200)?;
+    svg::text(out, "small", LEFT + 17900, y, "gap after it")?;
+    let middle = y.saturating_sub(400);
+    svg::line(out, "way", LEFT + 28000, middle, LEFT + 30000, middle)?;
+    let way = "propagation and clock precision";
+    svg::text(out, "small", LEFT + 30700, y, way)?;
+    svg::line(out, "spare", LEFT + 54000, middle, LEFT + 56000, middle)?;
+    svg::text(out, "small", LEFT + 56700, y, "time left")?;
+    svg::line(out, "lack", LEFT + 65000, middle, LEFT + 67000, middle)?;
+    svg::text(out, "small", LEFT + 67700, y, "time lacking")
 }
 
-fn foot<O: Write>(out: &mut O, r: Route, bottom: u64) -> io::Result<()> {
+fn foot<O: Write>(out: &mut O, r: &Route) -> io::Result<()> {
+    let bottom = r.bottom();
     axis::base(out, bottom)?;
-    axis::labels(out, r.axis, plus(bottom, 1700))?;
-    axis::caption(
-        out,
-        r.axis,
-        plus(bottom, 3600),
-        b" from the start of period 0",
-    )?;
-    legend(out, plus(bottom, 6000))
+    axis::labels(out, r.axis, bottom.saturating_add(1700))?;
+    let after = " from the start of period 0";
+    axis::caption(out, r.axis, bottom.saturating_add(3600), after)?;
+    legend(out, bottom.saturating_add(6000))
 }
 
-// Internal: draws a stream that is there.
-pub(crate) fn draw<O: Write>(
-    out: &mut O,
-    t: &[u32],
-    names: &[u8],
-    draft: &[u32],
-    stream: u32,
-) -> io::Result<()>
-    requires { Guarantees t.now }
-{
-    let r = route_of(t, stream);
-    let bottom = stripes(out, r, false)?;
-    head(out, t, names, draft, r, stream, plus(bottom, FOOT))?;
-    stripes(out, r, true)?;
+/// Draws a stream that is there.
+pub(crate) fn draw<O: Write>(out: &mut O, plan: &Named, stream: u32) -> io::Result<()> {
+    let r = Route::of(plan, stream);
+    let bottom = r.bottom();
+    let period = u64::from(plan.stream(stream).period);
+    head(out, plan, &r, bottom.saturating_add(FOOT))?;
+    stripes(out, &r)?;
     axis::grid(out, r.axis, TOP, bottom)?;
-    axis::periods(
-        out,
-        r.axis,
-        records::stream_at(t, stream).period as u64,
-        TOP,
-        bottom,
-    )?;
-    due(out, t, r, bottom)?;
-    rows(out, t, names, draft, r)?;
-    foot(out, r, bottom)?;
-    text(out, b"</svg>\nstatus 0\n")
+    axis::periods(out, r.axis, period, TOP, bottom)?;
+    due(out, plan, &r)?;
+    rows(out, plan, &r)?;
+    foot(out, &r)?;
+    writeln!(out, "</svg>\nstatus 0")
 }

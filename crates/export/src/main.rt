@@ -4,21 +4,20 @@
 // is there and empty: it is ./conepalhui that gives each its name.
 #![tactic(auto)]
 
-use decimal::Decimal;
-use input::Given;
+use crate::form::Form;
 use show::answers;
+use std::alloc::Global;
 use std::env::Env;
 use std::io;
 use std::io::Write;
 use std::rt::{Clock, Files};
 
 mod all;
+mod form;
 mod judge;
 mod one;
 mod out;
 mod read;
-mod taprio;
-mod text;
 mod why;
 
 const VERB_AT: usize = 1;
@@ -33,188 +32,130 @@ const FILE_AT: usize = 5;
 
 const FOLDER_AT: usize = 3;
 
-// What is asked for.
+/// What is asked for of the plan on standard input.
 #[derive(Clone, Copy)]
-enum Order {
+enum OfPlan {
     Print(u32),
     Write(u32),
     All,
+}
+
+/// What is asked for.
+#[derive(Clone, Copy)]
+enum Order {
+    OfPlan(OfPlan),
     Read,
-    Wrong,
 }
 
-fn no_link<E: Write>(err: &mut E) -> Order {
-    reasons::text(err, b"the link is not a number from 0 to 4294967295\n");
-    Order::Wrong
+// The link that is asked for, or nothing where there is no number of one, which is said.
+fn link_given<R: Env, E: Write>(rt: &R, err: &mut E) -> Option<u32> {
+    let mut room = [0u8; 4096];
+    let digits = input::argument_or_nothing(rt, LINK_AT, &mut room);
+    let link = decimal::read_decimal(digits).ok();
+    if link.is_none() {
+        reasons::text(err, b"the link is not a number from 0 to 4294967295\n");
+    }
+    link
 }
 
-// What is asked of a link, or that there is no number of one.
-fn of_link<E: Write>(err: &mut E, write: bool, digits: &[u8]) -> Order {
-    let read = decimal::read_decimal(digits);
-    match read {
-        Decimal::Value(link) => {
-            if write {
-                return Order::Write(link);
-            }
-            Order::Print(link)
+// What is asked for: the first letter tells a verb.
+fn order_given<R: Env, E: Write>(rt: &R, err: &mut E) -> Option<Order> {
+    let mut room = [0u8; 4096];
+    match input::argument_or_nothing(rt, VERB_AT, &mut room) {
+        [b'p', ..] => Some(Order::OfPlan(OfPlan::Print(link_given(rt, err)?))),
+        [b'w', ..] => Some(Order::OfPlan(OfPlan::Write(link_given(rt, err)?))),
+        [b'a', ..] => Some(Order::OfPlan(OfPlan::All)),
+        [b'r', ..] => Some(Order::Read),
+        _ => {
+            reasons::text(err, b"the first argument is print, write, all or read\n");
+            None
         }
-        Decimal::Empty => no_link(err),
-        Decimal::NoDigit(_) => no_link(err),
-        Decimal::TooLarge => no_link(err),
     }
-}
-
-fn link_order<R: Env, E: Write>(rt: &R, err: &mut E, write: bool) -> Order {
-    let mut digits = [0u8; 4096];
-    let n = input::argument_or_nothing(rt, LINK_AT, &mut digits);
-    of_link(err, write, &digits[..n])
-}
-
-fn no_verb<E: Write>(err: &mut E) -> Order {
-    reasons::text(err, b"the first argument is print, write, all or read\n");
-    Order::Wrong
-}
-
-// Its first letter tells a verb.
-fn order_of<R: Env, E: Write>(rt: &R, err: &mut E, verb: &[u8]) -> Order {
-    if verb.len() == 0 {
-        return no_verb(err);
-    }
-    match verb[0] {
-        b'p' => link_order(rt, err, false),
-        b'w' => link_order(rt, err, true),
-        b'a' => Order::All,
-        b'r' => Order::Read,
-        _ => no_verb(err),
-    }
-}
-
-fn order_given<R: Env, E: Write>(rt: &R, err: &mut E) -> Order {
-    let mut verb = [0u8; 4096];
-    let n = input::argument_or_nothing(rt, VERB_AT, &mut verb);
-    order_of(rt, err, &verb[..n])
 }
 
 fn write_to_file<R: Env + Files, O: Write, E: Write>(
     rt: &R,
+    alloc: Global,
     out: &mut O,
     err: &mut E,
     t: &[u32],
     link: u32,
-    base: &[u8],
-    device: &[u8],
+    form: Form<'_>,
 ) -> io::Result<()> {
-    let mut path = [0u8; 4096];
-    let given = input::argument(rt, err, FILE_AT, &mut path, b"the path of the list");
-    let Some(n) = given else {
-        return Ok(());
-    };
-    one::written(rt, out, err, t, link, &path[..n], base, device)
+    let mut room = [0u8; 4096];
+    match input::argument(rt, err, FILE_AT, &mut room, b"the path of the list") {
+        Some(path) => one::written(rt, alloc, out, err, t, link, path, form),
+        None => Ok(()),
+    }
 }
 
 fn write_to_folder<R: Clock + Env + Files, O: Write, E: Write>(
     rt: &R,
+    alloc: Global,
     out: &mut O,
     err: &mut E,
     t: &[u32],
     base: &[u8],
 ) -> io::Result<()> {
-    let mut path = [0u8; 4096];
-    let given = input::argument(rt, err, FOLDER_AT, &mut path, b"the path of the folder");
-    let Some(n) = given else {
-        return Ok(());
-    };
-    all::written(rt, out, err, t, &path[..n], base)
-}
-
-fn ordered<R: Clock + Env + Files, O: Write, E: Write>(
-    rt: &R,
-    out: &mut O,
-    err: &mut E,
-    order: Order,
-    t: &[u32],
-    base: &[u8],
-    device: &[u8],
-) -> io::Result<()> {
-    match order {
-        Order::Print(link) => {
-            one::printed(out, err, t, link, base, device)?;
-        }
-        Order::Write(link) => {
-            write_to_file(rt, out, err, t, link, base, device)?;
-        }
-        Order::All => {
-            write_to_folder(rt, out, err, t, base)?;
-        }
-        Order::Read => {}
-        Order::Wrong => {}
+    let form = Form { base, device: b"" };
+    let mut room = [0u8; 4096];
+    match input::argument(rt, err, FOLDER_AT, &mut room, b"the path of the folder") {
+        Some(folder) => all::written(rt, alloc, out, err, t, folder, form),
+        None => Ok(()),
     }
-    Ok(())
 }
 
 fn on_table<R: Clock + Env + Files, O: Write, E: Write>(
     rt: &R,
+    alloc: Global,
     out: &mut O,
     err: &mut E,
-    order: Order,
-    words: &[u32],
-    n: usize,
+    order: OfPlan,
+    t: &[u32],
 ) -> io::Result<()> {
-    if words.len() < n {
-        return Ok(());
-    }
     let mut base = [0u8; 4096];
-    let i = input::argument_or_nothing(rt, BASE_AT, &mut base);
     let mut device = [0u8; 4096];
-    let j = input::argument_or_nothing(rt, DEVICE_AT, &mut device);
-    ordered(rt, out, err, order, &words[0..n], &base[..i], &device[..j])
+    let form = Form {
+        base: input::argument_or_nothing(rt, BASE_AT, &mut base),
+        device: input::argument_or_nothing(rt, DEVICE_AT, &mut device),
+    };
+    match order {
+        OfPlan::Print(link) => one::printed(alloc, out, err, t, link, form),
+        OfPlan::Write(link) => write_to_file(rt, alloc, out, err, t, link, form),
+        OfPlan::All => write_to_folder(rt, alloc, out, err, t, form.base),
+    }
 }
 
 fn on_plan<R: Clock + Env + Files + Input, O: Write, E: Write>(
     rt: &R,
+    alloc: Global,
     out: &mut O,
     err: &mut E,
-    order: Order,
+    order: OfPlan,
 ) -> io::Result<()> {
     let mut words = [0u32; table::MAX_TABLE_WORDS];
-    let given = input::given_plan(rt, err, &mut words);
-    match given {
-        Given::Words(n) => {
-            on_table(rt, out, err, order, &words, n)?;
-        }
-        Given::Refused(number, at) => {
-            answers::plan_refused(out, number, at)?;
-        }
-        Given::Unread => {}
+    match input::given_plan(rt, err, &mut words) {
+        Ok(Ok(t)) => on_table(rt, alloc, out, err, order, t),
+        Ok(Err(refusal)) => answers::plan_refused(out, refusal),
+        Err(_) => Ok(()),
     }
-    Ok(())
 }
 
 fn run<R: Clock + Env + Files + Input, O: Write, E: Write>(
     rt: &R,
+    alloc: Global,
     out: &mut O,
     err: &mut E,
 ) -> io::Result<()> {
-    let order = order_given(rt, err);
-    match order {
-        Order::Print(link) => {
-            on_plan(rt, out, err, order)?;
-        }
-        Order::Write(link) => {
-            on_plan(rt, out, err, order)?;
-        }
-        Order::All => {
-            on_plan(rt, out, err, order)?;
-        }
-        Order::Read => {
-            read::printed(rt, out, err)?;
-        }
-        Order::Wrong => {}
+    match order_given(rt, err) {
+        Some(Order::OfPlan(order)) => on_plan(rt, alloc, out, err, order),
+        Some(Order::Read) => read::printed(rt, alloc, out, err),
+        None => Ok(()),
     }
-    Ok(())
 }
 
 fn main(rt: HostRuntime) {
+    let alloc = rt.alloc();
     let mut out = output::to(rt.stdout());
-    let _ = run(&rt, &mut out, &mut rt.stderr());
+    let _ = run(&rt, alloc, &mut out, &mut rt.stderr());
 }

@@ -1,7 +1,7 @@
 // The list file on standard input, of whatever make: its pairs.
 use crate::out;
-use gate_files::ListRead;
 use show::answers;
+use std::alloc::Global;
 use std::io;
 use std::io::Write;
 
@@ -10,43 +10,42 @@ const MAX_BYTES: usize = 65536;
 
 const ROOM: usize = MAX_BYTES + 1;
 
-fn first_words<O: Write>(out: &mut O, words: &[u32], n: usize) -> io::Result<()> {
-    if words.len() < n {
-        return Ok(());
-    }
-    out::pairs(out, &words[0..n])
-}
-
-fn on_bytes<O: Write, E: Write>(out: &mut O, err: &mut E, bytes: &[u8]) -> io::Result<()> {
-    let mut words = [0u32; MAX_BYTES];
-    let read = gate_files::read_list(bytes, &mut words);
-    match read {
-        ListRead::Words(n) => {
-            first_words(out, &words, n)?;
-        }
-        ListRead::Refused(number, at) => {
-            reasons::lists::why(err, bytes, number, at);
-            answers::plan_refused(out, number, at)?;
+fn on_bytes<O: Write, E: Write>(
+    alloc: Global,
+    out: &mut O,
+    err: &mut E,
+    bytes: &[u8],
+) -> io::Result<()> {
+    let mut words = vec![in alloc; 0u32; MAX_BYTES]?;
+    match gate_files::read_list(bytes, &mut words) {
+        Ok(n) => match words.get(..n) {
+            Some(list) => out::pairs(out, list),
+            None => Ok(()),
+        },
+        Err(refusal) => {
+            reasons::lists::why(err, bytes, refusal);
+            answers::plan_refused(out, refusal)
         }
     }
-    Ok(())
 }
 
-// Internal: prints the pairs of a list file.
+/// Prints the pairs of a list file.
 pub(crate) fn printed<R: Input, O: Write, E: Write>(
     rt: &R,
+    alloc: Global,
     out: &mut O,
     err: &mut E,
 ) -> io::Result<()> {
-    let mut bytes = [0u8; ROOM];
-    let read = input::standard(rt, &mut bytes);
-    let Ok(n) = read else {
+    let mut room = [0u8; ROOM];
+    let Ok(bytes) = input::standard(rt, &mut room) else {
         return Ok(());
     };
-    if n == ROOM {
-        reasons::line(err, b"the list has more than # bytes", &[MAX_BYTES as u32]);
-        out::too_long(out)?;
-        return Ok(());
+    if bytes.len() == ROOM {
+        reasons::report(
+            err,
+            format_args!("the list has more than {MAX_BYTES} bytes"),
+        );
+        return out::too_long(out);
     }
-    on_bytes(out, err, &bytes[..n])
+    on_bytes(alloc, out, err, bytes)
 }

@@ -1,36 +1,39 @@
 // What is said on standard error: why there is no list, and what is to be known of one.
-ghost use Rattle.std.specs.Prelude.{◌≤◌};
+ghost use Rattle.std.specs.Prelude.{◌≤◌, IfSome};
 ghost use Rattle.gates.specs.Pairs.{max_cycle};
 
-use crate::taprio;
+use crate::form::{Form, MOST_OF_TC};
+use basics::{Cause, Refusal};
 use files::Cursor;
-use gate_lists::LONG_CYCLE;
+use gates::{MAX_CYCLE, MAX_PAIRS};
 use reasons::records::header_word;
-use reasons::{line, records, small};
+use reasons::{records, report};
 use std::io::Write;
 use table::Leg;
 
-// Internal: why a plan has no lists whose first violated place this is.
+/// Why a plan has no lists whose first violated place this is.
 pub(crate) fn not_accepted<E: Write>(err: &mut E, at: Cursor) {
-    line(
+    let Cursor { leg, place, .. } = at;
+    report(
         err,
-        b"place # of leg # is violated, and only an accepted plan has gate lists: move legs until 'check' accepts it",
-        &[at.place, at.leg],
+        format_args!(
+            "place {place} of leg {leg} is violated, and only an accepted plan has gate lists: move legs until 'check' accepts it"
+        ),
     );
 }
 
-// Internal: a link that the plan does not have.
+/// A link that the plan does not have.
 pub(crate) fn no_link<E: Write>(err: &mut E, t: &[u32], link: u32) {
-    let links = header_word(t, table::LINKS_AT);
-    if links == 0 {
-        line(err, b"there is no link #: the plan has no links", &[link]);
-        return;
+    match header_word(t, table::LINKS_AT).checked_sub(1) {
+        None => report(
+            err,
+            format_args!("there is no link {link}: the plan has no links"),
+        ),
+        Some(last) => report(
+            err,
+            format_args!("there is no link {link}: links are 0 to {last}"),
+        ),
     }
-    line(
-        err,
-        b"there is no link #: links are 0 to #",
-        &[link, links - 1],
-    );
 }
 
 // ---- 21: the cycle is too long
@@ -43,110 +46,107 @@ fn period_on(t: &[u32], link: u32, leg: Leg) -> u32 {
     1
 }
 
-// The least common multiple of a cycle and a period, or 0 where it passes the limit.
-fn common(cycle: u64, period: u64) -> u64
+// The least common multiple of a cycle and a period, or nothing where it passes the limit.
+fn common(cycle: u64, period: u64) -> Option<u64>
     requires { cycle ≤ max_cycle }
-    ensures { result ≤ max_cycle }
+    ensures { IfSome result (λ all. all ≤ max_cycle) }
 {
     let divisor = overlap::gcd(cycle, period);
-    if divisor == 0 {
-        return 0;
-    }
-    if gates::MAX_CYCLE < period {
-        return 0;
+    if divisor == 0 || MAX_CYCLE < period {
+        return None;
     }
     let all = cycle / divisor * period;
-    if gates::MAX_CYCLE < all {
-        return 0;
+    if all == 0 || MAX_CYCLE < all {
+        return None;
     }
-    all
+    Some(all)
 }
 
 // The first leg with which the cycle of a link passes the limit, or how many legs there are.
 fn passing(t: &[u32], link: u32) -> u32 {
     let legs = header_word(t, table::LEGS_AT);
-    let mut cycle: u64 = 1;
-    let mut a: u32 = 0;
-    while a < legs {
-        cycle = common(cycle, period_on(t, link, records::leg_at(t, a)) as u64);
-        if cycle == 0 {
-            return a;
+    let mut cycle = 1;
+    for a in 0..legs {
+        let period = period_on(t, link, records::leg_at(t, a));
+        match common(cycle, u64::from(period)) {
+            Some(all) => cycle = all,
+            None => return a,
         }
-        a = a + 1;
     }
-    a
+    legs
 }
 
 fn long_cycle<E: Write>(err: &mut E, t: &[u32], link: u32) {
     let a = passing(t, link);
-    line(
+    let period = records::stream_at(t, records::leg_at(t, a).stream).period;
+    report(
         err,
-        b"the least common multiple of the periods on link # passes # ns with leg #, whose period is # ns: give its streams periods that go into one another",
-        &[
-            link,
-            gates::MAX_CYCLE as u32,
-            a,
-            records::stream_at(t, records::leg_at(t, a).stream).period,
-        ],
+        format_args!(
+            "the least common multiple of the periods on link {link} passes {MAX_CYCLE} ns with leg {a}, whose period is {period} ns: give its streams periods that go into one another"
+        ),
     );
 }
 
-// Internal: why a link of an accepted plan has no list.
-pub(crate) fn link_refused<E: Write>(err: &mut E, t: &[u32], link: u32, number: u32) {
-    if number == LONG_CYCLE {
-        long_cycle(err, t, link);
-        return;
+/// Why a link of an accepted plan has no list.
+pub(crate) fn link_refused<E: Write>(err: &mut E, t: &[u32], link: u32, refusal: Refusal) {
+    if refusal.cause == Cause::LongCycle {
+        return long_cycle(err, t, link);
     }
-    line(
+    report(
         err,
-        b"the list of link # would have more than # pairs: periods with a smaller least common multiple make it shorter, and frames that follow each other without a gap",
-        &[link, gates::MAX_PAIRS as u32],
+        format_args!(
+            "the list of link {link} would have more than {MAX_PAIRS} pairs: periods with a smaller least common multiple make it shorter, and frames that follow each other without a gap"
+        ),
     );
 }
 
 // ---- What is to be known of a list
 
-// Internal: that a link has no legs.
+/// That a link has no legs.
 pub(crate) fn empty<E: Write>(err: &mut E, link: u32, words: &[u32]) {
-    if words.len() == 0 {
-        line(err, b"link # has no legs: its list is empty", &[link]);
-    }
-}
-
-// Internal: that tc cuts a list off.
-pub(crate) fn cut_by_tc<E: Write>(err: &mut E, link: u32, words: &[u32]) {
-    let pairs = words.len() / 2;
-    if taprio::MOST_OF_TC < pairs {
-        line(
+    if words.is_empty() {
+        report(
             err,
-            b"the list of link # has # pairs, but the tc of iproute2 6.1.0 to 7.3.0 sends # at most, and says only 'message exceeded bound': set it by other means",
-            &[link, small(pairs), taprio::MOST_OF_TC as u32],
+            format_args!("link {link} has no legs: its list is empty"),
         );
     }
 }
 
-// Internal: the same of several links.
+/// That tc cuts a list off.
+pub(crate) fn cut_by_tc<E: Write>(err: &mut E, link: u32, words: &[u32], form: Form<'_>) {
+    if form.is_cut(words) {
+        let pairs = words.len() / 2;
+        report(
+            err,
+            format_args!(
+                "the list of link {link} has {pairs} pairs, but the tc of iproute2 6.1.0 to 7.3.0 sends {MOST_OF_TC} at most, and says only 'message exceeded bound': set it by other means"
+            ),
+        );
+    }
+}
+
+/// The same of several links.
 pub(crate) fn some_empty<E: Write>(err: &mut E, count: u32) {
     if 0 < count {
-        line(
+        report(
             err,
-            b"links without legs, whose lists are empty: #",
-            &[count],
+            format_args!("links without legs, whose lists are empty: {count}"),
         );
     }
 }
 
 pub(crate) fn some_cut<E: Write>(err: &mut E, count: u32) {
     if 0 < count {
-        line(
+        report(
             err,
-            b"lists of more than # pairs, which the tc of iproute2 6.1.0 to 7.3.0 sends in part, saying only 'message exceeded bound': #. Set them by other means",
-            &[taprio::MOST_OF_TC as u32, count],
+            format_args!(
+                "lists of more than {MOST_OF_TC} pairs, which the tc of iproute2 6.1.0 to 7.3.0 sends in part, saying only 'message exceeded bound': {count}. Set them by other means"
+            ),
         );
     }
 }
 
-// Internal: how many links are done.
+/// How many links are done.
 pub(crate) fn so_far<E: Write>(err: &mut E, done: u32, links: u32) {
-    line(err, b"so far # of # links are done", &[done, links]);
+    report(err, format_args!("so far {done} of {links} links are done"));
 }

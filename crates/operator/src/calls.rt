@@ -1,617 +1,273 @@
 // Start, slice, move and recheck on files. Everything is written beside first, so that a full disk is met before any file is replaced.
-use crate::late::{After, Keep};
-use crate::{Order, late};
-use basics::Holds;
-use checker::cursors::TOO_LATE;
-use checker::{Grant, SliceAnswer};
+use crate::late;
+use basics::{Cause, Refusal};
+use checker::SliceAnswer;
 use durable::FileRead;
-use files::{Cursor, PlanRead};
+use files::{Cursor, Returned};
 use kept::ours::Standing;
-use kept::saved::Saved;
-use kept::{accepted, ours, refused, saved};
-use numbers::Written;
+use kept::{Check, refused};
 use reasons::records;
+use reasons::records::{header_word, leg_count};
 use show::answers;
 use show::answers::Part;
 use std::io;
 use std::io::Write;
 use std::rt::Files;
-use table::{Leg, Move};
+use table::Move;
 
 // One byte more than the largest plan file, so that a byte left over is seen.
 pub(crate) const PLAN_ROOM: usize = files::MAX_FILE_BYTES + 1;
 
-pub(crate) fn are_same(a: &[u8], b: &[u8]) -> bool {
-    let told = seen::same(a, b);
-    match told {
-        Holds::Yes => true,
-        Holds::No => false,
-    }
+// What is asked of a plan and its check.
+#[derive(Clone, Copy, Debug, PartialEq, Eq)]
+pub(crate) enum Order {
+    Start { anew: bool },
+    Slice { budget: u32 },
+    Move(Move),
+    MoveAndRecheck(Move),
+    Recheck(u32),
 }
 
-// What is refused is said on standard error before the answer is written.
-pub(crate) fn judged<O: Write>(
-    out: &mut O,
-    t: &[u32],
-    number: u32,
-    at: usize,
-    part: Part,
-) -> io::Result<()> {
-    answers::judged(
-        out,
-        number,
-        at,
-        records::header_word(t, table::REVISION_AT),
-        part,
-    )
+// A call: the files of a check, and the path of its plan.
+#[derive(Drop)]
+pub(crate) struct Call<'a, R: Files, O: Write, E: Write> {
+    pub(crate) check: Check<'a, R, O, E>,
+    pub(crate) plan: &'a [u8],
 }
 
-pub(crate) fn plan_refused<O: Write, E: Write>(
-    out: &mut O,
-    err: &mut E,
-    t: &[u32],
-    number: u32,
-    at: usize,
-) -> io::Result<()> {
-    records::why(err, t, number, at);
-    judged(out, t, number, at, Part::Plan)
-}
+impl<'a, R: Files, O: Write, E: Write> Call<'a, R, O, E> {
+    // What is refused is said on standard error before the answer is written.
+    pub(crate) fn judged(&mut self, t: &[u32], refusal: Refusal, part: Part) -> io::Result<()> {
+        answers::judged(
+            self.check.out,
+            refusal,
+            header_word(t, table::REVISION_AT),
+            part,
+        )
+    }
 
-// A cursor that is refused is to be replaced by a start. Where it is none of ours, that is said and not why it is refused: a start will leave it as it is.
-fn cursor_refused<R: Files, O: Write, E: Write>(
-    rt: &R,
-    out: &mut O,
-    err: &mut E,
-    cursor_path: &[u8],
-    t: &[u32],
-    number: u32,
-    at: usize,
-    c: Cursor,
-) -> io::Result<()> {
-    let found = ours::judged(rt, err, cursor_path);
-    match found {
-        Standing::NotOurs => {
-            judged(out, t, number, at, Part::Foreign)?;
-        }
-        Standing::Free => {
-            refused::why(err, t, c);
-            judged(out, t, number, at, Part::Cursor)?;
-        }
-        Standing::Begun(_) => {
-            refused::why(err, t, c);
-            judged(out, t, number, at, Part::Cursor)?;
-        }
-        Standing::OtherEdition(_) => {
-            refused::why(err, t, c);
-            judged(out, t, number, at, Part::Cursor)?;
-        }
+    pub(crate) fn plan_refused(&mut self, t: &[u32], refusal: Refusal) -> io::Result<()> {
+        records::why(self.check.err, t, refusal);
+        self.judged(t, refusal, Part::Plan)
     }
-    Ok(())
-}
 
-// Whether the plan is well-formed. Where it is not, that is the answer, and it is written. What is refused after this does not lie in the plan.
-fn plan_stands<O: Write, E: Write>(out: &mut O, err: &mut E, t: &[u32]) -> io::Result<bool> {
-    let told = checker::start(t);
-    match told {
-        Grant::Granted(_) => Ok(true),
-        Grant::Refused(number, at, _) => {
-            plan_refused(out, err, t, number, at)?;
-            Ok(false)
-        }
-    }
-}
-
-// Whether the plan is well-formed, and the cursor not of another edition of the rules, to which its places would mean something else.
-fn may_go_on<R: Files, O: Write, E: Write>(
-    rt: &R,
-    out: &mut O,
-    err: &mut E,
-    cursor_path: &[u8],
-    t: &[u32],
-) -> io::Result<bool> {
-    if !plan_stands(out, err, t)? {
-        return Ok(false);
-    }
-    saved::is_present(
-        rt,
-        out,
-        err,
-        cursor_path,
-        records::header_word(t, table::REVISION_AT),
-    )
-}
-
-// Whether the cursor is one of the plan, which is well-formed. What is refused after this lies in the move.
-fn cursor_stands<R: Files, O: Write, E: Write>(
-    rt: &R,
-    out: &mut O,
-    err: &mut E,
-    cursor_path: &[u8],
-    t: &[u32],
-    c: Cursor,
-) -> io::Result<bool> {
-    let told = checker::slice(t, c, 0);
-    if let SliceAnswer::Refused(number, at, given) = told {
-        cursor_refused(rt, out, err, cursor_path, t, number, at, given)?;
-        return Ok(false);
-    }
-    Ok(true)
-}
-
-// Replaces cursor and copy. The old cursor goes first: it must never stand beside the copy of another plan.
-fn begun<R: Files, E: Write>(
-    rt: &R,
-    err: &mut E,
-    cursor_path: &[u8],
-    plan: &[u8],
-    c: Cursor,
-) -> bool {
-    if !saved::seen_beside(rt, err, cursor_path, plan, b"") {
-        return false;
-    }
-    if !saved::cursor_beside(rt, err, cursor_path, c) {
-        return false;
-    }
-    if !durable::remove(rt, err, cursor_path) {
-        return false;
-    }
-    if !saved::put_seen_in_place(rt, err, cursor_path) {
-        return false;
-    }
-    durable::put_in_place(rt, err, cursor_path)
-}
-
-// Whether a start may replace what stands there. Where it may not, that is the answer, and it is written, or said of a file that is not ours.
-fn may_begin<R: Files, O: Write, E: Write>(
-    rt: &R,
-    out: &mut O,
-    err: &mut E,
-    cursor_path: &[u8],
-    t: &[u32],
-    anew: bool,
-) -> io::Result<bool> {
-    let found = ours::judged(rt, err, cursor_path);
-    match found {
-        Standing::Free => Ok(true),
-        Standing::Begun(c) => {
-            if !anew {
-                answers::begun(out, c, records::leg_count(t))?;
+    // A cursor that is refused is to be replaced by a start. Where it is none of ours, that is said and not why it is refused: a start will leave it as it is.
+    fn cursor_refused(&mut self, t: &[u32], refusal: Refusal, c: Cursor) -> io::Result<()> {
+        match self.check.standing() {
+            Standing::NotOurs => self.judged(t, refusal, Part::Foreign),
+            Standing::Free | Standing::Begun(_) | Standing::OtherEdition(_) => {
+                refused::why(self.check.err, t, c);
+                self.judged(t, refusal, Part::Cursor)
             }
-            Ok(anew)
         }
-        Standing::OtherEdition(edition) => {
-            if !anew {
-                answers::other_edition(out, edition, records::header_word(t, table::REVISION_AT))?;
-            }
-            Ok(anew)
-        }
-        Standing::NotOurs => Ok(false),
     }
-}
 
-fn start<R: Files, O: Write, E: Write>(
-    rt: &R,
-    out: &mut O,
-    err: &mut E,
-    cursor_path: &[u8],
-    plan: &[u8],
-    t: &[u32],
-    anew: bool,
-) -> io::Result<()> {
-    let told = checker::start(t);
-    match told {
-        Grant::Refused(number, at, _) => {
-            plan_refused(out, err, t, number, at)?;
+    // Whether the plan is well-formed, and the cursor not of another edition of the rules, to which its places would mean something else. Where it is not, that is the
+    // answer, and it is written.
+    fn may_go_on(&mut self, t: &[u32]) -> io::Result<bool> {
+        if let Err(Returned { refusal, .. }) = checker::start(t) {
+            self.plan_refused(t, refusal)?;
+            return Ok(false);
         }
-        Grant::Granted(c) => {
-            if may_begin(rt, out, err, cursor_path, t, anew)? {
-                if begun(rt, err, cursor_path, plan, c) {
-                    answers::granted(out, c, records::leg_count(t))?;
+        self.check.is_present(header_word(t, table::REVISION_AT))
+    }
+
+    // Whether the cursor is one of the plan, which is well-formed. What is refused after this lies in the move.
+    fn cursor_stands(&mut self, t: &[u32], c: Cursor) -> io::Result<bool> {
+        if let SliceAnswer::Refused(refusal, given) = checker::slice(t, c, 0) {
+            self.cursor_refused(t, refusal, given)?;
+            return Ok(false);
+        }
+        Ok(true)
+    }
+
+    // Replaces cursor and copy. The old cursor goes first: it must never stand beside the copy of another plan.
+    fn begun(&mut self, plan: &[u8], c: Cursor) -> bool {
+        self.check.write_seen_beside(plan, b"")
+            && self.check.write_cursor_beside(c)
+            && self.check.remove_cursor()
+            && self.check.put_seen_in_place()
+            && self.check.put_cursor_in_place()
+    }
+
+    // Whether a start may replace what stands there. Where it may not, that is the answer, and it is written, or said of a file that is not ours.
+    fn may_begin(&mut self, t: &[u32], anew: bool) -> io::Result<bool> {
+        match self.check.standing() {
+            Standing::Free => return Ok(true),
+            Standing::NotOurs => return Ok(false),
+            Standing::Begun(c) => {
+                if !anew {
+                    answers::begun(self.check.out, c, leg_count(t))?;
+                }
+            }
+            Standing::OtherEdition(edition) => {
+                if !anew {
+                    let revision = header_word(t, table::REVISION_AT);
+                    answers::other_edition(self.check.out, edition, revision)?;
                 }
             }
         }
+        Ok(anew)
     }
-    Ok(())
-}
 
-// Replaces the cursor, where the plan is known.
-fn gone_on<R: Files, O: Write, E: Write>(
-    rt: &R,
-    out: &mut O,
-    err: &mut E,
-    cursor_path: &[u8],
-    plan: &[u8],
-    c: Cursor,
-) -> io::Result<bool> {
-    if !saved::is_known(rt, out, err, cursor_path, plan, c.revision)? {
-        return Ok(false);
-    }
-    if !saved::cursor_beside(rt, err, cursor_path, c) {
-        return Ok(false);
-    }
-    Ok(durable::put_in_place(rt, err, cursor_path))
-}
-
-fn sliced<R: Files, O: Write, E: Write>(
-    rt: &R,
-    out: &mut O,
-    err: &mut E,
-    cursor_path: &[u8],
-    plan: &[u8],
-    t: &[u32],
-    told: SliceAnswer,
-) -> io::Result<()> {
-    match told {
-        SliceAnswer::Refused(number, at, given) => {
-            cursor_refused(rt, out, err, cursor_path, t, number, at, given)?;
-        }
-        SliceAnswer::Violated(c, steps, rule) => {
-            if gone_on(rt, out, err, cursor_path, plan, c)? {
-                answers::violated(out, c, steps, rule, records::leg_count(t))?;
+    fn start(&mut self, plan: &[u8], t: &[u32], anew: bool) -> io::Result<()> {
+        match checker::start(t) {
+            Err(Returned { refusal, .. }) => self.plan_refused(t, refusal)?,
+            Ok(c) => {
+                if self.may_begin(t, anew)? && self.begun(plan, c) {
+                    answers::granted(self.check.out, c, leg_count(t))?;
+                }
             }
         }
-        SliceAnswer::NothingViolated(c, steps) => {
-            if gone_on(rt, out, err, cursor_path, plan, c)? {
-                answers::nothing_violated(out, c, steps, records::leg_count(t))?;
+        Ok(())
+    }
+
+    // Replaces the cursor, where the plan is known.
+    fn gone_on(&mut self, plan: &[u8], c: Cursor) -> io::Result<bool> {
+        Ok(
+            self.check.is_known(plan, c.revision)?
+                && self.check.write_cursor_beside(c)
+                && self.check.put_cursor_in_place(),
+        )
+    }
+
+    fn slice(&mut self, plan: &[u8], t: &[u32], budget: u32) -> io::Result<()> {
+        let Some(given) = self.check.cursor()? else {
+            return Ok(());
+        };
+        if !self.may_go_on(t)? {
+            return Ok(());
+        }
+        let legs = leg_count(t);
+        match checker::slice(t, given, budget) {
+            SliceAnswer::Refused(refusal, c) => self.cursor_refused(t, refusal, c)?,
+            SliceAnswer::Violated(c, steps, rule) => {
+                if self.gone_on(plan, c)? {
+                    answers::violated(self.check.out, c, steps, rule, legs)?;
+                }
+            }
+            SliceAnswer::NothingViolated(c, steps) => {
+                if self.gone_on(plan, c)? {
+                    answers::nothing_violated(self.check.out, c, steps, legs)?;
+                }
+            }
+            SliceAnswer::Paused(c, steps) => {
+                if self.gone_on(plan, c)? {
+                    answers::paused(self.check.out, c, steps, legs)?;
+                }
             }
         }
-        SliceAnswer::Paused(c, steps) => {
-            if gone_on(rt, out, err, cursor_path, plan, c)? {
-                answers::paused(out, c, steps, records::leg_count(t))?;
-            }
-        }
+        Ok(())
     }
-    Ok(())
-}
 
-fn slice<R: Files, O: Write, E: Write>(
-    rt: &R,
-    out: &mut O,
-    err: &mut E,
-    cursor_path: &[u8],
-    plan: &[u8],
-    t: &[u32],
-    budget: u32,
-) -> io::Result<()> {
-    let at = saved::cursor(rt, out, err, cursor_path)?;
-    if let Saved::At(c) = at {
-        if may_go_on(rt, out, err, cursor_path, t)? {
-            sliced(
-                rt,
-                out,
-                err,
-                cursor_path,
-                plan,
-                t,
-                checker::slice(t, c, budget),
-            )?;
-        }
-    }
-    Ok(())
-}
-
-// Writes the accepted plan that is to be kept beside its file.
-fn accepted_beside<R: Files, E: Write>(
-    rt: &R,
-    err: &mut E,
-    cursor_path: &[u8],
-    old: &[u8],
-    new: &[u8],
-    keep: Keep,
-) -> bool {
-    match keep {
-        Keep::Nothing => true,
-        Keep::Old => accepted::write_beside(rt, err, cursor_path, old),
-        Keep::New => accepted::write_beside(rt, err, cursor_path, new),
-    }
-}
-
-fn accepted_in_place<R: Files, E: Write>(
-    rt: &R,
-    err: &mut E,
-    cursor_path: &[u8],
-    keep: Keep,
-) -> bool {
-    if let Keep::Nothing = keep {
-        return true;
-    }
-    accepted::put_in_place(rt, err, cursor_path)
-}
-
-// Replaces all three files, and before them the accepted plan, if one is to be kept: it is true by itself. The copy goes first and has both plans, so that whichever of the two is
-// found is known; then the plan, then the cursor.
-fn replaced<R: Files, E: Write>(
-    rt: &R,
-    err: &mut E,
-    plan_path: &[u8],
-    cursor_path: &[u8],
-    old: &[u8],
-    new: &[u8],
-    c: Cursor,
-    keep: Keep,
-) -> bool {
-    if !saved::seen_beside(rt, err, cursor_path, new, old) {
-        return false;
-    }
-    if !durable::write_beside(rt, err, plan_path, new, b"", b"") {
-        return false;
-    }
-    if !saved::cursor_beside(rt, err, cursor_path, c) {
-        return false;
-    }
-    if !accepted_beside(rt, err, cursor_path, old, new, keep) {
-        return false;
-    }
-    if !accepted_in_place(rt, err, cursor_path, keep) {
-        return false;
-    }
-    if !saved::put_seen_in_place(rt, err, cursor_path) {
-        return false;
-    }
-    if !durable::put_in_place(rt, err, plan_path) {
-        return false;
-    }
-    durable::put_in_place(rt, err, cursor_path)
-}
-
-fn written<R: Files, O: Write, E: Write>(
-    rt: &R,
-    out: &mut O,
-    err: &mut E,
-    plan_path: &[u8],
-    cursor_path: &[u8],
-    old: &[u8],
-    t: &[u32],
-    c: Cursor,
-    mv: Move,
-    before: Leg,
-    after: After,
-) -> io::Result<()> {
-    let mut new = [0u8; files::MAX_FILE_BYTES];
-    let told = files::write_plan(t, &mut new);
-    match told {
-        Written::Refused(_, _) => {}
-        Written::Bytes(n) => {
-            if new.len() < n {
-                return Ok(());
-            }
-            if replaced(
-                rt,
-                err,
-                plan_path,
-                cursor_path,
-                old,
-                &new[0..n],
-                c,
-                late::kept_after(after),
-            ) {
-                answers::move_lines(out, c, records::leg_count(t), mv, before)?;
-                late::told_after(out, err, t, mv.leg, after)?;
+    // Writes the accepted plan that is to be kept, if any, beside its file, and gives it its name.
+    fn accepted_kept(&mut self, keep: Option<&[u8]>) -> bool {
+        match keep {
+            None => true,
+            Some(plan) => {
+                self.check.write_accepted_beside(plan) && self.check.put_accepted_in_place()
             }
         }
     }
-    Ok(())
-}
 
-fn may_move<R: Files, O: Write, E: Write>(
-    rt: &R,
-    out: &mut O,
-    err: &mut E,
-    cursor_path: &[u8],
-    t: &[u32],
-    c: Cursor,
-) -> io::Result<bool> {
-    if !may_go_on(rt, out, err, cursor_path, t)? {
-        return Ok(false);
+    // Replaces all three files, and before them the accepted plan, if one is to be kept: it is true by itself. The copy goes first and has both plans, so that whichever of the two is
+    // found is known; then the plan, then the cursor.
+    fn replaced(&mut self, old: &[u8], new: &[u8], c: Cursor, keep: Option<&[u8]>) -> bool {
+        self.check.write_seen_beside(new, old)
+            && durable::write_beside(self.check.rt, self.check.err, self.plan, &[new])
+            && self.check.write_cursor_beside(c)
+            && self.accepted_kept(keep)
+            && self.check.put_seen_in_place()
+            && durable::put_in_place(self.check.rt, self.check.err, self.plan)
+            && self.check.put_cursor_in_place()
     }
-    cursor_stands(rt, out, err, cursor_path, t, c)
-}
 
-fn move_refused<O: Write, E: Write>(
-    out: &mut O,
-    err: &mut E,
-    t: &[u32],
-    number: u32,
-    at: usize,
-    mv: Move,
-) -> io::Result<()> {
-    if number == TOO_LATE {
-        records::late_move(err, mv.periods);
-    } else {
-        refused::why_move(err, t, mv);
-    }
-    judged(out, t, number, at, Part::Move)
-}
-
-// Where the leg is to be rechecked, that is done before any file is replaced: the answer is one about the moved table, wherever that stands.
-fn moved<R: Files, O: Write, E: Write>(
-    rt: &R,
-    out: &mut O,
-    err: &mut E,
-    plan_path: &[u8],
-    cursor_path: &[u8],
-    old: &[u8],
-    t: &mut [u32],
-    c: Cursor,
-    mv: Move,
-    rechecks: bool,
-) -> io::Result<()> {
-    let before = records::leg_at(t, mv.leg);
-    let ended = late::is_end(t, c);
-    let told = checker::move_leg(t, c, mv);
-    match told {
-        Grant::Refused(number, at, _) => {
-            move_refused(out, err, t, number, at, mv)?;
+    fn move_refused(&mut self, t: &[u32], refusal: Refusal, mv: Move) -> io::Result<()> {
+        if refusal.cause == Cause::TooLate {
+            records::late_move(self.check.err, mv.periods);
+        } else {
+            refused::why_move(self.check.err, t, mv);
         }
-        Grant::Granted(d) => {
-            if saved::is_known(rt, out, err, cursor_path, old, c.revision)? {
-                let after = late::after_move(rt, err, cursor_path, t, mv.leg, ended, rechecks);
-                written(
-                    rt,
-                    out,
-                    err,
-                    plan_path,
-                    cursor_path,
-                    old,
-                    t,
-                    d,
-                    mv,
-                    before,
-                    after,
-                )?;
+        self.judged(t, refusal, Part::Move)
+    }
+
+    // Where the leg is to be rechecked, that is done before any file is replaced: the answer is one about the moved table, wherever that stands.
+    fn moved(
+        &mut self,
+        old: &[u8],
+        t: &mut [u32],
+        c: Cursor,
+        mv: Move,
+        rechecks: bool,
+    ) -> io::Result<()> {
+        let before = records::leg_at(t, mv.leg);
+        let ended = late::is_end(t, c);
+        let d = match checker::move_leg(t, c, mv) {
+            Ok(d) => d,
+            Err(Returned { refusal, .. }) => return self.move_refused(t, refusal, mv),
+        };
+        if !self.check.is_known(old, c.revision)? {
+            return Ok(());
+        }
+        let mut room = [0u8; files::MAX_FILE_BYTES];
+        let Ok(n) = files::write_plan(t, &mut room) else {
+            return Ok(());
+        };
+        let new = &room[..n];
+        if !rechecks {
+            if self.replaced(old, new, d, None) {
+                answers::move_lines(self.check.out, d, leg_count(t), mv, before)?;
+                answers::moved(self.check.out)?;
+            }
+            return Ok(());
+        }
+        let after = late::after_move(&mut self.check, t, mv.leg, ended);
+        if self.replaced(old, new, d, after.keep.of(old, new)) {
+            answers::move_lines(self.check.out, d, leg_count(t), mv, before)?;
+            self.tell(t, mv.leg, after)?;
+        }
+        Ok(())
+    }
+
+    fn move_leg(&mut self, plan: &[u8], t: &mut [u32], mv: Move, rechecks: bool) -> io::Result<()> {
+        let Some(c) = self.check.cursor()? else {
+            return Ok(());
+        };
+        if self.may_go_on(t)? && self.cursor_stands(t, c)? {
+            self.moved(plan, t, c, mv, rechecks)?;
+        }
+        Ok(())
+    }
+
+    fn on_table(&mut self, order: Order, plan: &[u8], t: &mut [u32]) -> io::Result<()> {
+        match order {
+            Order::Start { anew } => self.start(plan, t, anew),
+            Order::Slice { budget } => self.slice(plan, t, budget),
+            Order::Move(mv) => self.move_leg(plan, t, mv, false),
+            Order::MoveAndRecheck(mv) => self.move_leg(plan, t, mv, true),
+            Order::Recheck(leg) => self.recheck(plan, t, leg),
+        }
+    }
+
+    fn on_bytes(&mut self, order: Order, plan: &[u8]) -> io::Result<()> {
+        let mut words = [0u32; table::MAX_TABLE_WORDS];
+        match files::read_plan(plan, &mut words) {
+            Ok(n) => self.on_table(order, plan, &mut words[..n]),
+            Err(refusal) => {
+                reasons::file::why(self.check.err, plan, refusal);
+                answers::unread(self.check.out, refusal, Part::Plan)
             }
         }
     }
-    Ok(())
-}
 
-fn move_leg<R: Files, O: Write, E: Write>(
-    rt: &R,
-    out: &mut O,
-    err: &mut E,
-    plan_path: &[u8],
-    cursor_path: &[u8],
-    plan: &[u8],
-    t: &mut [u32],
-    mv: Move,
-    rechecks: bool,
-) -> io::Result<()> {
-    let at = saved::cursor(rt, out, err, cursor_path)?;
-    if let Saved::At(c) = at {
-        if may_move(rt, out, err, cursor_path, t, c)? {
-            moved(
-                rt,
-                out,
-                err,
-                plan_path,
-                cursor_path,
-                plan,
-                t,
-                c,
-                mv,
-                rechecks,
-            )?;
+    // Reads the plan and does what is asked.
+    pub(crate) fn answered(&mut self, order: Order) -> io::Result<()> {
+        let mut room = [0u8; PLAN_ROOM];
+        match durable::file(self.check.rt, self.check.err, self.plan, &mut room) {
+            FileRead::Bytes(plan) => self.on_bytes(order, plan)?,
+            FileRead::Missing => durable::missing(self.check.err, self.plan),
+            FileRead::Failed => {}
         }
+        Ok(())
     }
-    Ok(())
-}
-
-fn on_table<R: Files, O: Write, E: Write>(
-    rt: &R,
-    out: &mut O,
-    err: &mut E,
-    order: Order,
-    plan_path: &[u8],
-    cursor_path: &[u8],
-    plan: &[u8],
-    t: &mut [u32],
-) -> io::Result<()> {
-    match order {
-        Order::Start(anew) => {
-            start(rt, out, err, cursor_path, plan, t, anew)?;
-        }
-        Order::Slice(budget) => {
-            slice(rt, out, err, cursor_path, plan, t, budget)?;
-        }
-        Order::Move(mv) => {
-            move_leg(rt, out, err, plan_path, cursor_path, plan, t, mv, false)?;
-        }
-        Order::MoveAndRecheck(mv) => {
-            move_leg(rt, out, err, plan_path, cursor_path, plan, t, mv, true)?;
-        }
-        Order::Recheck(leg) => {
-            late::as_it_stands(rt, out, err, cursor_path, plan, t, leg)?;
-        }
-        Order::Words => {}
-        Order::Shape => {}
-        Order::Convert => {}
-        Order::Wrong => {}
-    }
-    Ok(())
-}
-
-fn on_words<R: Files, O: Write, E: Write>(
-    rt: &R,
-    out: &mut O,
-    err: &mut E,
-    order: Order,
-    plan_path: &[u8],
-    cursor_path: &[u8],
-    plan: &[u8],
-    words: &mut [u32],
-    n: usize,
-) -> io::Result<()> {
-    if words.len() < n {
-        return Ok(());
-    }
-    on_table(
-        rt,
-        out,
-        err,
-        order,
-        plan_path,
-        cursor_path,
-        plan,
-        &mut words[0..n],
-    )
-}
-
-fn on_bytes<R: Files, O: Write, E: Write>(
-    rt: &R,
-    out: &mut O,
-    err: &mut E,
-    order: Order,
-    plan_path: &[u8],
-    cursor_path: &[u8],
-    bytes: &[u8],
-    n: usize,
-) -> io::Result<()> {
-    if bytes.len() < n {
-        return Ok(());
-    }
-    let plan = &bytes[0..n];
-    let mut words = [0u32; table::MAX_TABLE_WORDS];
-    let read = files::read_plan(plan, &mut words);
-    match read {
-        PlanRead::Refused(number, at) => {
-            reasons::file::why(err, plan, number, at);
-            answers::unread(out, number, at, Part::Plan)?;
-        }
-        PlanRead::Words(m) => {
-            on_words(
-                rt,
-                out,
-                err,
-                order,
-                plan_path,
-                cursor_path,
-                plan,
-                &mut words,
-                m,
-            )?;
-        }
-    }
-    Ok(())
-}
-
-pub(crate) fn on_file<R: Files, O: Write, E: Write>(
-    rt: &R,
-    out: &mut O,
-    err: &mut E,
-    order: Order,
-    plan_path: &[u8],
-    cursor_path: &[u8],
-) -> io::Result<()> {
-    let mut bytes = [0u8; PLAN_ROOM];
-    let read = durable::file(rt, err, plan_path, &mut bytes);
-    match read {
-        FileRead::Bytes(n) => {
-            on_bytes(rt, out, err, order, plan_path, cursor_path, &bytes, n)?;
-        }
-        FileRead::Missing => {
-            durable::missing(err, plan_path);
-        }
-        FileRead::Failed => {}
-    }
-    Ok(())
 }

@@ -1,11 +1,11 @@
 // One late move: a recheck of the leg that was moved, and what is known of the whole plan by it.
-use crate::calls;
-use checker::cursors::NO_LEG;
+use crate::calls::Call;
+use basics::{Cause, Refusal};
 use files::Cursor;
 use kept::accepted::Accepted;
-use kept::{accepted, refused, saved};
-use reasons::records;
-use recheck::RecheckAnswer;
+use kept::{Check, refused, saved};
+use reasons::records::{header_word, leg_count};
+use recheck::Rechecked;
 use show::answers;
 use show::answers::Part;
 use std::io;
@@ -14,210 +14,130 @@ use std::rt::Files;
 use table::Move;
 
 // Which plan is to be kept as an accepted one: none, the one before a move, or the one after it.
-#[derive(Clone, Copy)]
+#[derive(Clone, Copy, Debug, PartialEq, Eq)]
 pub(crate) enum Keep {
     Nothing,
     Old,
     New,
 }
 
-// What follows a move: nothing more, or the answer of a recheck, whether a plan that is the same but for that leg is known to have been accepted, and what is to be kept.
-#[derive(Clone, Copy)]
-pub(crate) enum After {
-    Nothing,
-    Rechecked(RecheckAnswer, bool, Keep),
+impl Keep {
+    // The plan that is to be kept, of the one before a move and the one after it.
+    pub(crate) fn of<'a>(self, old: &'a [u8], new: &'a [u8]) -> Option<&'a [u8]> {
+        match self {
+            Keep::Nothing => None,
+            Keep::Old => Some(old),
+            Keep::New => Some(new),
+        }
+    }
+}
+
+// What follows a move: the answer of a recheck, whether a plan that is the same but for that leg is known to have been accepted, and what is to be kept.
+#[derive(Clone, Copy, Debug, PartialEq, Eq)]
+pub(crate) struct After {
+    told: Result<Rechecked, Refusal>,
+    known: bool,
+    pub(crate) keep: Keep,
 }
 
 fn revision_of(t: &[u32]) -> u32 {
-    records::header_word(t, table::REVISION_AT)
+    header_word(t, table::REVISION_AT)
 }
 
 // Whether a cursor is at the end of a table.
 pub(crate) fn is_end(t: &[u32], c: Cursor) -> bool {
-    saved::is_end(c, revision_of(t), records::leg_count(t))
+    saved::is_end(c, revision_of(t), leg_count(t))
 }
 
 // A plan of which nothing is violated is kept, where that is known of the whole of it; and otherwise the one of which that was known.
-fn to_keep(told: RecheckAnswer, known: bool, ended: bool) -> Keep {
-    if let RecheckAnswer::NothingViolated(_) = told {
-        if known {
-            return Keep::New;
-        }
-    }
-    if ended {
-        return Keep::Old;
-    }
-    Keep::Nothing
-}
-
-fn found(told: RecheckAnswer, standing: Accepted, ended: bool) -> After {
-    match standing {
-        Accepted::Same => After::Rechecked(told, true, to_keep(told, true, ended)),
-        Accepted::Unknown => After::Rechecked(told, ended, to_keep(told, ended, ended)),
-        Accepted::NotOurs => After::Rechecked(told, ended, Keep::Nothing),
-    }
+fn found(told: Result<Rechecked, Refusal>, standing: Accepted, ended: bool) -> After {
+    let known = ended || standing == Accepted::Same;
+    let clean = matches!(told, Ok(Rechecked::NothingViolated(_)));
+    let keep = if standing == Accepted::NotOurs {
+        Keep::Nothing
+    } else if clean && known {
+        Keep::New
+    } else if ended {
+        Keep::Old
+    } else {
+        Keep::Nothing
+    };
+    After { told, known, keep }
 }
 
 // What follows a move that is granted, after a cursor that was at the end of the plan before it, or was not.
-pub(crate) fn after_move<R: Files, E: Write>(
-    rt: &R,
-    err: &mut E,
-    cursor_path: &[u8],
+pub(crate) fn after_move<R: Files, O: Write, E: Write>(
+    check: &mut Check<R, O, E>,
     t: &[u32],
     leg: u32,
     ended: bool,
-    rechecks: bool,
 ) -> After {
-    if !rechecks {
-        return After::Nothing;
-    }
-    found(
-        recheck::recheck(t, leg),
-        accepted::judged(rt, err, cursor_path, t, leg),
-        ended,
-    )
+    found(recheck::recheck(t, leg), check.accepted(t, leg), ended)
 }
 
-pub(crate) fn kept_after(after: After) -> Keep {
-    match after {
-        After::Nothing => Keep::Nothing,
-        After::Rechecked(_, _, keep) => keep,
+impl<'a, R: Files, O: Write, E: Write> Call<'a, R, O, E> {
+    fn leg_refused(&mut self, t: &[u32], leg: u32, refusal: Refusal) -> io::Result<()> {
+        if refusal.cause != Cause::NoLeg {
+            return self.plan_refused(t, refusal);
+        }
+        let mv = Move {
+            leg,
+            offset: 0,
+            periods: 0,
+        };
+        refused::why_move(self.check.err, t, mv);
+        self.judged(t, refusal, Part::Leg)
     }
-}
 
-fn refused_so<O: Write, E: Write>(
-    out: &mut O,
-    err: &mut E,
-    t: &[u32],
-    leg: u32,
-    number: u32,
-    at: usize,
-) -> io::Result<()> {
-    if number == NO_LEG {
-        refused::why_move(
-            err,
-            t,
-            Move {
-                leg,
-                offset: 0,
-                periods: 0,
-            },
-        );
-        calls::judged(out, t, number, at, Part::Leg)?;
-        return Ok(());
+    // Writes the answer of a recheck.
+    pub(crate) fn tell(&mut self, t: &[u32], leg: u32, after: After) -> io::Result<()> {
+        let legs = leg_count(t);
+        let revision = revision_of(t);
+        match after.told {
+            Err(refusal) => self.leg_refused(t, leg, refusal),
+            Ok(Rechecked::NothingViolated(n)) => {
+                answers::recheck_clean(self.check.out, leg, n, legs, revision, after.known)
+            }
+            Ok(Rechecked::Violated(place, rule, n)) => {
+                let at = Cursor {
+                    revision,
+                    leg: place.leg,
+                    place: place.place,
+                };
+                answers::recheck_violated(self.check.out, leg, at, rule, n, legs, after.known)
+            }
+        }
     }
-    calls::plan_refused(out, err, t, number, at)
-}
 
-fn tell<O: Write, E: Write>(
-    out: &mut O,
-    err: &mut E,
-    t: &[u32],
-    leg: u32,
-    told: RecheckAnswer,
-    known: bool,
-) -> io::Result<()> {
-    let legs = records::leg_count(t);
-    match told {
-        RecheckAnswer::Refused(number, at) => {
-            refused_so(out, err, t, leg, number, at)?;
-        }
-        RecheckAnswer::NothingViolated(n) => {
-            answers::recheck_clean(out, leg, n, legs, revision_of(t), known)?;
-        }
-        RecheckAnswer::Violated(place, rule, n) => {
-            let at = Cursor {
-                revision: revision_of(t),
-                leg: place.leg,
-                place: place.place,
-            };
-            answers::recheck_violated(out, leg, at, rule, n, legs, known)?;
-        }
-    }
-    Ok(())
-}
-
-// Ends the answer of a move.
-pub(crate) fn told_after<O: Write, E: Write>(
-    out: &mut O,
-    err: &mut E,
-    t: &[u32],
-    leg: u32,
-    after: After,
-) -> io::Result<()> {
-    match after {
-        After::Nothing => {
-            answers::moved(out)?;
-        }
-        After::Rechecked(told, known, _) => {
-            tell(out, err, t, leg, told, known)?;
-        }
-    }
-    Ok(())
-}
-
-// Keeps the plan as an accepted one, unless it is. Where that fails it is said, and the answer is right all the same.
-fn keep_plan<R: Files, E: Write>(rt: &R, err: &mut E, cursor_path: &[u8], plan: &[u8]) {
-    if accepted::holds(rt, err, cursor_path, plan) {
-        return;
-    }
-    if accepted::write_beside(rt, err, cursor_path, plan) {
-        if accepted::put_in_place(rt, err, cursor_path) {
+    // Keeps the plan as an accepted one, unless it is. Where that fails it is said, and the answer is right all the same.
+    fn keep_plan(&mut self, plan: &[u8]) {
+        if self.check.has_accepted(plan)
+            || (self.check.write_accepted_beside(plan) && self.check.put_accepted_in_place())
+        {
             return;
         }
-    }
-    reasons::begin(err);
-    reasons::text(err, cursor_path);
-    reasons::text(
-        err,
-        b".accepted could not be written: a recheck after this one may not know that the plan is accepted\n",
-    );
-}
-
-// Whether the cursor is at the end of this very plan, and nothing says otherwise: where a place is violated, these commands did not leave the two so.
-fn has_ended<R: Files, E: Write>(
-    rt: &R,
-    err: &mut E,
-    cursor_path: &[u8],
-    plan: &[u8],
-    t: &[u32],
-    told: RecheckAnswer,
-) -> bool {
-    if let RecheckAnswer::NothingViolated(_) = told {
-        return saved::has_ended(
-            rt,
-            err,
-            cursor_path,
-            plan,
-            revision_of(t),
-            records::leg_count(t),
+        let cursor = self.check.cursor;
+        reasons::begin(self.check.err);
+        reasons::text(self.check.err, cursor);
+        reasons::text(
+            self.check.err,
+            b".accepted could not be written: a recheck after this one may not know that the plan is accepted\n",
         );
     }
-    false
-}
 
-// Rechecks a leg of a plan as it stands.
-pub(crate) fn as_it_stands<R: Files, O: Write, E: Write>(
-    rt: &R,
-    out: &mut O,
-    err: &mut E,
-    cursor_path: &[u8],
-    plan: &[u8],
-    t: &[u32],
-    leg: u32,
-) -> io::Result<()> {
-    let told = recheck::recheck(t, leg);
-    if let RecheckAnswer::Refused(number, at) = told {
-        refused_so(out, err, t, leg, number, at)?;
-        return Ok(());
+    // Rechecks a leg of a plan as it stands. Where a place is violated, a cursor at the end of this very plan says nothing: these commands did not leave the two so.
+    pub(crate) fn recheck(&mut self, plan: &[u8], t: &[u32], leg: u32) -> io::Result<()> {
+        let told = recheck::recheck(t, leg);
+        if let Err(refusal) = told {
+            return self.leg_refused(t, leg, refusal);
+        }
+        let standing = self.check.accepted(t, leg);
+        let ended = matches!(told, Ok(Rechecked::NothingViolated(_)))
+            && self.check.has_ended(plan, revision_of(t), leg_count(t));
+        let after = found(told, standing, ended);
+        if after.keep == Keep::New {
+            self.keep_plan(plan);
+        }
+        self.tell(t, leg, after)
     }
-    let after = found(
-        told,
-        accepted::judged(rt, err, cursor_path, t, leg),
-        has_ended(rt, err, cursor_path, plan, t, told),
-    );
-    if let Keep::New = kept_after(after) {
-        keep_plan(rt, err, cursor_path, plan);
-    }
-    told_after(out, err, t, leg, after)
 }

@@ -3,7 +3,9 @@
 // it writes none and says so on standard error.
 #![tactic(auto)]
 
-use decimal::Decimal;
+use calls::{Call, Order};
+use decimal::DecimalError;
+use kept::Check;
 use std::env::Env;
 use std::io;
 use std::io::Write;
@@ -15,25 +17,13 @@ mod convert;
 mod late;
 mod plans;
 
-// What is asked for. A start says whether a check that has begun may be dropped.
-#[derive(Clone, Copy)]
-pub(crate) enum Order {
+// What is asked for: of the plan on standard input, of a plan and its check, or a conversion.
+#[derive(Clone, Copy, Debug, PartialEq, Eq)]
+enum Asked {
     Words,
     Shape,
-    Start(bool),
-    Slice(u32),
-    Move(Move),
-    MoveAndRecheck(Move),
-    Recheck(u32),
+    OfCheck(Order),
     Convert,
-    Wrong,
-}
-
-// An argument that has to be a number.
-#[derive(Clone, Copy)]
-enum Word {
-    Given(u32),
-    Wrong,
 }
 
 const VERB_AT: usize = 1;
@@ -50,181 +40,129 @@ const OFFSET_AT: usize = 5;
 
 const PERIODS_AT: usize = 6;
 
-fn not_a_number<E: Write>(err: &mut E, what: &[u8], why: &[u8]) -> Word {
-    reasons::begin(err);
-    reasons::text(err, what);
-    reasons::text(err, b" is not a number from 0 to 4294967295: ");
-    reasons::text(err, why);
-    reasons::text(err, b"\n");
-    Word::Wrong
+// An argument that has to be a number. Where it is none, that is said.
+fn number_at<R: Env, E: Write>(rt: &R, err: &mut E, i: usize, what: &str) -> Option<u32> {
+    let mut room = [0u8; 4096];
+    let text = input::argument(rt, err, i, &mut room, what.as_bytes())?;
+    let why = match decimal::read_decimal(text) {
+        Ok(value) => return Some(value),
+        Err(DecimalError::Empty) => "it is empty",
+        Err(DecimalError::NoDigit(_)) => "it has a byte that is no digit",
+        Err(DecimalError::TooLarge) => "it is larger",
+    };
+    reasons::report(
+        err,
+        format_args!("{what} is not a number from 0 to 4294967295: {why}"),
+    );
+    None
 }
 
-fn word_of<E: Write>(err: &mut E, text: &[u8], what: &[u8]) -> Word {
-    let read = decimal::read_decimal(text);
-    match read {
-        Decimal::Value(value) => Word::Given(value),
-        Decimal::Empty => not_a_number(err, what, b"it is empty"),
-        Decimal::NoDigit(_) => not_a_number(err, what, b"it has a byte that is no digit"),
-        Decimal::TooLarge => not_a_number(err, what, b"it is larger"),
-    }
-}
-
-fn number_at<R: Env, E: Write>(rt: &R, err: &mut E, i: usize, what: &[u8]) -> Word {
-    let mut text = [0u8; 4096];
-    let given = input::argument(rt, err, i, &mut text, what);
-    match given {
-        Some(n) => word_of(err, &text[..n], what),
-        None => Word::Wrong,
-    }
-}
-
-fn start_order<R: Env, E: Write>(rt: &R, err: &mut E) -> Order {
+// A start says whether a check that has begun may be dropped.
+fn start_order<R: Env, E: Write>(rt: &R, err: &mut E) -> Option<Order> {
     if !input::has_argument(rt, ANEW_AT) {
-        return Order::Start(false);
+        return Some(Order::Start { anew: false });
     }
-    let mut text = [0u8; 4096];
-    let n = input::argument_or_nothing(rt, ANEW_AT, &mut text);
-    if calls::are_same(&text[..n], b"--anew") {
-        return Order::Start(true);
+    let mut room = [0u8; 4096];
+    if input::argument_or_nothing(rt, ANEW_AT, &mut room) == b"--anew".as_slice() {
+        return Some(Order::Start { anew: true });
     }
     reasons::text(
         err,
         b"after the files a start takes --anew and nothing else\n",
     );
-    Order::Wrong
+    None
 }
 
-fn slice_order<R: Env, E: Write>(rt: &R, err: &mut E) -> Order {
-    let budget = number_at(rt, err, FIRST_NUMBER_AT, b"the budget");
-    match budget {
-        Word::Given(value) => Order::Slice(value),
-        Word::Wrong => Order::Wrong,
-    }
-}
-
-// The period word of a move: 0 where it is not given.
-fn periods_given<R: Env, E: Write>(rt: &R, err: &mut E) -> Word {
-    if !input::has_argument(rt, PERIODS_AT) {
-        return Word::Given(0);
-    }
-    number_at(rt, err, PERIODS_AT, b"the period word")
-}
-
-fn move_order<R: Env, E: Write>(rt: &R, err: &mut E) -> Order {
-    let first = number_at(rt, err, FIRST_NUMBER_AT, b"the leg");
-    let Word::Given(leg) = first else {
-        return Order::Wrong;
+// The move that is asked for. Its period word is 0 where it is not given.
+fn move_given<R: Env, E: Write>(rt: &R, err: &mut E) -> Option<Move> {
+    let leg = number_at(rt, err, FIRST_NUMBER_AT, "the leg")?;
+    let offset = number_at(rt, err, OFFSET_AT, "the offset")?;
+    let periods = if input::has_argument(rt, PERIODS_AT) {
+        number_at(rt, err, PERIODS_AT, "the period word")?
+    } else {
+        0
     };
-    let second = number_at(rt, err, OFFSET_AT, b"the offset");
-    let Word::Given(offset) = second else {
-        return Order::Wrong;
-    };
-    let third = periods_given(rt, err);
-    match third {
-        Word::Given(periods) => Order::Move(Move {
-            leg,
-            offset,
-            periods,
-        }),
-        Word::Wrong => Order::Wrong,
-    }
+    Some(Move {
+        leg,
+        offset,
+        periods,
+    })
 }
 
 // A recheck moves the leg first, where an offset is given.
-fn recheck_order<R: Env, E: Write>(rt: &R, err: &mut E) -> Order {
+fn recheck_order<R: Env, E: Write>(rt: &R, err: &mut E) -> Option<Order> {
     if input::has_argument(rt, OFFSET_AT) {
-        let order = move_order(rt, err);
-        if let Order::Move(mv) = order {
-            return Order::MoveAndRecheck(mv);
+        return Some(Order::MoveAndRecheck(move_given(rt, err)?));
+    }
+    Some(Order::Recheck(number_at(rt, err, FIRST_NUMBER_AT, "the leg")?))
+}
+
+fn order_of<R: Env, E: Write>(rt: &R, err: &mut E) -> Option<Asked> {
+    let mut room = [0u8; 4096];
+    let order = match input::argument_or_nothing(rt, VERB_AT, &mut room) {
+        b"words" => return Some(Asked::Words),
+        b"shape" => return Some(Asked::Shape),
+        b"convert" => return Some(Asked::Convert),
+        b"start" => start_order(rt, err)?,
+        b"slice" => Order::Slice {
+            budget: number_at(rt, err, FIRST_NUMBER_AT, "the budget")?,
+        },
+        b"move" => Order::Move(move_given(rt, err)?),
+        b"recheck" => recheck_order(rt, err)?,
+        _ => {
+            reasons::text(
+                err,
+                b"the first argument is words, shape, start, slice, move, recheck or convert\n",
+            );
+            return None;
         }
-        return Order::Wrong;
-    }
-    let leg = number_at(rt, err, FIRST_NUMBER_AT, b"the leg");
-    match leg {
-        Word::Given(value) => Order::Recheck(value),
-        Word::Wrong => Order::Wrong,
-    }
+    };
+    Some(Asked::OfCheck(order))
 }
 
-// What is asked of the plan on standard input.
-fn plan_order<E: Write>(err: &mut E, verb: &[u8]) -> Order {
-    if calls::are_same(verb, b"words") {
-        return Order::Words;
-    }
-    if calls::are_same(verb, b"shape") {
-        return Order::Shape;
-    }
-    reasons::text(
-        err,
-        b"the first argument is words, shape, start, slice, move, recheck or convert\n",
-    );
-    Order::Wrong
-}
-
-fn order_of<R: Env, E: Write>(rt: &R, err: &mut E, verb: &[u8]) -> Order {
-    if calls::are_same(verb, b"start") {
-        return start_order(rt, err);
-    }
-    if calls::are_same(verb, b"slice") {
-        return slice_order(rt, err);
-    }
-    if calls::are_same(verb, b"move") {
-        return move_order(rt, err);
-    }
-    if calls::are_same(verb, b"recheck") {
-        return recheck_order(rt, err);
-    }
-    if calls::are_same(verb, b"convert") {
-        return Order::Convert;
-    }
-    plan_order(err, verb)
-}
-
-fn order_given<R: Env, E: Write>(rt: &R, err: &mut E) -> Order {
-    let mut verb = [0u8; 4096];
-    let n = input::argument_or_nothing(rt, VERB_AT, &mut verb);
-    order_of(rt, err, &verb[..n])
-}
-
-// A conversion has the new file in the place of the cursor.
-fn on_paths<R: Files, O: Write, E: Write>(
-    rt: &R,
-    out: &mut O,
-    err: &mut E,
-    order: Order,
-    plan: &[u8],
-    cursor: &[u8],
+// A conversion, of which no check is asked, has the new file in the place of the cursor.
+fn on_paths<'a, R: Files, O: Write, E: Write>(
+    rt: &'a R,
+    out: &'a mut O,
+    err: &'a mut E,
+    order: Option<Order>,
+    plan: &'a [u8],
+    cursor: &'a [u8],
 ) -> io::Result<()> {
-    if let Order::Convert = order {
-        convert::first(rt, out, err, plan, cursor)?;
-        return Ok(());
-    }
-    calls::on_file(rt, out, err, order, plan, cursor)
+    let Some(order) = order else {
+        return convert::first(rt, out, err, plan, cursor);
+    };
+    let check = Check {
+        rt,
+        out,
+        err,
+        cursor,
+    };
+    let mut call = Call { check, plan };
+    call.answered(order)
 }
 
 fn on_files<R: Env + Files, O: Write, E: Write>(
     rt: &R,
     out: &mut O,
     err: &mut E,
-    order: Order,
+    order: Option<Order>,
 ) -> io::Result<()> {
     let mut plan = [0u8; 4096];
-    let first = input::argument(rt, err, PLAN_AT, &mut plan, b"the path of the plan");
-    let Some(n) = first else {
+    let Some(plan) = input::argument(rt, err, PLAN_AT, &mut plan, b"the path of the plan") else {
         return Ok(());
     };
     let mut cursor = [0u8; 4096];
-    let second = input::argument(
+    let Some(cursor) = input::argument(
         rt,
         err,
         CURSOR_AT,
         &mut cursor,
         b"the path of the cursor or of the new file",
-    );
-    let Some(m) = second else {
+    ) else {
         return Ok(());
     };
-    on_paths(rt, out, err, order, &plan[..n], &cursor[..m])
+    on_paths(rt, out, err, order, plan, cursor)
 }
 
 fn run<R: Env + Files + Input, O: Write, E: Write>(
@@ -232,35 +170,13 @@ fn run<R: Env + Files + Input, O: Write, E: Write>(
     out: &mut O,
     err: &mut E,
 ) -> io::Result<()> {
-    let order = order_given(rt, err);
-    match order {
-        Order::Words => {
-            plans::words(rt, out, err)?;
-        }
-        Order::Shape => {
-            plans::shape(rt, out, err)?;
-        }
-        Order::Start(anew) => {
-            on_files(rt, out, err, order)?;
-        }
-        Order::Slice(budget) => {
-            on_files(rt, out, err, order)?;
-        }
-        Order::Move(mv) => {
-            on_files(rt, out, err, order)?;
-        }
-        Order::MoveAndRecheck(mv) => {
-            on_files(rt, out, err, order)?;
-        }
-        Order::Recheck(leg) => {
-            on_files(rt, out, err, order)?;
-        }
-        Order::Convert => {
-            on_files(rt, out, err, order)?;
-        }
-        Order::Wrong => {}
+    match order_of(rt, err) {
+        Some(Asked::Words) => plans::words(rt, out, err),
+        Some(Asked::Shape) => plans::shape(rt, out, err),
+        Some(Asked::OfCheck(order)) => on_files(rt, out, err, Some(order)),
+        Some(Asked::Convert) => on_files(rt, out, err, None),
+        None => Ok(()),
     }
-    Ok(())
 }
 
 fn main(rt: HostRuntime) {

@@ -1,117 +1,87 @@
-// A plan written as its text. The text is read again first, and nothing is written unless it gives the plan back, word for word.
-use input::Given;
-use plan_text::{assembling, names, writing};
+//! A plan written as its text. The text is read again first, and nothing is written unless it gives the plan back, word for word.
+use plan_text::names::Names;
+use plan_text::{Draft, Page};
+use reasons::report;
 use show::answers;
+use std::alloc::Global;
 use std::io;
 use std::io::Write;
 use std::rt::Files;
 
-fn printed<O: Write>(out: &mut O, text: &[u8]) -> io::Result<()> {
-    show::text(out, text)?;
-    show::text(out, b"status 0\n")
+/// Whether a text is that of a table.
+fn is_text_of(alloc: Global, text: &[u8], t: &[u32]) -> io::Result<bool> {
+    match plan_text::read(alloc, &mut io::sink(), text)? {
+        Ok(draft) => Ok(draft.table(alloc)?.as_slice() == t),
+        Err(_) => Ok(false),
+    }
 }
 
-// Writes the text of a draft, and answers whether it was: only where it gives the table back.
-fn is_written<O: Write, E: Write>(
+/// Writes the text of a draft if it gives the table back, and answers whether it was written.
+fn is_written<O: Write>(alloc: Global, out: &mut O, draft: &Draft, t: &[u32]) -> io::Result<bool> {
+    let mut page = Page::new(alloc);
+    plan_text::write(&mut page, draft)?;
+    let text = page.text();
+    let is_whole = is_text_of(alloc, text, t)?;
+    if is_whole {
+        out.write_all(text)?;
+        writeln!(out, "status 0")?;
+    }
+    Ok(is_whole)
+}
+
+fn without_names<O: Write, E: Write>(
+    alloc: Global,
     out: &mut O,
     err: &mut E,
-    text: &[u8],
-    draft: &[u32],
     t: &[u32],
-) -> io::Result<bool> {
-    let mut lent = [0u8; plan_text::MAX_BYTES];
-    let n = writing::write(text, draft, &mut lent);
-    if lent.len() < n {
-        return Ok(false);
+) -> io::Result<()> {
+    let draft = Draft::of_table(alloc, t)?;
+    if !is_written(alloc, out, &draft, t)? {
+        report(
+            err,
+            "the text that was made does not give this plan back: nothing is written",
+        );
     }
-    if assembling::is_text_of(err, &lent[0..n], t) {
-        printed(out, &lent[0..n])?;
-        return Ok(true);
-    }
-    Ok(false)
-}
-
-fn without_names<O: Write, E: Write>(out: &mut O, err: &mut E, t: &[u32]) -> io::Result<()> {
-    let mut draft = [0u32; plan_text::DRAFT_WORDS];
-    names::nameless(err, t, &mut draft);
-    if is_written(out, err, b"", &draft, t)? {
-        return Ok(());
-    }
-    reasons::line(
-        err,
-        b"the text that was made does not give this plan back: nothing is written",
-        &[],
-    );
     Ok(())
 }
 
-// With long names a text may have no room.
+/// With long names a text may have no room.
 fn with_names<O: Write, E: Write>(
+    alloc: Global,
     out: &mut O,
     err: &mut E,
-    text: &[u8],
-    draft: &[u32],
+    names: &Names,
     t: &[u32],
 ) -> io::Result<()> {
-    if is_written(out, err, text, draft, t)? {
+    let draft = names.draft(alloc, err, t)?;
+    if is_written(alloc, out, &draft, t)? {
         return Ok(());
     }
-    reasons::line(
+    report(
         err,
-        b"with its names the text has no room in # bytes: numbers are used in their place",
-        &[plan_text::MAX_BYTES as u32],
+        format_args!(
+            "with its names the text has no room in {} bytes: numbers are used in their place",
+            plan_text::MAX_BYTES
+        ),
     );
-    without_names(out, err, t)
+    without_names(alloc, out, err, t)
 }
 
-fn on_table<R: Files, O: Write, E: Write>(
-    rt: &R,
-    out: &mut O,
-    err: &mut E,
-    path: &[u8],
-    t: &[u32],
-) -> io::Result<()> {
-    if path.len() == 0 {
-        without_names(out, err, t)?;
-        return Ok(());
-    }
-    let mut text = [0u8; plan_text::TEXT_ROOM];
-    let mut draft = [0u32; plan_text::DRAFT_WORDS];
-    names::beside(rt, err, path, t, &mut text, &mut draft);
-    with_names(out, err, &text, &draft, t)
-}
-
-fn on_words<R: Files, O: Write, E: Write>(
-    rt: &R,
-    out: &mut O,
-    err: &mut E,
-    path: &[u8],
-    words: &[u32],
-    n: usize,
-) -> io::Result<()> {
-    if words.len() < n {
-        return Ok(());
-    }
-    on_table(rt, out, err, path, &words[0..n])
-}
-
-// The plan on standard input, with the names that stand beside a path, or without any.
+/// The plan on standard input, with the names that stand beside a path, or without any.
 pub(crate) fn of<R: Files + Input, O: Write, E: Write>(
+    alloc: Global,
     rt: &R,
     out: &mut O,
     err: &mut E,
     path: &[u8],
 ) -> io::Result<()> {
     let mut words = [0u32; table::MAX_TABLE_WORDS];
-    let read = input::given_plan(rt, err, &mut words);
-    match read {
-        Given::Words(n) => {
-            on_words(rt, out, err, path, &words, n)?;
+    match input::given_plan(rt, err, &mut words)? {
+        Ok(t) if path.is_empty() => without_names(alloc, out, err, t),
+        Ok(t) => {
+            let names = Names::beside(alloc, rt, err, path)?;
+            with_names(alloc, out, err, &names, t)
         }
-        Given::Refused(number, at) => {
-            answers::plan_refused(out, number, at)?;
-        }
-        Given::Unread => {}
+        Err(refusal) => answers::plan_refused(out, refusal),
     }
-    Ok(())
 }

@@ -1,9 +1,10 @@
-// Plans as text, both ways. encode NEW [--replace] reads a text on standard input and writes the plan file NEW, and NEW.names where the text has names; decode [PLAN]
-// reads a plan file on standard input and writes its text, with the names that stand beside PLAN. A last line says the exit status, and ./conepalhui takes it off.
-// Where something cannot be read or written, there is none.
+//! Plans as text, both ways. encode NEW [--replace] reads a text on standard input and writes the plan file NEW, and NEW.names where the text has names; decode [PLAN]
+//! reads a plan file on standard input and writes its text, with the names that stand beside PLAN. A last line says the exit status, and ./conepalhui takes it off.
+//! Where something cannot be read or written, there is none.
 #![tactic(auto)]
 
-use lines::words::are_same;
+use encode::Target;
+use std::alloc::Global;
 use std::env::Env;
 use std::io;
 use std::io::Write;
@@ -18,44 +19,43 @@ const PATH_AT: usize = 2;
 
 const OPTION_AT: usize = 3;
 
-fn is_replacing<R: Env>(rt: &R) -> bool {
-    let mut option = [0u8; 4096];
-    let n = input::argument_or_nothing(rt, OPTION_AT, &mut option);
-    are_same(&option[..n], b"--replace")
-}
+/// How long an argument may be.
+const ROOM: usize = 4096;
 
-fn on_path<R: Env + Files + Input, O: Write, E: Write>(
-    rt: &R,
-    out: &mut O,
-    err: &mut E,
-    verb: &[u8],
-    path: &[u8],
-) -> io::Result<()> {
-    if are_same(verb, b"encode") {
-        encode::to(rt, out, err, path, is_replacing(rt))?;
-        return Ok(());
-    }
-    if are_same(verb, b"decode") {
-        decode::of(rt, out, err, path)?;
-        return Ok(());
-    }
-    reasons::text(err, b"the first argument is encode or decode\n");
-    Ok(())
+fn is_replacing<R: Env>(rt: &R) -> bool {
+    let mut room = [0u8; ROOM];
+    matches!(
+        input::argument_or_nothing(rt, OPTION_AT, &mut room),
+        b"--replace"
+    )
 }
 
 fn run<R: Env + Files + Input, O: Write, E: Write>(
+    alloc: Global,
     rt: &R,
     out: &mut O,
     err: &mut E,
 ) -> io::Result<()> {
-    let mut verb = [0u8; 4096];
-    let n = input::argument_or_nothing(rt, VERB_AT, &mut verb);
-    let mut path = [0u8; 4096];
-    let m = input::argument_or_nothing(rt, PATH_AT, &mut path);
-    on_path(rt, out, err, &verb[..n], &path[..m])
+    let mut verb = [0u8; ROOM];
+    let mut path = [0u8; ROOM];
+    let path = input::argument_or_nothing(rt, PATH_AT, &mut path);
+    match input::argument_or_nothing(rt, VERB_AT, &mut verb) {
+        b"encode" => {
+            let target = Target {
+                path,
+                is_replacing: is_replacing(rt),
+            };
+            encode::to(alloc, rt, out, err, target)
+        }
+        b"decode" => decode::of(alloc, rt, out, err, path),
+        _ => {
+            reasons::text(err, b"the first argument is encode or decode\n");
+            Ok(())
+        }
+    }
 }
 
 fn main(rt: HostRuntime) {
     let mut out = output::to(rt.stdout());
-    let _ = run(&rt, &mut out, &mut rt.stderr());
+    let _ = run(rt.alloc(), &rt, &mut out, &mut rt.stderr());
 }

@@ -3,9 +3,11 @@
 // written it writes no such line, and says so on standard error. NEW is written once, at the end.
 #![tactic(auto)]
 
+use crate::lines::Request;
 use durable::FileRead;
-use files::PlanRead;
+use reasons::report;
 use show::answers;
+use std::alloc::Global;
 use std::env::Env;
 use std::io;
 use std::io::Write;
@@ -30,68 +32,46 @@ const PLAN_ROOM: usize = files::MAX_FILE_BYTES + 1;
 // One byte more than what is wanted may have.
 const TEXT_ROOM: usize = lines::MAX_BYTES + 1;
 
-fn on_table<R: Clock + Files, O: Write, E: Write>(
+fn on_plan<R: Clock + Files, O: Write, E: Write>(
     rt: &R,
+    alloc: Global,
     out: &mut O,
     err: &mut E,
-    text: &[u8],
+    requests: &[Request<'_>],
     new_path: &[u8],
-    words: &mut [u32],
-    n: usize,
+    plan: &[u8],
 ) -> io::Result<()> {
-    if words.len() < n {
-        return Ok(());
-    }
-    if judge::stands(out, err, text, &words[0..n])? {
-        list::admitted(rt, out, err, text, new_path, words, n)?;
-    }
-    Ok(())
-}
-
-fn on_bytes<R: Clock + Files, O: Write, E: Write>(
-    rt: &R,
-    out: &mut O,
-    err: &mut E,
-    text: &[u8],
-    new_path: &[u8],
-    bytes: &[u8],
-    n: usize,
-) -> io::Result<()> {
-    if bytes.len() < n {
-        return Ok(());
-    }
-    let plan = &bytes[0..n];
     let mut words = [0u32; table::MAX_TABLE_WORDS];
-    let read = files::read_plan(plan, &mut words);
-    match read {
-        PlanRead::Refused(number, at) => {
-            reasons::file::why(err, plan, number, at);
-            answers::plan_refused(out, number, at)?;
+    match files::read_plan(plan, &mut words) {
+        Err(refusal) => {
+            reasons::file::why(err, plan, refusal);
+            answers::plan_refused(out, refusal)
         }
-        PlanRead::Words(m) => {
-            on_table(rt, out, err, text, new_path, &mut words, m)?;
+        Ok(n) => {
+            let t = words.get(..n).unwrap_or(&[]);
+            if judge::stands(out, err, requests, t)? {
+                list::admitted(rt, alloc, out, err, requests, new_path, t)?;
+            }
+            Ok(())
         }
     }
-    Ok(())
 }
 
 fn on_paths<R: Clock + Files, O: Write, E: Write>(
     rt: &R,
+    alloc: Global,
     out: &mut O,
     err: &mut E,
-    text: &[u8],
+    requests: &[Request<'_>],
     plan_path: &[u8],
     new_path: &[u8],
 ) -> io::Result<()> {
     let mut bytes = [0u8; PLAN_ROOM];
-    let read = durable::file(rt, err, plan_path, &mut bytes);
-    match read {
-        FileRead::Bytes(n) => {
-            on_bytes(rt, out, err, text, new_path, &bytes, n)?;
+    match durable::file(rt, err, plan_path, &mut bytes) {
+        FileRead::Bytes(plan) => {
+            on_plan(rt, alloc, out, err, requests, new_path, plan)?;
         }
-        FileRead::Missing => {
-            durable::missing(err, plan_path);
-        }
+        FileRead::Missing => durable::missing(err, plan_path),
         FileRead::Failed => {}
     }
     Ok(())
@@ -99,62 +79,56 @@ fn on_paths<R: Clock + Files, O: Write, E: Write>(
 
 fn on_text<R: Clock + Env + Files, O: Write, E: Write>(
     rt: &R,
+    alloc: Global,
     out: &mut O,
     err: &mut E,
     text: &[u8],
 ) -> io::Result<()> {
-    if !lines::all_right(err, text) {
-        return Ok(());
-    }
-    let mut plan = [0u8; 4096];
-    let first = input::argument(rt, err, PLAN_AT, &mut plan, b"the path of the plan");
-    let Some(n) = first else {
+    let requests = match lines::requests(alloc, text)? {
+        Ok(requests) => requests,
+        Err(e) => {
+            report(err, e);
+            return Ok(());
+        }
+    };
+    let mut room = [0u8; 4096];
+    let Some(plan) = input::argument(rt, err, PLAN_AT, &mut room, b"the path of the plan") else {
         return Ok(());
     };
-    let mut new = [0u8; 4096];
-    let second = input::argument(rt, err, NEW_AT, &mut new, b"the path of the new file");
-    let Some(m) = second else {
+    let mut room_of_new = [0u8; 4096];
+    let what = b"the path of the new file";
+    let Some(new) = input::argument(rt, err, NEW_AT, &mut room_of_new, what) else {
         return Ok(());
     };
-    on_paths(rt, out, err, text, &plan[..n], &new[..m])
-}
-
-fn on_whole_text<R: Clock + Env + Files, O: Write, E: Write>(
-    rt: &R,
-    out: &mut O,
-    err: &mut E,
-    text: &[u8],
-) -> io::Result<()> {
-    if text.len() == TEXT_ROOM {
-        reasons::line(
-            err,
-            b"what is wanted has more than # bytes",
-            &[lines::MAX_BYTES as u32],
-        );
-        return Ok(());
-    }
-    on_text(rt, out, err, text)
+    on_paths(rt, alloc, out, err, &requests, plan, new)
 }
 
 fn run<R: Clock + Env + Files + Input, O: Write, E: Write>(
     rt: &R,
+    alloc: Global,
     out: &mut O,
     err: &mut E,
 ) -> io::Result<()> {
-    let mut text = [0u8; TEXT_ROOM];
-    let read = input::standard(rt, &mut text);
-    match read {
-        Ok(n) => {
-            on_whole_text(rt, out, err, &text[..n])?;
+    let mut room = [0u8; TEXT_ROOM];
+    match input::standard(rt, &mut room) {
+        Ok(text) if text.len() == TEXT_ROOM => {
+            let most = lines::MAX_BYTES;
+            report(
+                err,
+                format_args!("what is wanted has more than {most} bytes"),
+            );
+            Ok(())
         }
+        Ok(text) => on_text(rt, alloc, out, err, text),
         Err(e) => {
             reasons::fail(err, b"what is wanted", &e);
+            Ok(())
         }
     }
-    Ok(())
 }
 
 fn main(rt: HostRuntime) {
+    let alloc = rt.alloc();
     let mut out = output::to(rt.stdout());
-    let _ = run(&rt, &mut out, &mut rt.stderr());
+    let _ = run(&rt, alloc, &mut out, &mut rt.stderr());
 }

@@ -1,382 +1,393 @@
 // Why a stream is not admitted: one sentence on standard error. Of several causes one is said.
-use crate::lines::Given;
-use crate::search::begin;
-use crate::{lines, route, times};
-use admission::NO_OFFSET;
-use checker::cursors::{CANNOT_RISE, MAX_REVISION};
+use crate::lines::{Request, Way};
+use crate::times;
+use basics::Cause;
+use checker::cursors::MAX_REVISION;
 use enlarge::Wanted;
 use files::Cursor;
 use reasons::records::header_word;
-use reasons::{records, say, small, text};
+use reasons::{records, report, small};
 use shape::streams::{MAX_OCTETS, MAX_PERIOD, MAX_PERIODS, MAX_ROUTE, MIN_OCTETS};
+use std::fmt;
 use std::io::Write;
+use table::Link;
 
-// Internal: a search that ended without an answer, which no search does.
+// Prints a sentence on a line of its own, after the label of the stream where it has one.
+fn explain<E: Write, S: fmt::Display + Drop>(err: &mut E, label: &[u8], sentence: S) {
+    reasons::begin(err);
+    if !label.is_empty() {
+        reasons::text(err, label);
+        reasons::text(err, b": ");
+    }
+    let _ = writeln!(err, "{sentence}");
+}
+
+/// How far a search is.
+pub(crate) fn looked_through<E: Write>(err: &mut E, label: &[u8], until: u32, period: u32) {
+    explain(
+        err,
+        label,
+        format_args!("looked through first offsets below {until} of {period}"),
+    );
+}
+
+/// How many streams of a list are done.
+pub(crate) fn so_far<E: Write>(err: &mut E, admitted: u32, left_out: u32) {
+    report(
+        err,
+        format_args!("so far {admitted} streams are admitted and {left_out} left out"),
+    );
+}
+
+/// A search that ended without an answer, which no search does.
 pub(crate) fn unended<E: Write>(err: &mut E, label: &[u8]) {
-    begin(err, label);
-    text(
+    explain(
         err,
-        b"the search did not end: this is a fault of the program\n",
+        label,
+        "the search did not end: this is a fault of the program",
     );
 }
 
-// Internal: why a plan of the last revision takes no stream.
+/// Why a plan of the last revision takes no stream.
 pub(crate) fn cannot_rise<E: Write>(err: &mut E, label: &[u8]) {
-    begin(err, label);
-    say(
+    explain(
         err,
-        b"the plan has revision #, the last one: no stream can be added before all its cursors are destroyed and it is written with a lower one\n",
-        &[MAX_REVISION],
+        label,
+        format_args!(
+            "the plan has revision {MAX_REVISION}, the last one: no stream can be added before all its cursors are destroyed and it is written with a lower one"
+        ),
     );
 }
 
-// Internal: why a plan takes no stream whose first violated place this is.
+/// Why a plan takes no stream whose first violated place this is.
 pub(crate) fn not_accepted<E: Write>(err: &mut E, at: Cursor) {
-    reasons::line(
+    let Cursor { leg, place, .. } = at;
+    report(
         err,
-        b"place # of leg # is violated, and only an accepted plan takes a stream: move legs until 'check' accepts it",
-        &[at.place, at.leg],
+        format_args!(
+            "place {place} of leg {leg} is violated, and only an accepted plan takes a stream: move legs until 'check' accepts it"
+        ),
     );
 }
 
 // ---- 18: no first offset fits
 
-// Says a number of a row, with a comma before it where it is not the first.
-fn say_one<E: Write>(err: &mut E, i: usize, link: u32) {
-    if 0 < i {
-        text(err, b",");
-    }
-    say(err, b"#", &[link]);
-}
+// The links of a route, as the command takes them: with a comma between them.
+#[derive(Clone, Copy)]
+struct Links<'a>(&'a [u32]);
 
-// Says the links of a route, as the command takes them.
-fn say_links<E: Write>(err: &mut E, links: &[u32]) {
-    let mut i: usize = 0;
-    while i < links.len() {
-        say_one(err, i, links[i]);
-        i = i + 1;
-    }
-}
-
-// The first link that the frame holds for longer than its period, or how many there are.
-fn held_too_long(t: &[u32], links: &[u32], octets: u32, period: u32) -> usize {
-    let mut i: usize = 0;
-    while i < links.len() {
-        if (period as u64) < times::hold(octets, records::link_at(t, links[i])) {
-            return i;
+impl fmt::Display for Links<'_> {
+    fn fmt<W: fmt::Write>(&self, f: &mut fmt::Formatter<W>) -> fmt::Result {
+        let Some((first, others)) = self.0.split_first() else {
+            return Ok(());
+        };
+        write!(f, "{first}")?;
+        for link in others {
+            write!(f, ",{link}")?;
         }
-        i = i + 1;
+        Ok(())
     }
-    i
 }
 
-// A time that fits into a word, as all do that are said.
+// Why no first offset fits on a route, and what may help.
+#[derive(Clone, Copy)]
+enum NoOffset {
+    TooSlow { time: u32, deadline: u32 },
+    HeldTooLong { link: u32, hold: u32 },
+    AllMeet { may_be_late: bool },
+}
+
+// A time that fits into a word, as all do that are printed.
 fn short(time: u64) -> u32 {
-    if time <= 4294967295 {
-        return time as u32;
-    }
-    4294967295
+    u32::try_from(time).unwrap_or(u32::MAX)
 }
 
 // Whether the last leg may lie more periods late than a leg may lie, at the latest first offset.
 fn may_be_late(t: &[u32], links: &[u32], want: Wanted) -> bool {
-    if links.len() == 0 {
+    let Some((_, before)) = links.split_last() else {
         return false;
-    }
-    let last = links.len() - 1;
-    (MAX_PERIODS as u64) * (want.period as u64) < times::along(t, want.octets, &links[0..last])
+    };
+    u64::from(MAX_PERIODS) * u64::from(want.period) < times::along(t, want.octets, before)
 }
 
-fn all_meet<E: Write>(err: &mut E, t: &[u32], links: &[u32], want: Wanted) {
-    text(
-        err,
-        b"each one meets a frame of another stream or the end of its period",
-    );
-    if may_be_late(t, links, want) {
-        say(
-            err,
-            b", or sends a leg more than # periods late",
-            &[MAX_PERIODS],
-        );
+impl NoOffset {
+    fn of(t: &[u32], links: &[u32], want: Wanted) -> NoOffset {
+        let time = times::along(t, want.octets, links);
+        let deadline = want.deadline;
+        if u64::from(deadline) < time {
+            return NoOffset::TooSlow {
+                time: short(time),
+                deadline,
+            };
+        }
+        for link in links {
+            let hold = times::hold(want.octets, records::link_at(t, *link));
+            if u64::from(want.period) < hold {
+                return NoOffset::HeldTooLong {
+                    link: *link,
+                    hold: short(hold),
+                };
+            }
+        }
+        NoOffset::AllMeet {
+            may_be_late: may_be_late(t, links, want),
+        }
     }
-    text(
-        err,
-        b". Try another route or fewer octets, or move legs of other streams\n",
-    );
 }
 
-fn too_long_a_hold<E: Write>(err: &mut E, t: &[u32], link: u32, want: Wanted) {
-    let hold = times::hold(want.octets, records::link_at(t, link));
-    say(
-        err,
-        b"the frame holds link # for # ns, longer than its period. Give a longer period, fewer octets or another route\n",
-        &[link, short(hold)],
-    );
+impl fmt::Display for NoOffset {
+    fn fmt<W: fmt::Write>(&self, f: &mut fmt::Formatter<W>) -> fmt::Result {
+        match self {
+            NoOffset::TooSlow { time, deadline } => write!(
+                f,
+                "without waiting the frame takes {time} ns, and its deadline is {deadline} ns. Give a later deadline, fewer octets or another route"
+            ),
+            NoOffset::HeldTooLong { link, hold } => write!(
+                f,
+                "the frame holds link {link} for {hold} ns, longer than its period. Give a longer period, fewer octets or another route"
+            ),
+            NoOffset::AllMeet { may_be_late } => {
+                f.write_str("each one meets a frame of another stream or the end of its period")?;
+                if *may_be_late {
+                    write!(f, ", or sends a leg more than {MAX_PERIODS} periods late")?;
+                }
+                f.write_str(". Try another route or fewer octets, or move legs of other streams")
+            }
+        }
+    }
 }
 
-fn no_offset<E: Write>(err: &mut E, t: &[u32], links: &[u32], want: Wanted) {
-    say(
+fn no_offset<E: Write>(err: &mut E, t: &[u32], request: &Request<'_>, links: &[u32]) {
+    let want = request.want;
+    let period = want.period;
+    let why = NoOffset::of(t, links, want);
+    let links = Links(links);
+    explain(
         err,
-        b"no first offset below # ns fits on the route ",
-        &[want.period],
+        request.label,
+        format_args!("no first offset below {period} ns fits on the route {links}: {why}"),
     );
-    say_links(err, links);
-    text(err, b": ");
-    let time = times::along(t, want.octets, links);
-    if (want.deadline as u64) < time {
-        say(
-            err,
-            b"without waiting the frame takes # ns, and its deadline is # ns. Give a later deadline, fewer octets or another route\n",
-            &[short(time), want.deadline],
-        );
-        return;
-    }
-    let i = held_too_long(t, links, want.octets, want.period);
-    if i < links.len() {
-        too_long_a_hold(err, t, links[i], want);
-        return;
-    }
-    all_meet(err, t, links, want);
 }
 
 // ---- 20: the stream would break a limit or the shape
 
-// Whether one of the first n links of a route begins at a node.
-fn was_at(t: &[u32], links: &[u32], n: usize, node: u32) -> bool {
-    let mut j: usize = 0;
-    while j < n {
-        if records::link_at(t, route::word_at(links, j)).from == node {
-            return true;
-        }
-        j = j + 1;
-    }
-    false
+// What is wrong with a route: its i-th link is not there, or a link does not go on from the node that the route has reached, or comes back to a node.
+#[derive(Clone, Copy)]
+enum RouteFault {
+    NoLink(usize, u32),
+    Gap { link: u32, from: u32, reached: u32 },
+    Back { link: u32, to: u32 },
 }
 
-// The node that the route has reached before its i-th link, where that is not the first.
-fn node_before(t: &[u32], links: &[u32], i: usize) -> u32 {
-    if i == 0 {
-        return 0;
-    }
-    records::link_at(t, route::word_at(links, i - 1)).to
-}
-
-// Whether the i-th link begins where the route is then.
-fn goes_on(t: &[u32], links: &[u32], i: usize) -> bool {
-    if i == 0 {
-        return true;
-    }
-    records::link_at(t, route::word_at(links, i)).from == node_before(t, links, i)
-}
-
-fn is_good(t: &[u32], links: &[u32], i: usize) -> bool {
-    let link = route::word_at(links, i);
-    if header_word(t, table::LINKS_AT) <= link {
-        return false;
-    }
-    if !goes_on(t, links, i) {
-        return false;
-    }
-    let n = std::num::wrapping_add_usize(i, 1);
-    !was_at(t, links, n, records::link_at(t, link).to)
-}
-
-// The first link that is not there, does not go on or comes back, or how many there are.
-fn first_bad(t: &[u32], links: &[u32]) -> usize {
-    let mut i: usize = 0;
-    while i < links.len() {
-        if !is_good(t, links, i) {
-            return i;
-        }
-        i = i + 1;
-    }
-    i
-}
-
-fn no_link<E: Write>(err: &mut E, given: Given, links: u32, i: usize, link: u32) {
-    let way = given.way;
-    if given.kind == lines::SHORTEST {
-        say(
-            err,
-            b"no links lead from node # to node #: give nodes that links join\n",
-            &[way[0], way[1]],
-        );
-        return;
-    }
-    if given.kind == lines::BY_NODES {
-        say(
-            err,
-            b"there is no link from node # to node #\n",
-            &[
-                route::word_at(&way, i),
-                route::word_at(&way, std::num::wrapping_add_usize(i, 1)),
-            ],
-        );
-        return;
-    }
-    if links == 0 {
-        say(err, b"there is no link #: the plan has no links\n", &[link]);
-        return;
-    }
-    say(
-        err,
-        b"there is no link #: links are 0 to #\n",
-        &[link, links - 1],
-    );
-}
-
-fn bad_link<E: Write>(err: &mut E, t: &[u32], given: Given, route_links: &[u32], i: usize) {
-    let link = route::word_at(route_links, i);
+// The first fault of a route.
+fn route_fault(t: &[u32], links: &[u32]) -> Option<RouteFault> {
     let count = header_word(t, table::LINKS_AT);
-    if count <= link {
-        no_link(err, given, count, i, link);
-        return;
+    let mut reached = None;
+    for (i, link) in links.iter().enumerate() {
+        let link = *link;
+        if count <= link {
+            return Some(RouteFault::NoLink(i, link));
+        }
+        let Link { from, to, .. } = records::link_at(t, link);
+        if let Some(reached) = reached {
+            if from != reached {
+                return Some(RouteFault::Gap {
+                    link,
+                    from,
+                    reached,
+                });
+            }
+        }
+        let mut before = links.iter().take(i);
+        if from == to || before.any(|earlier| records::link_at(t, *earlier).from == to) {
+            return Some(RouteFault::Back { link, to });
+        }
+        reached = Some(to);
     }
-    let l = records::link_at(t, link);
-    if !goes_on(t, route_links, i) {
-        say(
+    None
+}
+
+fn no_link<E: Write>(err: &mut E, t: &[u32], request: &Request<'_>, i: usize, link: u32) {
+    let label = request.label;
+    match &request.way {
+        Way::Shortest(from, to) => explain(
             err,
-            b"link # begins at node #, but the route has reached node #\n",
-            &[link, l.from, node_before(t, route_links, i)],
-        );
-        return;
+            label,
+            format_args!("no links lead from node {from} to node {to}: give nodes that links join"),
+        ),
+        Way::Nodes(nodes) => {
+            let (from, to) = match nodes.get(i..) {
+                Some([from, to, ..]) => (*from, *to),
+                _ => (0, 0),
+            };
+            explain(
+                err,
+                label,
+                format_args!("there is no link from node {from} to node {to}"),
+            );
+        }
+        Way::Links(_) => match header_word(t, table::LINKS_AT).checked_sub(1) {
+            None => explain(
+                err,
+                label,
+                format_args!("there is no link {link}: the plan has no links"),
+            ),
+            Some(last) => explain(
+                err,
+                label,
+                format_args!("there is no link {link}: links are 0 to {last}"),
+            ),
+        },
     }
-    say(
+}
+
+fn bad_link<E: Write>(err: &mut E, t: &[u32], request: &Request<'_>, fault: RouteFault) {
+    match fault {
+        RouteFault::NoLink(i, link) => no_link(err, t, request, i, link),
+        RouteFault::Gap {
+            link,
+            from,
+            reached,
+        } => explain(
+            err,
+            request.label,
+            format_args!(
+                "link {link} begins at node {from}, but the route has reached node {reached}"
+            ),
+        ),
+        RouteFault::Back { link, to } => explain(
+            err,
+            request.label,
+            format_args!("link {link} leads to node {to}, where the route was before"),
+        ),
+    }
+}
+
+// A route without links.
+fn no_way<E: Write>(err: &mut E, request: &Request<'_>) {
+    let node = match &request.way {
+        Way::Links(_) => {
+            return explain(
+                err,
+                request.label,
+                format_args!("the route has no link, but a route has 1 to {MAX_ROUTE}"),
+            );
+        }
+        Way::Nodes(nodes) => nodes.first().copied().unwrap_or(0),
+        Way::Shortest(from, _) => *from,
+    };
+    explain(
         err,
-        b"link # leads to node #, where the route was before\n",
-        &[link, l.to],
+        request.label,
+        format_args!("the route begins and ends at node {node}, but a route leads to another node"),
     );
 }
 
-fn no_way<E: Write>(err: &mut E, given: Given) {
-    let way = given.way;
-    if given.kind == lines::BY_LINKS {
-        say(
+fn too_many<E: Write>(err: &mut E, request: &Request<'_>, count: u32) {
+    if let Way::Shortest(from, to) = &request.way {
+        return explain(
             err,
-            b"the route has no link, but a route has 1 to #\n",
-            &[MAX_ROUTE],
+            request.label,
+            format_args!(
+                "the shortest way from node {from} to node {to} has {count} links, but a route has at most {MAX_ROUTE}"
+            ),
         );
-        return;
     }
-    say(
+    explain(
         err,
-        b"the route begins and ends at node #, but a route leads to another node\n",
-        &[way[0]],
-    );
-}
-
-fn too_many<E: Write>(err: &mut E, given: Given, count: usize) {
-    if given.kind == lines::SHORTEST {
-        let way = given.way;
-        say(
-            err,
-            b"the shortest way from node # to node # has # links, but a route has at most #\n",
-            &[way[0], way[1], small(count), MAX_ROUTE],
-        );
-        return;
-    }
-    say(
-        err,
-        b"the route has # links, but a route has at most #\n",
-        &[small(count), MAX_ROUTE],
+        request.label,
+        format_args!("the route has {count} links, but a route has at most {MAX_ROUTE}"),
     );
 }
 
 // What is left where the stream itself is right: the plan has no place for it.
-fn no_place<E: Write>(err: &mut E, t: &[u32], count: usize) {
+fn no_place<E: Write>(err: &mut E, label: &[u8], t: &[u32], count: u32) {
     let streams = header_word(t, table::STREAMS_AT);
-    if table::MAX_STREAMS <= table::wide(streams) {
-        say(
+    if table::MAX_STREAMS <= streams as usize {
+        return explain(
             err,
-            b"the plan has # streams, and no plan has more\n",
-            &[streams],
+            label,
+            format_args!("the plan has {streams} streams, and no plan has more"),
         );
-        return;
     }
-    say(
+    let legs = header_word(t, table::LEGS_AT);
+    let most = table::MAX_LEGS;
+    explain(
         err,
-        b"the plan has # legs, and with # more it would have more than #\n",
-        &[
-            header_word(t, table::LEGS_AT),
-            small(count),
-            table::MAX_LEGS as u32,
-        ],
+        label,
+        format_args!(
+            "the plan has {legs} legs, and with {count} more it would have more than {most}"
+        ),
     );
 }
 
-fn bad_route<E: Write>(err: &mut E, given: Given, t: &[u32], links: &[u32]) {
-    let whole = route::of(t, given);
-    let count = whole.count;
+// How many links a route is said to have: one along no nodes too many.
+fn count_of(request: &Request<'_>, links: &[u32]) -> u32 {
+    match &request.way {
+        Way::Nodes(nodes) if nodes.is_empty() => u32::MAX,
+        _ => small(links.len()),
+    }
+}
+
+fn bad_route<E: Write>(err: &mut E, t: &[u32], request: &Request<'_>, links: &[u32]) {
+    let count = count_of(request, links);
     if count == 0 {
-        no_way(err, given);
-        return;
+        return no_way(err, request);
     }
-    if table::wide(MAX_ROUTE) < count {
-        too_many(err, given, count);
-        return;
+    if MAX_ROUTE < count {
+        return too_many(err, request, count);
     }
-    let i = first_bad(t, links);
-    if i < links.len() {
-        bad_link(err, t, given, links, i);
-        return;
+    match route_fault(t, links) {
+        Some(fault) => bad_link(err, t, request, fault),
+        None => no_place(err, request.label, t, count),
     }
-    no_place(err, t, count);
 }
 
-fn is_between(w: u32, least: u32, most: u32) -> bool {
-    if w < least {
-        return false;
+fn cannot_add<E: Write>(err: &mut E, t: &[u32], request: &Request<'_>, links: &[u32]) {
+    let label = request.label;
+    let Wanted {
+        period,
+        deadline,
+        octets,
+    } = request.want;
+    if !(1..=MAX_PERIOD).contains(&period) {
+        return explain(
+            err,
+            label,
+            format_args!("the period is {period} ns, but periods are 1 to {MAX_PERIOD} ns"),
+        );
     }
-    w <= most
+    let latest = records::latest_deadline(period);
+    if !(1..=latest).contains(&deadline) {
+        return explain(
+            err,
+            label,
+            format_args!("the deadline is {deadline} ns, but the period allows 1 to {latest} ns"),
+        );
+    }
+    if !(MIN_OCTETS..=MAX_OCTETS).contains(&octets) {
+        return explain(
+            err,
+            label,
+            format_args!(
+                "the frame has {octets} octets, but frames have {MIN_OCTETS} to {MAX_OCTETS}"
+            ),
+        );
+    }
+    bad_route(err, t, request, links);
 }
 
-fn cannot_add<E: Write>(err: &mut E, given: Given, t: &[u32], links: &[u32]) {
-    let want = given.want;
-    if !is_between(want.period, 1, MAX_PERIOD) {
-        say(
-            err,
-            b"the period is # ns, but periods are 1 to # ns\n",
-            &[want.period, MAX_PERIOD],
-        );
-        return;
-    }
-    let latest = records::latest_deadline(want.period);
-    if !is_between(want.deadline, 1, latest) {
-        say(
-            err,
-            b"the deadline is # ns, but the period allows 1 to # ns\n",
-            &[want.deadline, latest],
-        );
-        return;
-    }
-    if !is_between(want.octets, MIN_OCTETS, MAX_OCTETS) {
-        say(
-            err,
-            b"the frame has # octets, but frames have # to #\n",
-            &[want.octets, MIN_OCTETS, MAX_OCTETS],
-        );
-        return;
-    }
-    bad_route(err, given, t, links);
-}
-
-// Internal: why a stream is refused with a number.
+/// Why a stream is refused for a cause.
 pub(crate) fn refused<E: Write>(
     err: &mut E,
-    label: &[u8],
-    given: Given,
     t: &[u32],
+    request: &Request<'_>,
     links: &[u32],
-    number: u32,
+    cause: Cause,
 ) {
-    if number == CANNOT_RISE {
-        cannot_rise(err, label);
-        return;
+    match cause {
+        Cause::CannotRise => cannot_rise(err, request.label),
+        Cause::NoOffset => no_offset(err, t, request, links),
+        _ => cannot_add(err, t, request, links),
     }
-    begin(err, label);
-    if number == NO_OFFSET {
-        no_offset(err, t, links, given.want);
-        return;
-    }
-    cannot_add(err, given, t, links);
 }

@@ -1,143 +1,68 @@
-// The answer of the solver, printed.
+//! The answer of the solver, printed.
 use crate::{out, sentences};
-use solver::Outcome;
 use std::io;
 use std::io::Write;
-use wishes::reading::Counts;
-use wishes::sums::Sum;
-use wishes::{bounds, names, sums};
+use wishes::reading::{Constraint, Wishes};
 
-fn time<O: Write>(
-    out: &mut O,
-    network: &[u8],
-    at: &[usize],
-    event: usize,
-    time: i64,
-) -> io::Result<()> {
-    out::text(out, b"time ")?;
-    out::text(out, names::name(network, at, event))?;
-    out::text(out, b" ")?;
-    out::signed(out, time)?;
-    out::text(out, b"\n")
+fn times<O: Write>(out: &mut O, wishes: &Wishes, times: &[i64]) -> io::Result<()> {
+    let count = wishes.events.len();
+    writeln!(out, "times {count}")?;
+    for (name, time) in wishes.events.iter().zip(times) {
+        out.write_all(b"time ")?;
+        out.write_all(name)?;
+        writeln!(out, " {time}")?;
+    }
+    writeln!(out, "status 0")
 }
 
-fn times<O: Write>(out: &mut O, network: &[u8], at: &[usize], times: &[i64]) -> io::Result<()> {
-    let mut event: usize = 0;
-    while event < times.len() {
-        time(out, network, at, event, times[event])?;
-        event = event + 1;
-    }
-    Ok(())
+// A sum and one more constraint. No chain that is printed has a sum past 64 bits.
+fn plus(sum: i64, c: &Constraint) -> i64 {
+    sum.saturating_add(c.most)
 }
 
-fn first_times<O: Write>(
-    out: &mut O,
-    network: &[u8],
-    at: &[usize],
-    events: usize,
-    of: &[i64],
-) -> io::Result<()> {
-    if of.len() < events {
-        return Ok(());
-    }
-    out::text(out, b"times ")?;
-    out::number(out, events as u64)?;
-    out::text(out, b"\n")?;
-    times(out, network, at, &of[0..events])?;
-    out::text(out, b"status 0\n")
+// The constraint that a number of a chain names.
+pub(crate) fn named<'w, 'a>(wishes: &'w Wishes<'a>, k: u32) -> Option<&'w Constraint<'a>> {
+    wishes.constraints.get(k as usize)
 }
 
 // The sum of the constraints of a chain.
-pub(crate) fn sum_of(constraints: &[i64], chain: &[u32]) -> Sum {
-    let mut sum = sums::none();
-    let mut i: usize = 0;
-    while i < chain.len() {
-        sum = sums::plus(sum, bounds::most(constraints, bounds::chained(chain, i)));
-        i = i + 1;
+pub(crate) fn sum_of(wishes: &Wishes, chain: &[u32]) -> i64 {
+    let mut sum = 0;
+    for k in chain {
+        if let Some(c) = named(wishes, *k) {
+            sum = plus(sum, c);
+        }
     }
     sum
 }
 
-fn link<O: Write>(
-    out: &mut O,
-    network: &[u8],
-    at: &[usize],
-    constraints: &[i64],
-    in_lines: &[u32],
-    k: usize,
-    sum: Sum,
-) -> io::Result<()> {
-    out::constraint(out, network, at, constraints, in_lines, k)?;
-    out::text(out, b", sum ")?;
-    out::sum(out, sum)?;
-    out::text(out, b"\n")
-}
-
-fn links<O: Write>(
-    out: &mut O,
-    network: &[u8],
-    at: &[usize],
-    constraints: &[i64],
-    in_lines: &[u32],
-    chain: &[u32],
-) -> io::Result<()> {
-    let mut sum = sums::none();
-    let mut i: usize = 0;
-    while i < chain.len() {
-        let k = bounds::chained(chain, i);
-        sum = sums::plus(sum, bounds::most(constraints, k));
-        link(out, network, at, constraints, in_lines, k, sum)?;
-        i = i + 1;
+fn links<O: Write>(out: &mut O, wishes: &Wishes, chain: &[u32]) -> io::Result<()> {
+    let count = chain.len();
+    let whole = sum_of(wishes, chain);
+    writeln!(out, "chain {count} sum {whole}")?;
+    let mut sum = 0;
+    for k in chain {
+        if let Some(c) = named(wishes, *k) {
+            sum = plus(sum, c);
+            out::constraint(out, wishes, c)?;
+            writeln!(out, ", sum {sum}")?;
+        }
     }
-    Ok(())
-}
-
-fn first_links<O: Write>(
-    out: &mut O,
-    network: &[u8],
-    at: &[usize],
-    constraints: &[i64],
-    in_lines: &[u32],
-    of: &[u32],
-    n: usize,
-) -> io::Result<()> {
-    if of.len() < n {
-        return Ok(());
-    }
-    let chain = &of[0..n];
-    out::text(out, b"chain ")?;
-    out::number(out, n as u64)?;
-    out::text(out, b" sum ")?;
-    out::sum(out, sum_of(constraints, chain))?;
-    out::text(out, b"\n")?;
-    links(out, network, at, constraints, in_lines, chain)?;
-    out::text(out, b"status 1\n")
+    writeln!(out, "status 1")
 }
 
 // Solves a network, and prints its times or a chain.
 pub(crate) fn solved<O: Write, E: Write>(
     out: &mut O,
     err: &mut E,
-    network: &[u8],
-    got: Counts,
-    at: &[usize],
-    constraints: &[i64],
-    in_lines: &[u32],
+    wishes: &Wishes,
+    words: &[i64],
 ) -> io::Result<()> {
     let mut chain = [0u32; network::MAX_EVENTS];
-    let solved = solver::solve(got.events, constraints, &mut chain);
-    let outcome = solved.outcome;
-    let times = solved.times;
-    match outcome {
-        Outcome::Times => {
-            first_times(out, network, at, got.events, &times)?;
-        }
-        Outcome::Chain(n) => {
-            first_links(out, network, at, constraints, in_lines, &chain, n)?;
-        }
-        Outcome::Refused(number, k) => {
-            sentences::refused(out, err, network, got, at, in_lines, number, k)?;
-        }
+    let solved = solver::solve(wishes.events.len(), words, &mut chain);
+    match solved.outcome {
+        Ok(None) => times(out, wishes, &solved.times),
+        Ok(Some(length)) => links(out, wishes, chain.get(..length).unwrap_or(&chain)),
+        Err(refusal) => sentences::refused(out, err, wishes, refusal),
     }
-    Ok(())
 }

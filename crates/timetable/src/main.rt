@@ -3,71 +3,39 @@
 // Where the input cannot be read it writes nothing. It takes no argument: so it rests on the contracts of read and write alone.
 #![tactic(auto)]
 
-use checker::{Grant, SliceAnswer};
-use input::Given;
+use checker::SliceAnswer;
+use files::Returned;
 use reasons::records;
 use show::answers;
 use std::io;
 use std::io::Write;
 
 // More than any table has places.
-const ENOUGH: u32 = 4294967295;
-
-// A whole check has no other verdict: the budget is more than the places, and the cursor is the start's.
-fn verdict<O: Write>(out: &mut O, answer: SliceAnswer) -> io::Result<()> {
-    match answer {
-        SliceAnswer::Violated(at, steps, rule) => {
-            answers::first_violated(out, at, rule)?;
-        }
-        SliceAnswer::NothingViolated(end, steps) => {
-            answers::accepted(out)?;
-        }
-        SliceAnswer::Paused(at, steps) => {}
-        SliceAnswer::Refused(number, at, given) => {}
-    }
-    Ok(())
-}
+const ENOUGH: u32 = u32::MAX;
 
 fn checked<O: Write, E: Write>(out: &mut O, err: &mut E, t: &[u32]) -> io::Result<()> {
-    let started = checker::start(t);
-    match started {
-        Grant::Refused(number, at, given) => {
-            records::why(err, t, number, at);
-            answers::plan_refused(out, number, at)?;
+    let cursor = match checker::start(t) {
+        Ok(cursor) => cursor,
+        Err(Returned { refusal, .. }) => {
+            records::why(err, t, refusal);
+            return answers::plan_refused(out, refusal);
         }
-        Grant::Granted(cursor) => {
-            answers::counts(out, records::leg_count(t))?;
-            verdict(out, checker::slice(t, cursor, ENOUGH))?;
-        }
+    };
+    answers::counts(out, records::leg_count(t))?;
+    match checker::slice(t, cursor, ENOUGH) {
+        SliceAnswer::Violated(at, _, rule) => answers::first_violated(out, at, rule),
+        SliceAnswer::NothingViolated(_, _) => answers::accepted(out),
+        // A whole check has no other verdict: the budget is more than the places, and the cursor is the start's.
+        SliceAnswer::Paused(_, _) | SliceAnswer::Refused(_, _) => Ok(()),
     }
-    Ok(())
-}
-
-fn words_checked<O: Write, E: Write>(
-    out: &mut O,
-    err: &mut E,
-    words: &[u32],
-    n: usize,
-) -> io::Result<()> {
-    if words.len() < n {
-        return Ok(());
-    }
-    checked(out, err, &words[0..n])
 }
 
 fn run<R: Input, O: Write, E: Write>(rt: &R, out: &mut O, err: &mut E) -> io::Result<()> {
-    let mut words = [0u32; table::MAX_TABLE_WORDS];
-    let given = input::given_plan(rt, err, &mut words);
-    match given {
-        Given::Words(n) => {
-            words_checked(out, err, &words, n)?;
-        }
-        Given::Refused(number, at) => {
-            answers::plan_refused(out, number, at)?;
-        }
-        Given::Unread => {}
+    let mut room = [0u32; table::MAX_TABLE_WORDS];
+    match input::given_plan(rt, err, &mut room)? {
+        Ok(t) => checked(out, err, t),
+        Err(refusal) => answers::plan_refused(out, refusal),
     }
-    Ok(())
 }
 
 fn main(rt: HostRuntime) {

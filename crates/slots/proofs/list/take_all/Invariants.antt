@@ -1,9 +1,0 @@
--- `slots::list::take_all` is safe and ends: each line begins inside the text, or past its end. Assumes nothing.
-use Rattle.std.proofs.Common.{◌≡◌, ◌+◌, ◌-◌, ◌≤◌, length}
-use Rattle.slots.proofs.list.take_all.Given as goal
-
-abbrev pub invariant-loop-start : goal.invariant-loop-start
-invariant-loop-start g l = (l.start ≤ length l.text + 1) × (length l.words ≡ length l.initial.words) × (length l.next ≡ length l.initial.next)
-
-abbrev pub decreases-loop-start : goal.decreases-loop-start
-decreases-loop-start g l = length l.text + 1 - l.start
