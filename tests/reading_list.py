@@ -34,9 +34,9 @@ DEMANDS = [("demands", demand, demand) for demand in ("DemandOne", "DemandTwo", 
 WORDS = {"→", "×", "⊥", ":", "=", "Type", "Unit", "record", "data", "where", "pub", "abbrev", "unfoldable"}
 RESULT = "result"
 MOMENTS = {".now", ".old", ".new"}
-CONSTRUCTORS = {"zero", "suc", "[]", "∷", "true", "false"}
+CONSTRUCTORS = {"zero", "suc", "[]", "∷", "true", "false", "Some", "None", "Ok", "Err"}
 KIT = ("std",)
-NUMBERS = {"u8", "u16", "u32", "u64", "usize", "i64", "bool"}
+NUMBERS = {"u8", "u16", "u32", "u64", "usize", "i64", "bool", "Option", "Result"}
 
 NAME = r"[^\s(){}.;,]+"
 TOKEN = re.compile(rf"(?<![^\s()])\.{NAME}|{NAME}(?:\.{NAME})*|[(){{}}.;,]")
@@ -197,24 +197,26 @@ class Source:
             raise Unknown(f"no {self.path}")
         self.lines = content(self.path).splitlines()
         self.whole = sum(1 for line in self.lines if counts_as_line(line))
-        self.types, self.functions, self.imported = {}, {}, {}
+        self.types, self.functions, self.imported, self.unread = {}, {}, {}, {}
         for n, line in enumerate(self.lines):
-            declared = re.match(r"pub (struct|enum) (\w+) \{$", line)
-            function = re.match(r"\s*pub (?:(?:const|unsafe|extern \"C\") )*fn (\w+)", line)
+            declared = re.match(r"pub (struct|enum) (\w+)(?:<.*>)? \{$", line)
+            function = re.match(r"pub (?:(?:const|unsafe|extern \"C\") )*fn (\w+)", line)
             if declared:
                 end = self.lines.index("}", n)
                 body = [line.strip() for line in self.lines[n + 1:end] if not line.strip().startswith("//")]
-                member = r"(\w+)(?:\(([\w:, ]*)\))?," if declared.group(1) == "enum" else r"(?:pub )?(\w+): (\[\w+; [\w:]+\]|[\w:]+),"
+                member = r"(\w+)(?:\(([\w:, ]*)\)| = \d+)?," if declared.group(1) == "enum" else r"(?:pub )?(\w+): (\[\w+; [\w:]+\]|[\w:]+(?:<[\w:, <>]+>)?),"
                 if not all(re.fullmatch(member, line) for line in body):
-                    raise Unknown(f"{self.path}:{n + 1}: a form that is not known: {line}")
+                    # A type of inner functions, with lifetimes or ghost fields, say: an error only where a reader comes to it.
+                    self.unread[declared.group(2)] = n + 1
+                    continue
                 parts = [re.fullmatch(member, line).groups() for line in body]
                 members, named = [name for name, _ in parts], re.findall(r"[\w:]+", re.sub(r"; [\w:]+\]", "", " ".join(kind or "" for _, kind in parts)))
                 self.types[declared.group(2)] = (self.above(n) + list(range(n, end + 1)), members, named)
-            elif re.match(r"pub (struct|enum|type|union) ", line):
+            elif re.match(r"pub (enum|type|union) ", line):
                 raise Unknown(f"{self.path}:{n + 1}: a form that is not known: {line}")
             elif function:
                 self.functions[function.group(1)] = n
-            elif re.match(r"\s*pub\b(?!\().*\bfn\b", line):
+            elif re.match(r"pub\b(?!\().*\bfn\b", line):
                 raise Unknown(f"{self.path}:{n + 1}: a form that is not known: {line}")
         for first, within, names in re.findall(r"^use (\w+)((?:::\w+)*)::([A-Z]\w*|\{[^{}]*\});", "\n".join(self.lines), re.M):
             for name in re.findall(r"[A-Z]\w*", names):
@@ -228,7 +230,7 @@ class Source:
         return list(range(start, n))
 
     def comment(self, name):
-        said = [self.lines[n].strip()[2:].strip() for n in self.above(self.functions[name]) if self.lines[n].strip().startswith("//")]
+        said = [self.lines[n].strip().lstrip("/").strip() for n in self.above(self.functions[name]) if self.lines[n].strip().startswith("//")]
         return " ".join(said)
 
     def head(self, name):
@@ -299,7 +301,7 @@ class Reading:
         return self.source(crate, module).types[name][1] if kind == "type" else []
 
     def public_calls(self):
-        """The functions of the libraries that others may call and that are not marked as internal."""
+        """The functions of the libraries that others may call and that are not marked as internal. A method of a type is none."""
         found = []
         for crate in self.libraries:
             for path in sorted(glob.glob(os.path.join(ROOT, f"crates/{crate}/src/**/*.rt"), recursive=True)):
@@ -503,6 +505,8 @@ class Reading:
 
     def follow_type(self, crate, module, name):
         source = self.source(crate, module)
+        if name in source.unread:
+            raise Unknown(f"{source.path}:{source.unread[name]}: a form that is not known: {name}")
         if name not in source.types:
             raise Unknown(f"no {name} in {source.path}")
         lines, _, named = source.types[name]
