@@ -149,8 +149,8 @@
  * and looks how much was written over. The most was three quarters of these numbers.
  *
  * Linking. './conepalhui library' proves the calls and builds the archive .built/libconepalhui.a. It is for x86-64 and
- * the System V calling convention (Linux), in programs and in shared libraries, and needs memset and memmove alone of
- * other libraries:
+ * the System V calling convention (Linux), in programs and in shared libraries, and needs memset alone of other
+ * libraries:
  *
  *     cc -Iinclude program.c .built/libconepalhui.a
  *
