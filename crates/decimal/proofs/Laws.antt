@@ -2,14 +2,12 @@
 use Prim.Native.Nat.{ℕ, zero, suc, ◌+◌, ◌*◌, ◌-◌, ◌≤◌, ◌<◌}
 use mathlib.Core.Path.{◌≡◌, refl, ◌∙◌, sym}
 use mathlib.Core.List.{List, [], ◌∷◌}
-use mathlib.Core.Logic.{⊎_elim}
 use lib.ListN.{length, drop, get_or}
 use lib.Seq.{drop-cons}
 use native.Mathlib.Numerals.{add-one}
 use native.Mathlib.Omega.{arith}
-use Rattle.basics.proofs.Splits.{lt_or_ge}
 use Rattle.numbers.specs.Number.{max_word}
-use Rattle.decimal.specs.Decimal.{zero_digit, nine_digit, IsDigit, worth_after, worth_of, AllDigits, Typed}
+use Rattle.decimal.specs.Decimal.{zero_digit, IsDigit, worth_after, worth_of, Typed}
 
 -- A digit more is worth no less.
 pub worth_grows : (s : List ℕ) (v : ℕ) → v ≤ worth_after v s
@@ -58,25 +56,3 @@ module _ {s : List ℕ} {v i : ℕ} (f : Turn s v i) where
 
     pub turn_more : v * 10 + (d - zero_digit) ≤ max_word → Turn s (v * 10 + (d - zero_digit)) (i + 1)
     turn_more h = record { typed = f.typed; passed = omega arith; word = h; whole = turn_worth }
-
--- The bytes below i are digits.
-pub record DigitsTo (s : List ℕ) (i : ℕ) : Type 0 where
-  pub passed : i ≤ length s
-  pub digits : (j : ℕ) → j < i → IsDigit (get_or s j 0)
-
-pub digits_none : (s : List ℕ) → DigitsTo s 0
-digits_none s = record { passed = omega arith; digits = λ j h. absurd (omega arith) }
-
-module _ {s : List ℕ} {i : ℕ} (f : DigitsTo s i) where
-  pub digits_more : {d : ℕ} → i < length s → d ≡ get_or s i 0 → zero_digit ≤ d → d ≤ nine_digit → DigitsTo s (i + 1)
-  digits_more {d} more is low high = record {
-    passed = omega arith;
-    digits = λ j h.
-        ⊎_elim
-        (λ (k : j < i). f.digits j k)
-        (λ (k : i ≤ j). let e : j ≡ i = omega arith in rw e (omega arith, omega arith))
-        (lt_or_ge j i);
-  }
-
-  pub digits_all : length s ≤ i → AllDigits s
-  digits_all h = record { digit = λ j k. f.digits j (omega arith) }

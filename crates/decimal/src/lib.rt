@@ -16,12 +16,7 @@ pub enum DecimalError {
 fn first_other(text: &[u8]) -> Option<usize>
     ensures { OtherTold text.now result }
 {
-    for (i, byte) in text.iter().enumerate() {
-        if !byte.is_ascii_digit() {
-            return Some(i);
-        }
-    }
-    None
+    text.iter().position(|byte| !byte.is_ascii_digit())
 }
 
 // What digits are worth.
