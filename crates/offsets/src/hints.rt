@@ -7,6 +7,7 @@ use crate::{Condition, StoredCondition};
 const WORD_VALUES: u64 = 4294967296;
 
 // Where a condition stands in the order: by its modulus, and then by the first offset that it forbids.
+// Kept: `widened` (specs/Conditions.antt) builds a Condition as a record, also one that is not sound, so Sound can be no ghost field of it.
 fn key(q: Condition) -> u64
     requires { Sound q }
 {
@@ -20,60 +21,63 @@ fn key(q: Condition) -> u64
     m * WORD_VALUES + (m - q.after + 1 + (m - q.shift)) % m
 }
 
-// The key of the condition that a hint names; 0 where it names none.
-fn key_of(conditions: &[StoredCondition], hint: u32) -> u64
-    requires { AllSound conditions.now }
-{
-    let Some(q) = conditions.get(hint as usize) else {
-        return 0;
-    };
-    key(q.widened())
+// The conditions that hints name, each of them sound.
+// Kept: nobody compares or prints it, and each further derive is a function more to prove.
+#[derive(Clone, Copy)]
+struct Named<'a> {
+    conditions: &'a [StoredCondition],
+    ghost all_sound: { AllSound conditions.now },
 }
 
-// Where among hints in their order one with this key belongs: after all that are not above it.
-fn place(conditions: &[StoredCondition], order: &[u32], k: u64) -> usize
-    requires { AllSound conditions.now }
-    ensures { result ≤ length order.now }
-{
-    order.partition_point(|hint| key_of(conditions, *hint) <= k)
-}
-
-// Puts a hint at a place among the first n, those from there on one further.
-fn put(order: &mut [u32], n: usize, at: usize, hint: u32)
-    requires at_le_n { at ≤ n }
-    requires n_in_bounds { n < length order.old }
-    ensures { length order.new ≡ length order.old }
-{
-    order.copy_within(at..n, at + 1);
-    order[at] = hint;
-}
-
-// Puts the hint of a condition where it belongs among the first n. A condition that forbids nothing needs none, and where there is no room it has none.
-fn noted(conditions: &[StoredCondition], order: &mut [u32], n: usize, hint: u32) -> usize
-    requires all_sound { AllSound conditions.now }
-    requires hint_in_bounds { hint < length conditions.now }
-    ensures { (result ≤ n + 1) × (length order.new ≡ length order.old) }
-{
-    if order.len() <= n {
-        return n;
+impl<'a> Named<'a> {
+    // The key of the condition that a hint names; 0 where it names none.
+    fn key_of(&self, hint: u32) -> u64 {
+        let Some(q) = self.conditions.get(hint as usize) else {
+            return 0;
+        };
+        key(Condition::from(*q))
     }
-    let q = conditions[hint as usize].widened();
-    if q.before + q.after == 0 {
-        return n;
+
+    // Where among hints in their order one with this key belongs: after all that are not above it.
+    fn place(&self, order: &[u32], k: u64) -> usize
+        ensures { result ≤ length order.now }
+    {
+        order.partition_point(|hint| self.key_of(*hint) <= k)
     }
-    let at = place(conditions, &order[..n], key(q));
-    put(order, n, at, hint);
-    n + 1
+
+    // Puts the hint of a condition where it belongs among the first n. A condition that forbids nothing needs none, and where there is no room it has none.
+    // Kept: the library allocates nothing, so the hints lie in the first n places of an array of fixed size.
+    fn noted(&self, order: &mut [u32], n: usize, hint: u32) -> usize
+        requires { hint < length self.now.conditions.now }
+        ensures { (result ≤ n + 1) × (length order.new ≡ length order.old) }
+    {
+        if order.len() <= n {
+            return n;
+        }
+        let q = Condition::from(self.conditions[hint as usize]);
+        if q.before + q.after == 0 {
+            return n;
+        }
+        let at = self.place(&order[..n], key(q));
+        order[n] = hint;
+        for i in at..n {
+            order.swap(i, n);
+        }
+        n + 1
+    }
 }
 
 /// Internal: the numbers of the conditions that forbid anything, in the order in which the search should look at them. Tells how many.
+// Kept: a public call that takes plain slices may not ask more of its callers; the library allocates nothing, so the hints lie in an array of fixed size.
 pub fn order(conditions: &[StoredCondition], order: &mut [u32]) -> usize
     requires { AllSound conditions.now }
     ensures { (result ≤ length conditions.now) × (length order.new ≡ length order.old) }
 {
+    let named = Named { conditions };
     let mut n: usize = 0;
+    // Kept: a hint is the number of a condition in a u32, which `enumerate` would still have to be cut to.
     for i in 0..conditions.len().min(u32::MAX as usize) {
-        n = noted(conditions, order, n, i as u32);
+        n = named.noted(order, n, i as u32);
     }
     n
 }

@@ -21,6 +21,7 @@ pub struct Condition {
 }
 
 /// A condition as a list keeps it.
+// Kept: beside Condition, since the library's memory is fixed and words of 32 bits take half of it, while the sums that are computed need 64.
 #[derive(Clone, Copy, Debug, PartialEq, Eq)]
 pub struct StoredCondition {
     pub modulus: u32,
@@ -37,21 +38,22 @@ pub const FREE: StoredCondition = StoredCondition {
     after: 0,
 };
 
-impl StoredCondition {
-    /// The condition to compute with.
-    pub(crate) fn widened(self) -> Condition
-        ensures { result ≡ widened self }
-    {
+/// The condition to compute with.
+impl From<StoredCondition> for Condition {
+    ghost from_gives = { λ q r. r ≡ widened q };
+
+    fn from(q: StoredCondition) -> Condition {
         Condition {
-            modulus: self.modulus as u64,
-            shift: self.shift as u64,
-            before: self.before as u64,
-            after: self.after as u64,
+            modulus: q.modulus as u64,
+            shift: q.shift as u64,
+            before: q.before as u64,
+            after: q.after as u64,
         }
     }
 }
 
 /// Internal: the condition that a leg which starts so long after the first offset ends within its period.
+// Kept: Starts, EndsWithin and ClearOf (specs/Conditions.antt) take these three numbers, and theorems of admission and margins name them so.
 pub fn window_condition(after: u64, period: u64, hold: u64) -> Condition
     requires { Starts after period hold }
     ensures { Says (EndsWithin after period hold) result }
@@ -65,6 +67,7 @@ pub fn window_condition(after: u64, period: u64, hold: u64) -> Condition
 }
 
 /// Internal: the condition that such a leg never meets another on its link, their periods having the greatest common divisor g.
+// Kept: Starts and ClearOf take the three numbers, and `slot_from` (specs/Conditions.antt) builds a Slot as a record, so Repeats is no ghost field of it.
 pub fn pair_condition(after: u64, period: u64, hold: u64, other: Slot, g: u64) -> Condition
     requires starts { Starts after period hold }
     requires repeats { Repeats other }
@@ -93,6 +96,7 @@ pub fn free_condition() -> Condition
 }
 
 /// Internal: keeps a condition as condition i of a list.
+// Kept: `widened` builds a Condition as a record, also one that is not sound, so Sound is no ghost field of it; with Sound no cast can fail, so no TryFrom.
 pub fn keep(conditions: &mut [StoredCondition], i: usize, q: Condition)
     requires i_in_bounds { i < length conditions.old }
     requires sound { Sound q }

@@ -1,7 +1,7 @@
--- `offsets::search::swept` meets its contract: by the conditions before the present one, and then by it. Assumes nothing.
+-- `offsets::search::Search::swept` meets its contract: by the conditions before the present one, and then by it. Assumes nothing.
 use Rattle.std.proofs.Common.{arith}
 use Rattle.offsets.proofs.Stepping.{sweeping_on, sweeping_all}
-use Rattle.offsets.proofs.search.swept.Goals as goal
+use Rattle.offsets.proofs.search.Search.swept.Goals as goal
 
 pub loop-q-preserved : goal.loop-q-preserved
 loop-q-preserved c = search sweeping_on

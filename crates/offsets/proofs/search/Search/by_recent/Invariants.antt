@@ -1,0 +1,6 @@
+-- `offsets::search::Search::by_recent` meets its contract: one step after the other, whatever the hints say. Assumes nothing.
+use Rattle.offsets.proofs.Stepping.{Passing}
+use Rattle.offsets.proofs.search.Search.by_recent.Given as goal
+
+abbrev pub invariant-loop-hint : goal.invariant-loop-hint
+invariant-loop-hint l = Passing l.self.conditions.now l.self.limit l.initial.x l.x

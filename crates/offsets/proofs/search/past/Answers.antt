@@ -1,8 +1,0 @@
--- `offsets::search::past` meets its contract: too early, too late, or allowed. Assumes nothing.
-use Rattle.std.proofs.Common.{rules}
-use Rattle.offsets.proofs.Waiting.{waits_late}
-use Rattle.offsets.proofs.search.past.Goals.{After-reduced-r}
-use Rattle.offsets.proofs.search.past.Goals as goal
-
-pub moved-requires-then-m-r-clause-waits : goal.moved-requires-then-m-r-clause-waits
-moved-requires-then-m-r-clause-waits c = waits_late _ _ _ c.reduced-r.ensures c.requires.sound (search rules)
