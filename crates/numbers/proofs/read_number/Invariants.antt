@@ -1,12 +1,8 @@
 -- `numbers::read_number` meets its contract: after each byte `Passed` holds, and each way out of the loop is one of its laws.
 -- Assumes nothing.
 use Rattle.std.proofs.Common.{◌-◌}
-use Rattle.numbers.specs.Number.{max_go_on}
 use Rattle.numbers.proofs.Passing.{Passed}
 use Rattle.numbers.proofs.read_number.Given as goal
 
 abbrev pub invariant-loop-next : goal.invariant-loop-next
-invariant-loop-next l = Passed l.bytes l.at l.next l.before l.weight l.value
-
-abbrev pub decreases-loop-next : goal.decreases-loop-next
-decreases-loop-next l = max_go_on - l.before
+invariant-loop-next l = Passed l.bytes l.at l.next (l.next - l.at) l.weight l.value
