@@ -62,6 +62,7 @@ pub fn write_plan(table: &[u32], bytes: &mut [u8]) -> Result<usize, Refusal>
 pub fn read_cursor(bytes: &[u8]) -> Result<Cursor, Refusal>
     ensures { ReadsCursor bytes.now result }
 {
+    // Kept: the library allocates nothing, so the three numbers lie in an array of their own.
     let mut words = [0u32; CURSOR_NUMBERS];
     let end = numbers::series::take_words(bytes, 0, &mut words)?;
     numbers::end_of(bytes, end)?;

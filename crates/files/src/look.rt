@@ -12,6 +12,7 @@ use table::Edition;
 pub fn plan_size(e: Edition, bytes: &[u8]) -> Result<usize, Refusal>
     ensures { PlanTold e bytes.now result }
 {
+    // Kept: the library allocates nothing, and a refusal leaves the lent words as they were, so the header lies in an array of its own.
     let mut head = [0u32; table::HEAD_WORDS];
     let next = series::take_words(bytes, 0, &mut head)?;
     after_header(e, bytes, next, &head)

@@ -1,6 +1,6 @@
 -- Halving and subtraction keep the greatest common divisor: an odd number shares no power of two with any other, and what divides two numbers
 -- divides their difference. Assumes nothing.
-use Prim.Native.Nat.{ℕ, zero, suc, ◌+◌, ◌*◌, ◌/◌, ◌%◌, ◌^◌, ◌∣◌, ◌≤◌, ◌<◌, min}
+use Prim.Native.Nat.{ℕ, zero, suc, ◌+◌, ◌*◌, ◌/◌, ◌%◌, ◌^◌, ◌∣◌, ◌-◌, ◌≤◌, ◌<◌, min}
 use mathlib.Core.Path.{◌≡◌, refl, ◌∙◌, sym, ap, subst}
 use mathlib.Core.Logic.{◌⊎◌, inl, inr, ⊎_elim}
 use native.Mathlib.Nat.{dvd-add, dvd_trans, dvd-add_iff_right, dvd-mul_left, dvd-mul_left_of_dvd, dvd-mul_right_of_dvd, dvd_of_mod-eq-zero, mod-eq-zero_of_dvd, mul-dvd-mul_left, dvd_of_mul-dvd-mul_left, mul-one, mul-suc, mul_comm, mul_left_comm, pow-succ', div-one, div-div-eq-div-mul, mod-eq_of_lt, min-eq_left, min-eq_right, not-suc-le-zero, zero-lt-suc, le_of_suc-le-suc, mul-le-mul_left}
@@ -139,6 +139,14 @@ pub record Narrowed (a b x y : ℕ) : Type 0 where
   pub odd : Odd x
   pub other : Odd y
   pub same : (g : ℕ) → IsGcd x y g → IsGcd a b g
+
+-- The lesser by `min`, and the difference either way round.
+pub parted_by : {x y m d : ℕ} → m ≡ min x y → d ≡ (x - y) + (y - x) → PartedFrom x y (record { lesser = m; difference = d })
+parted_by {x} {y} least apart =
+    ⊎_elim
+    (λ (l : x < y). let le : x ≤ y = omega arith in let e = least ∙ min-eq_left le in inl (e, omega arith))
+    (λ (l : y ≤ x). let e = least ∙ min-eq_right l in inr (e, omega arith))
+    (lt_or_ge x y)
 
 pub narrowed_start : {a b : ℕ} → Odd a → Odd b → Narrowed a b a b
 narrowed_start o u = record { odd = o; other = u; same = λ g e. e }

@@ -32,15 +32,9 @@ pub(crate) fn halve(x: u64) -> Halved
 fn part(x: u64, y: u64) -> Parted
     ensures { PartedFrom x y result }
 {
-    if x < y {
-        return Parted {
-            lesser: x,
-            difference: y - x,
-        };
-    }
     Parted {
-        lesser: y,
-        difference: x - y,
+        lesser: x.min(y),
+        difference: x.abs_diff(y),
     }
 }
 
@@ -52,6 +46,7 @@ pub(crate) fn gcd_of_odd(a: u64, b: u64) -> u64
 {
     let mut x = a;
     let mut y = b;
+    // Kept: nothing is counted; the two numbers fall by unequal steps until they are one.
     while x != y {
         let parts = part(x, y);
         let next = halve(parts.difference);
