@@ -1,13 +1,13 @@
 -- Bytes counted as numbers up to their end, and what the count tells of a list file. A number has a byte at least, so no more numbers stand than bytes.
 -- Assumes nothing.
 use Prim.Native.Nat.{ℕ, ◌+◌, ◌-◌, ◌/◌, ◌%◌, ◌≤◌, ◌<◌}
-use mathlib.Core.Path.{◌≡◌, sym, ap}
+use mathlib.Core.Path.{◌≡◌, refl, sym, ap}
 use mathlib.Core.List.{List, [], ◌∷◌}
 use mathlib.Core.Logic.{inl, inr}
 use lib.ListN.{length, length-append}
 use native.Mathlib.Omega.{arith}
 use Rattle.numbers.specs.Number.{bytes_of, NoNumber}
-use Rattle.numbers.specs.Series.{file_of, Laid}
+use Rattle.numbers.specs.Series.{file_of, Laid, overlaid}
 use Rattle.numbers.specs.Steps.{Numbers, AllNumbers, Filled}
 use Rattle.numbers.specs.Calls.{NumberStands}
 use Rattle.numbers.proofs.OneNumber.{number_bytes_at_most}
@@ -15,8 +15,10 @@ use Rattle.numbers.proofs.Passing.{passed_none, passed_end}
 use Rattle.numbers.proofs.Rows.{numbers_none, numbers_more, file_cons, row_inside, row_whole}
 use Rattle.files.specs.Reading.{IsFile, Cut}
 use Rattle.files.proofs.Looking.{filled_table}
-use Rattle.gate_files.specs.ListFiles.{WholePairs, ListDue, TooLong}
+use Rattle.gate_files.specs.ListFiles.{WholePairs, ListDue, TooLong, ReadsList, WritesList}
 use Rattle.gate_files.specs.Steps.{Halted}
+use Rattle.std.specs.Prelude.{Ok, Err}
+use Rattle.basics.specs.declared.Refusal.{Refusal}
 use Rattle.basics.specs.declared.Cause.{Cause}
 use Rattle.basics.specs.declared.Cause.TheVariants as cause
 
@@ -81,5 +83,17 @@ module _ {s : List ℕ} {n : ℕ} (stand : Numbers s 0 n (length s)) where
     pub too_long_lem : {room : ℕ} → room < n → TooLong s room
     too_long_lem h = record { list = stand.ws; file = list_is; long = omega (arith, stand.count) }
 
-    pub list_laid : {b b' : List ℕ} → n ≤ length b → Filled s 0 n b b' → (ws : List ℕ) × IsFile WholePairs s ws × Laid b 0 ws n b'
-    list_laid h l = (stand.ws, list_is, filled_table stand.ws list_is (sym stand.count) h l)
+    -- Either way that is what reading promises: 15 where the list has no room, and else its words, laid into the buffer.
+    pub no_room_read : {b : List ℕ} {e : Refusal} → length b < n → e ≡ record { cause = cause.NoRoom; at = 0 } → ReadsList s b (Err e) b
+    no_room_read h is = rw is (inr (refl, refl, too_long_lem h), refl)
+
+    pub list_read : {b b' : List ℕ} → n ≤ length b → Filled s 0 n b b' → ReadsList s b (Ok n) b'
+    list_read h l = (stand.ws, list_is, filled_table stand.ws list_is (sym stand.count) h l)
+
+-- The same of writing an even number of words.
+module _ {ws b : List ℕ} {n : ℕ} (size : n ≡ length (file_of ws)) (even : length ws % 2 ≡ 0) where
+  pub no_room_written : {e : Refusal} → length b < n → e ≡ record { cause = cause.NoRoom; at = 0 } → WritesList ws b (Err e) b
+  no_room_written h is = rw is (inr (pairs_even even, (refl, refl, λ room. omega arith)), refl)
+
+  pub list_written : {b' : List ℕ} → n ≤ length b → b' ≡ overlaid b 0 (file_of ws) → WritesList ws b (Ok n) b'
+  list_written h is = (pairs_even even, record { count = size; room = omega arith; after = is })
