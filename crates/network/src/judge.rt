@@ -1,43 +1,42 @@
 //! Whether events and constraints are a network in range.
-ghost use Rattle.std.specs.Prelude.{◌≤◌, ◌<◌, ◌↔◌, IsTrue, nat_abs, length};
+ghost use Rattle.std.specs.Prelude.{◌≤◌, ◌<◌, ◌↔◌, IsTrue, nat_abs};
 ghost use Rattle.basics.specs.Lowest.{Finds};
-ghost use Rattle.network.specs.Constraints.{max_most, word_at, constraint_count, IsEvent, InRange};
+ghost use Rattle.network.specs.Constraints.{max_most, constraint_count, IsEvent, InRange};
 ghost use Rattle.network.specs.Judged.{NetworkTold};
 
 use crate::{MAX_CONSTRAINTS, MAX_EVENTS, MAX_MOST, Network};
 use basics::{Cause, Refusal};
 
-// Whether word i is the number of an event.
-fn is_event(events: usize, words: &[i64], i: usize) -> bool
-    requires { i < length words.now }
-    ensures { IsTrue result ↔ IsEvent events (word_at words.now i) }
+// Whether a word is the number of an event.
+fn is_event(events: usize, word: i64) -> bool
+    ensures { IsTrue result ↔ IsEvent events word }
 {
-    let z = words[i];
-    0 <= z && (z as usize) < events
+    0 <= word && (word as usize) < events
 }
 
-// Whether word i may be the most of a constraint.
-fn is_most(words: &[i64], i: usize) -> bool
-    requires { i < length words.now }
-    ensures { IsTrue result ↔ nat_abs (word_at words.now i) ≤ max_most }
+// Whether a word may be the most of a constraint.
+fn is_most(word: i64) -> bool
+    ensures { IsTrue result ↔ nat_abs word ≤ max_most }
 {
-    let z = words[i];
-    -MAX_MOST <= z && z <= MAX_MOST
+    -MAX_MOST <= word && word <= MAX_MOST
 }
 
 // Whether constraint k is in range.
+// Kept: events and words go apart here, since a `Network` is in range, and that is what is asked.
 fn is_in_range(events: usize, constraints: &[i64], k: usize) -> bool
     requires { k < constraint_count constraints.now }
     ensures { IsTrue result ↔ InRange events constraints.now k }
 {
     let at = 3 * k;
-    at + 3 <= constraints.len()
-        && is_event(events, constraints, at)
-        && is_event(events, constraints, at + 1)
-        && is_most(constraints, at + 2)
+    if constraints.len() < at + 3 {
+        return false;
+    }
+    let (from, to, most) = (constraints[at], constraints[at + 1], constraints[at + 2]);
+    is_event(events, from) && is_event(events, to) && is_most(most)
 }
 
 // The lowest constraint that is out of range, if there is one.
+// Kept: events and words go apart here, since a `Network` is in range, and that is what is asked.
 fn lowest_bad_constraint(events: usize, constraints: &[i64]) -> Option<usize>
     ensures { Finds (InRange events constraints.now) 0 (constraint_count constraints.now) result }
 {

@@ -1,8 +1,8 @@
 //! Simple temporal networks: constraints as words, and whether they are in range.
 #![tactic(auto)]
 
-ghost use Rattle.std.specs.Prelude.{◌≡◌, ◌<◌, nat_abs, length};
-ghost use Rattle.network.specs.Constraints.{word_at, constraint_count, network_of, IsEvent, NetworkInRange};
+ghost use Rattle.std.specs.Prelude.{◌≡◌, ◌<◌, nat_abs};
+ghost use Rattle.network.specs.Constraints.{constraint_count, network_of, IsEvent, NetworkInRange};
 ghost use Rattle.network.specs.Steps.{Reads};
 
 pub mod judge;
@@ -25,6 +25,7 @@ pub struct Constraint {
 }
 
 /// A network in range, lent: how many events it has, and three words for each constraint.
+// Kept: C hands in three words for each constraint, and nobody compares or prints a network; each further derive is one more function to prove.
 #[derive(Clone, Copy)]
 pub struct Network<'a> {
     pub events: usize,
@@ -39,13 +40,12 @@ pub fn constraint_count(constraints: &[i64]) -> usize
     (constraints.len() + 2) / 3
 }
 
-// The event whose number word i is.
-fn event_in(events: usize, words: &[i64], i: usize) -> usize
-    requires i_in_bounds { i < length words.now }
-    requires event { IsEvent events (word_at words.now i) }
-    ensures { result ≡ nat_abs (word_at words.now i) }
+// The event whose number a word is.
+fn event_in(events: usize, word: i64) -> usize
+    requires { IsEvent events word }
+    ensures { result ≡ nat_abs word }
 {
-    words[i] as usize
+    word as usize
 }
 
 impl<'a> Network<'a> {
@@ -63,8 +63,8 @@ impl<'a> Network<'a> {
     {
         let at = 3 * k;
         Constraint {
-            from: event_in(self.events, self.constraints, at),
-            to: event_in(self.events, self.constraints, at + 1),
+            from: event_in(self.events, self.constraints[at]),
+            to: event_in(self.events, self.constraints[at + 1]),
             most: self.constraints[at + 2],
         }
     }

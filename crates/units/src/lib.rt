@@ -4,6 +4,7 @@
 ghost use Rattle.std.specs.Prelude.{◌≤◌, ◌<◌, ◌^◌, ◌≡◌, IfSome, get_or, length};
 ghost use Rattle.units.specs.Rates.{OctetTime};
 ghost use Rattle.units.specs.Times.{point_byte, NumberTold, ScaledTold, PlainTold, AfterTold, PointedTold, TimeTold};
+ghost use Rattle.units.specs.Units.{ns_of};
 
 use decimal::DecimalError;
 use std::fmt;
@@ -29,6 +30,7 @@ pub enum Unit {
 impl Unit {
     /// How many ns the unit is.
     pub fn ns(self) -> u32
+        ensures exact { result ≡ ns_of self }
         ensures some { 0 < result }
         ensures most { result ≤ 1000000000 }
     {
@@ -57,25 +59,15 @@ const MOST_DIGITS: usize = 9;
 
 // A word without the unit at its end, and the unit. Micro may be written u, or by one of the two signs that look the same: C2 B5 and CE BC.
 fn split_unit(word: &[u8]) -> Option<(&[u8], Unit)> {
-    if let Some(number) = word.strip_suffix(b"ns") {
-        return Some((number, Unit::Nano));
+    match word {
+        [number @ .., b'n', b's'] => Some((number, Unit::Nano)),
+        [number @ .., b'u', b's'] => Some((number, Unit::Micro)),
+        [number @ .., 0xC2, 0xB5, b's'] => Some((number, Unit::Micro)),
+        [number @ .., 0xCE, 0xBC, b's'] => Some((number, Unit::Micro)),
+        [number @ .., b'm', b's'] => Some((number, Unit::Milli)),
+        [number @ .., b's'] => Some((number, Unit::Second)),
+        _ => None,
     }
-    if let Some(number) = word.strip_suffix(b"us") {
-        return Some((number, Unit::Micro));
-    }
-    if let Some(number) = word.strip_suffix(b"\xC2\xB5s") {
-        return Some((number, Unit::Micro));
-    }
-    if let Some(number) = word.strip_suffix(b"\xCE\xBCs") {
-        return Some((number, Unit::Micro));
-    }
-    if let Some(number) = word.strip_suffix(b"ms") {
-        return Some((number, Unit::Milli));
-    }
-    if let Some(number) = word.strip_suffix(b"s") {
-        return Some((number, Unit::Second));
-    }
-    None
 }
 
 // What a number before a point and the digits after it are worth: the latter are parts of a unit, so many to a unit as scale says.
@@ -95,15 +87,15 @@ fn scaled(a: u32, b: u32, scale: u64, unit: u64) -> Result<u32, TimeError>
     Ok(ns as u32)
 }
 
-// The number that digits are. What is said of digits worth more than a `u32` holds differs by where they are.
+// The number that digits are.
+// Kept: what is said of digits worth more than a `u32` holds differs by where they are, which `From<DecimalError>` would not know.
 fn number(digits: &[u8], too_large: TimeError) -> Result<u32, TimeError>
     ensures { NumberTold digits.now result }
 {
-    match decimal::read_decimal(digits) {
-        Ok(n) => Ok(n),
-        Err(DecimalError::TooLarge) => Err(too_large),
-        Err(DecimalError::Empty | DecimalError::NoDigit(_)) => Err(TimeError::NoNumber),
-    }
+    decimal::read_decimal(digits).map_err(|error| match error {
+        DecimalError::TooLarge => too_large,
+        DecimalError::Empty | DecimalError::NoDigit(_) => TimeError::NoNumber,
+    })
 }
 
 fn plain(digits: &[u8], unit: u64) -> Result<u32, TimeError>
@@ -137,12 +129,7 @@ fn pointed(before: &[u8], after: &[u8], unit: u64) -> Result<u32, TimeError>
 fn point_of(text: &[u8]) -> Option<usize>
     ensures { IfSome result (λ p. (p < length text.now) × (get_or text.now p 0 ≡ point_byte)) }
 {
-    for (i, byte) in text.iter().enumerate() {
-        if *byte == b'.' {
-            return Some(i);
-        }
-    }
-    None
+    text.iter().position(|byte| *byte == b'.')
 }
 
 // What a number in a unit is worth.
@@ -170,23 +157,25 @@ pub enum Named {
     Thousand,
 }
 
-// How many ns an octet takes.
-fn octet(rate: Named) -> u32
-    ensures { OctetTime rate result }
-{
-    match rate {
-        Named::Ten => 800,
-        Named::Hundred => 80,
-        Named::Thousand => 8,
+impl Named {
+    // How many ns an octet takes.
+    fn octet_ns(self) -> u32
+        ensures { OctetTime self result }
+    {
+        match self {
+            Named::Ten => 800,
+            Named::Hundred => 80,
+            Named::Thousand => 8,
+        }
     }
 }
 
 /// Internal: reads a rate as ns per octet: 10M, 100M, 1G, or a time with /octet after it.
 pub fn read_rate(word: &[u8]) -> Result<u32, TimeError> {
     match word {
-        b"1G" => Ok(octet(Named::Thousand)),
-        b"100M" => Ok(octet(Named::Hundred)),
-        b"10M" => Ok(octet(Named::Ten)),
+        b"1G" => Ok(Named::Thousand.octet_ns()),
+        b"100M" => Ok(Named::Hundred.octet_ns()),
+        b"10M" => Ok(Named::Ten.octet_ns()),
         _ => read_time(word.strip_suffix(b"/octet").ok_or(TimeError::NoUnit)?),
     }
 }
