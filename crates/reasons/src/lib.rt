@@ -54,34 +54,13 @@ pub fn fail<E: Write>(err: &mut E, what: &[u8], error: &io::Error) {
     text(err, b"\n");
 }
 
-/// Prints some words. Each # in them is a gap, for the next of the numbers; there are as many numbers as gaps.
-pub fn say<E: Write>(err: &mut E, sentence: &[u8], numbers: &[u32]) {
-    let mut numbers = numbers.iter();
-    for words in sentence.split_inclusive(|byte| *byte == b'#') {
-        let Some(before_gap) = words.strip_suffix(b"#") else {
-            text(err, words);
-            continue;
-        };
-        text(err, before_gap);
-        if let Some(n) = numbers.next() {
-            let _ = write!(err, "{n}");
-        }
-    }
-}
-
 /// Begins a line.
 pub fn begin<E: Write>(err: &mut E) {
     text(err, b"conepalhui: ");
 }
 
-/// Prints a sentence with gaps on a line of its own.
-pub fn line<E: Write>(err: &mut E, sentence: &[u8], numbers: &[u32]) {
-    begin(err);
-    say(err, sentence, numbers);
-    text(err, b"\n");
-}
-
 /// A number as a word, or the largest word where it is larger.
+// Kept: no twin of it is left, and no method of std stops at the largest word.
 pub fn small(n: usize) -> u32 {
     u32::try_from(n).unwrap_or(u32::MAX)
 }

@@ -4,7 +4,7 @@
 const QUIET: i64 = 2;
 
 /// When something was last said, in whole seconds.
-#[derive(Clone, Copy)]
+#[derive(Clone, Copy, Debug, PartialEq, Eq)]
 pub struct Said {
     seconds: i64,
 }
