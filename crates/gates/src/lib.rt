@@ -14,6 +14,7 @@ pub const MAX_PAIRS: usize = 1024;
 pub const MAX_LIST_WORDS: usize = 2 * MAX_PAIRS;
 
 // The masks: gate 7 open and no other, and all gates open but gate 7.
+// Kept: Right (specs/Holding.antt) says which number a pair shows, and that number is what a list's words hold.
 pub const HELD_MASK: u32 = 128;
 
 pub const IDLE_MASK: u32 = 127;

@@ -7,6 +7,7 @@ ghost use Rattle.gates.specs.Steps.{AllSlots, AnySlot, Grows, PairsTold, Room};
 use crate::slots::StoredSlot;
 
 // Adds a stretch behind n pairs; returns how many there are then, or None if there is no room for one more. One with the mask of the last pair makes that pair longer.
+// Kept: the words are lent by whoever asks for the list, and PairsTold says of how many of them the list is made; the library allocates nothing.
 fn grow(out: &mut [u32], n: usize, mask: u32, lasting: u32) -> Option<usize>
     requires { Room out.old n lasting }
     ensures { Grows out.old n mask lasting out.new result }
@@ -27,6 +28,7 @@ fn grow(out: &mut [u32], n: usize, mask: u32, lasting: u32) -> Option<usize>
 }
 
 /// Internal: writes the pairs of one cycle, from instant 0 on; returns how many, or None if they are more than a list may have.
+// Kept: a public call that takes a plain slice may not ask more of its callers.
 pub fn write_pairs(slots: &[StoredSlot], cycle: u64, out: &mut [u32]) -> Option<usize>
     requires slots { AllSlots slots.now }
     requires cycle_le_max_cycle { cycle ≤ max_cycle }
@@ -35,6 +37,7 @@ pub fn write_pairs(slots: &[StoredSlot], cycle: u64, out: &mut [u32]) -> Option<
 {
     let mut x: u64 = 0;
     let mut n: usize = 0;
+    // Kept: nothing is counted; the instant goes on by runs of unequal length.
     while x < cycle {
         let run = crate::runs::run_from(slots, x, cycle);
         n = grow(out, n, run.mask, (run.until - x) as u32)?;

@@ -43,25 +43,6 @@ fn slot_seen(s: Slot, x: u64) -> Sees
     Sees::Idle(x + (s.period - r))
 }
 
-// Asks slot i, after those below it.
-fn ask(slots: &[StoredSlot], x: u64, limit: u64, i: usize, look: Look) -> Look
-    requires slots { AllSlots slots.now × (i < length slots.now) }
-    requires limit_le_max_instant { limit ≤ max_instant }
-    requires looked { Looked slots.now (length slots.now) x limit i look }
-    ensures { Looked slots.now (length slots.now) x limit (i + 1) result }
-{
-    match slot_seen(slots[i].widened(), look.end) {
-        Sees::Held(on) => Look {
-            end: on.min(limit),
-            until: look.until,
-        },
-        Sees::Idle(begin) => Look {
-            end: look.end,
-            until: begin.min(look.until),
-        },
-    }
-}
-
 // What a link shows from instant x on, not beyond a limit. Where a hold is found, the slots after it are asked from its end on: in the order of their offsets many holds that follow each
 // other are passed in one go.
 fn link_seen(slots: &[StoredSlot], x: u64, limit: u64) -> Sees
@@ -74,8 +55,11 @@ fn link_seen(slots: &[StoredSlot], x: u64, limit: u64) -> Sees
         end: x,
         until: limit,
     };
-    for i in 0..slots.len() {
-        look = ask(slots, x, limit, i, look);
+    for s in slots {
+        match slot_seen(Slot::from(*s), look.end) {
+            Sees::Held(on) => look.end = on.min(limit),
+            Sees::Idle(begin) => look.until = begin.min(look.until),
+        }
     }
     if x < look.end {
         return Sees::Held(look.end);
@@ -84,6 +68,7 @@ fn link_seen(slots: &[StoredSlot], x: u64, limit: u64) -> Sees
 }
 
 /// Internal: the right mask at instant x, and up to when it is right without a change, not beyond a limit.
+// Kept: a public call that takes a plain slice may not ask more of its callers, and only link_seen would take another type.
 pub fn run_from(slots: &[StoredSlot], x: u64, limit: u64) -> Run
     requires slots { AllSlots slots.now }
     requires x_lt_limit { x < limit }
