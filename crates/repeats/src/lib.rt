@@ -39,59 +39,64 @@ pub struct Entry {
     pub into: u64,
 }
 
-// The first repeat of a slot that begins at an instant or later.
-fn first_from(s: Slot, instant: u64) -> u64
-    requires brief { Brief s }
-    requires instant_le_max_word { instant ≤ max_word }
-    ensures { FirstFrom s instant result }
-{
-    if instant <= s.offset {
-        return 0;
-    }
-    (instant - s.offset - 1) / s.period + 1
+// Two slots, of whose first meeting can be told. A slot of overlap keeps no such fact: `slot_of` of rules builds it as a record.
+// Kept: nobody compares or prints it, and each further derive is a function more to prove.
+#[derive(Clone, Copy)]
+struct Pair {
+    a: Slot,
+    b: Slot,
+    ghost brief: { Brief a },
+    ghost brief_2: { Brief b },
 }
 
-// Where the first repeat of b that does not begin before a does begins in the period of a.
-fn first_entry(a: Slot, b: Slot) -> Entry
-    requires brief { Brief a }
-    requires brief_2 { Brief b }
-    ensures { Enters a b result }
-{
-    let second = first_from(b, a.offset);
-    let since = b.offset + second * b.period - a.offset;
-    Entry {
-        first: since / a.period,
-        second,
-        into: since % a.period,
+impl Pair {
+    // The first repeat of b that does not begin before a does.
+    fn first_from(&self) -> u64
+        ensures { FirstFrom self.now.b self.now.a.offset result }
+    {
+        if self.a.offset <= self.b.offset {
+            return 0;
+        }
+        (self.a.offset - self.b.offset - 1) / self.b.period + 1
     }
-}
 
-// The instant at which a repeat of b begins, with a repeat of another slot.
-fn beginning(b: Slot, first: u64, second: u64) -> Meeting
-    requires brief { Brief b }
-    requires second_le_many_repeats { second ≤ many_repeats }
-    ensures { result ≡ beginning_of b first second }
-{
-    Meeting {
-        first,
-        second,
-        instant: b.offset + second * b.period,
+    // Where it begins in the period of a.
+    fn first_entry(&self) -> Entry
+        ensures { Enters self.now.a self.now.b result }
+    {
+        let second = self.first_from();
+        let since = self.b.offset + second * self.b.period - self.a.offset;
+        Entry {
+            first: since / self.a.period,
+            second,
+            into: since % self.a.period,
+        }
     }
-}
 
-// The earliest repeat of b that begins while a holds the link, if one does. From one repeat of b to the next its beginning goes on by b's period, round a circle as long as a's.
-fn first_beginning(a: Slot, b: Slot) -> Option<Meeting>
-    requires brief { Brief a }
-    requires brief_2 { Brief b }
-    ensures { BeginsFirst a b result }
-{
-    let e = first_entry(a, b);
-    if e.into < a.hold {
-        return Some(beginning(b, e.first, e.second));
+    // The instant at which a repeat of b begins, with a repeat of a.
+    fn beginning(&self, first: u64, second: u64) -> Meeting
+        requires { second ≤ many_repeats }
+        ensures { result ≡ beginning_of self.now.b first second }
+    {
+        Meeting {
+            first,
+            second,
+            instant: self.b.offset + second * self.b.period,
+        }
     }
-    let rest = a.period - e.into;
-    let landing = landing::first_landing(b.period, a.period, rest, rest + (a.hold - 1))?;
-    Some(beginning(b, e.first + 1 + landing.turns, e.second + landing.steps))
+
+    // The earliest repeat of b that begins while a holds the link, if one does. From one repeat of b to the next its beginning goes on by b's period, round a circle as long as a's.
+    fn first_beginning(&self) -> Option<Meeting>
+        ensures { BeginsFirst self.now.a self.now.b result }
+    {
+        let e = self.first_entry();
+        if e.into < self.a.hold {
+            return Some(self.beginning(e.first, e.second));
+        }
+        let rest = self.a.period - e.into;
+        let landing = landing::first_landing(self.b.period, self.a.period, rest, rest + (self.a.hold - 1))?;
+        Some(self.beginning(e.first + 1 + landing.turns, e.second + landing.steps))
+    }
 }
 
 // The same answer, told of the two legs in the other order.
@@ -103,13 +108,14 @@ fn exchange(met: Option<Meeting>) -> Option<Meeting>
 
 /// Internal: the first meeting of two legs on one link; None if they never meet. It is the beginning of a repeat of one of them: the earlier of the first beginning of b while a holds the
 /// link, and the first beginning of a while b does.
+// Kept: a public call that takes two plain slots may not ask more of its callers; it makes a Pair of them at once.
 pub fn first_meeting(a: Slot, b: Slot) -> Option<Meeting>
     requires brief { Brief a }
     requires brief_2 { Brief b }
     ensures { MeetsFirst a b result }
 {
-    let later = first_beginning(a, b);
-    let other = exchange(first_beginning(b, a));
+    let later = Pair { a, b }.first_beginning();
+    let other = exchange(Pair { a: b, b: a }.first_beginning());
     let Some(x) = later else {
         return other;
     };

@@ -1,6 +1,0 @@
--- `repeats::first_entry` meets its contract. Assumes nothing.
-use Rattle.repeats.proofs.Entering.{enters_there}
-use Rattle.repeats.proofs.first_entry.Goals as goal
-
-pub returns : goal.returns
-returns c = search enters_there
