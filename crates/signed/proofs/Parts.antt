@@ -1,6 +1,5 @@
 -- Signed numbers for omega, which reads none: a number is `up` minus `down`, and its order and its sums are facts on these two. Assumes nothing.
 use mathlib.Core.Path.{◌≡◌, refl, ap}
-use mathlib.Core.Logic.{◌⊎◌, inl, inr}
 use mathlib.Core.Bool.{Bool, true, false, cond}
 use Prim.Native.Nat.{ℕ, zero, suc, ◌+◌, ◌-◌, ◌≤◌, ◌<◌}
 use native.Mathlib.Omega.{arith}
@@ -77,15 +76,6 @@ down_neg (negsuc n) = refl
 
 pub minus : (a b : ℤ) → up (a -ℤ b) + down a + up b ≡ down (a -ℤ b) + up a + down b
 minus a b = omega (arith, add a (neg_ℤ b), up_neg b, down_neg b)
-
-pub mag_small : (a : ℤ) → mag a ≤ up a + down a
-mag_small (pos n) = omega arith
-mag_small (negsuc n) = omega arith
-
--- one of the two parts is nothing
-pub apart : (a : ℤ) → (up a ≡ 0) ⊎ (down a ≡ 0)
-apart (pos n) = inr refl
-apart (negsuc n) = inl refl
 
 -- the size of a number is the sum of its parts
 pub parts : (a : ℤ) → nat_abs a ≡ up a + down a

@@ -13,18 +13,9 @@ pub fn sum(a: i64, b: i64) -> i64
     a + b
 }
 
-/// Internal: whether y minus x is at most c, for any three numbers. Neither the difference nor x plus c may fit, so it goes by cases.
+/// Internal: whether y minus x is at most c, for any three numbers. The difference may need more than 64 bits.
 pub fn within(x: i64, y: i64, c: i64) -> bool
     ensures { result ≡ le_z (y -ℤ x) c }
 {
-    if 0 <= c {
-        if i64::MAX - c < x {
-            return true;
-        }
-        return y <= x + c;
-    }
-    if x < i64::MIN - c {
-        return false;
-    }
-    y <= x + c
+    i128::from(y) - i128::from(x) <= i128::from(c)
 }
