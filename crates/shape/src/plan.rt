@@ -36,6 +36,7 @@ impl<'a> Plan<'a> {
     }
 
     /// Internal: the plan that words are that guarantee this.
+    // Kept: here words become a Plan, so the fact has to be asked for once.
     pub fn of(words: &'a [u32]) -> Plan<'a>
         requires { Guarantees words.now }
         ensures { result ≡ words.now }
@@ -44,6 +45,7 @@ impl<'a> Plan<'a> {
     }
 
     /// Internal: all its words, for what is asked of a table.
+    // Kept: the clause hands out what the type holds, since other crates do not see its invariant.
     pub fn words(&self) -> &'a [u32]
         ensures words { result.now ≡ self.now }
         ensures shaped { Guarantees self.now }
@@ -65,21 +67,8 @@ impl<'a> Plan<'a> {
         self.words[table::PRECISION_AT]
     }
 
-    /// Internal: how many links it has.
-    pub fn links(&self) -> usize
-        ensures { result ≡ link_count self.now }
-    {
-        self.words[table::LINKS_AT] as usize
-    }
-
-    /// Internal: how many streams it has.
-    pub fn streams(&self) -> usize
-        ensures { result ≡ stream_count self.now }
-    {
-        self.words[table::STREAMS_AT] as usize
-    }
-
     /// Internal: how many legs it has.
+    // Kept: the clause hands out what the type holds, since other crates do not see its invariant.
     pub fn legs(&self) -> usize
         ensures count { result ≡ leg_count self.now }
         ensures shaped { Guarantees self.now }
