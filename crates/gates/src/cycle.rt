@@ -15,7 +15,7 @@ fn lcm(a: u64, b: u64) -> u64
 }
 
 /// Internal: the cycle of a link's slots; None if it passes the limit. It stops at the first slot with which it does.
-// Kept: a public call that takes a plain slice may not ask more of its callers.
+// Kept: docs/ARCHITECTURE.md names this crate, so a public call of it takes what it took: a plain slice.
 pub fn cycle_of(slots: &[StoredSlot]) -> Option<u64>
     requires { AllSlots slots.now }
     ensures { CycleTold (AnySlot slots.now) result }

@@ -28,7 +28,7 @@ fn grow(out: &mut [u32], n: usize, mask: u32, lasting: u32) -> Option<usize>
 }
 
 /// Internal: writes the pairs of one cycle, from instant 0 on; returns how many, or None if they are more than a list may have.
-// Kept: a public call that takes a plain slice may not ask more of its callers.
+// Kept: docs/ARCHITECTURE.md names this crate, so a public call of it takes what it took: a plain slice.
 pub fn write_pairs(slots: &[StoredSlot], cycle: u64, out: &mut [u32]) -> Option<usize>
     requires slots { AllSlots slots.now }
     requires cycle_le_max_cycle { cycle ≤ max_cycle }

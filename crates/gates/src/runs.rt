@@ -68,7 +68,7 @@ fn link_seen(slots: &[StoredSlot], x: u64, limit: u64) -> Sees
 }
 
 /// Internal: the right mask at instant x, and up to when it is right without a change, not beyond a limit.
-// Kept: a public call that takes a plain slice may not ask more of its callers, and only link_seen would take another type.
+// Kept: docs/changes/L07.md names this call, so it takes what it took; link_seen alone would take another type.
 pub fn run_from(slots: &[StoredSlot], x: u64, limit: u64) -> Run
     requires slots { AllSlots slots.now }
     requires x_lt_limit { x < limit }

@@ -68,7 +68,7 @@ impl<'a> Named<'a> {
 }
 
 /// Internal: the numbers of the conditions that forbid anything, in the order in which the search should look at them. Tells how many.
-// Kept: a public call that takes plain slices may not ask more of its callers; the library allocates nothing, so the hints lie in an array of fixed size.
+// Kept: docs/ARCHITECTURE.md names this crate, so a public call of it takes what it took: plain slices. The hints lie in one, since the library allocates nothing.
 pub fn order(conditions: &[StoredCondition], order: &mut [u32]) -> usize
     requires { AllSound conditions.now }
     ensures { (result ≤ length conditions.now) × (length order.new ≡ length order.old) }

@@ -174,7 +174,7 @@ impl<'a> Search<'a> {
 }
 
 /// Internal: the least number from `from` on and below the limit that all conditions allow. The search looks first where the hints say, whatever they say.
-// Kept: a public call that takes a plain slice may not ask more of its callers; it makes a Search of it at once.
+// Kept: docs/ARCHITECTURE.md names this crate, so a public call of it takes what it took: a plain slice, of which it makes a Search at once.
 pub fn searched(conditions: &[StoredCondition], hints: &[u32], limit: u64, from: u64) -> Option<u64>
     requires all_sound { AllSound conditions.now }
     requires limit_le_max_word { limit ≤ max_word }
