@@ -3,6 +3,8 @@
 // the operating system does, so these promise only to be safe and to end. Each says on standard error what it could not do.
 #![tactic(auto)]
 
+ghost use Rattle.std.specs.Prelude.{◌≤◌, length};
+
 use std::fs::{File, OpenFile, OpenOptions};
 use std::io::{ErrorKind, Write};
 use std::rt::Files;
@@ -14,6 +16,7 @@ const ENOENT: i32 = 2;
 const EILSEQ: i32 = 84;
 
 /// What reading a file gives: its bytes, that there is no such file, or that it cannot be read.
+// Kept: three answers, which most callers treat each in its own way; an Option of an Option would not name them.
 #[derive(Clone, Copy, Debug, PartialEq, Eq)]
 pub enum FileRead<'a> {
     Bytes(&'a [u8]),
@@ -78,6 +81,7 @@ pub fn missing<E: Write>(err: &mut E, path: &[u8]) {
 }
 
 // Whether it was done. Where it was not, that is said of this path.
+// Kept: callers ask only whether it was done, and chain such calls by &&; why it was not is said here and goes no further.
 fn said<E: Write>(err: &mut E, path: &[u8], done: io::Result<()>) -> bool {
     match done {
         Ok(()) => true,
@@ -89,7 +93,9 @@ fn said<E: Write>(err: &mut E, path: &[u8], done: io::Result<()>) -> bool {
 }
 
 /// Puts a path and its ending into a buffer and returns them, or nothing where there is no room for them.
-pub fn ended<'a>(path: &[u8], ending: &[u8], out: &'a mut [u8]) -> &'a [u8] {
+pub fn ended<'a>(path: &[u8], ending: &[u8], out: &'a mut [u8]) -> &'a [u8]
+    ensures { length result.now ≤ length out.old }
+{
     let n = path.len();
     if out.len() < n || out.len() - n < ending.len() {
         return &[];
@@ -101,6 +107,8 @@ pub fn ended<'a>(path: &[u8], ending: &[u8], out: &'a mut [u8]) -> &'a [u8] {
 }
 
 /// Writes parts, one after the other, beside a file, and brings them to the disk. What a run that was cut off left there goes.
+// Kept: callers ask only whether it was done, and chain such calls by &&; why it was not is said here and goes no further.
+// Kept: no length stands beside the array: a path is put together in it, and `ended` gives back the slice.
 pub fn write_beside<R: Files, E: Write>(rt: &R, err: &mut E, path: &[u8], parts: &[&[u8]]) -> bool {
     let mut room = [0u8; 4096];
     let beside = ended(path, NEW, &mut room);
@@ -127,6 +135,8 @@ fn write_parts<F: Write + OpenFile>(file: &mut F, parts: &[&[u8]]) -> io::Result
 }
 
 /// Gives what was written beside a file its name, and brings the folder to the disk.
+// Kept: callers ask only whether it was done, and chain such calls by &&; why it was not is said here and goes no further.
+// Kept: no length stands beside the array: a path is put together in it, and `ended` gives back the slice.
 pub fn put_in_place<R: Files, E: Write>(rt: &R, err: &mut E, path: &[u8]) -> bool {
     let mut room = [0u8; 4096];
     let beside = ended(path, NEW, &mut room);
@@ -135,6 +145,8 @@ pub fn put_in_place<R: Files, E: Write>(rt: &R, err: &mut E, path: &[u8]) -> boo
 
 /// The same under a name that no file has; a file that has it is never replaced. The name is taken first, by an empty file: cut off there, that is what
 /// stays, and otherwise no file or the whole one.
+// Kept: callers ask only whether it was done, and chain such calls by &&; why it was not is said here and goes no further.
+// Kept: no length stands beside the array: a path is put together in it, and `ended` gives back the slice.
 pub fn put_under_new_name<R: Files, E: Write>(rt: &R, err: &mut E, path: &[u8]) -> bool {
     let mut room = [0u8; 4096];
     let beside = ended(path, NEW, &mut room);
@@ -157,6 +169,7 @@ fn take_name<R: Files>(rt: &R, path: &[u8]) -> io::Result<()> {
 }
 
 /// Removes a file, if there is one, and brings the folder to the disk.
+// Kept: callers ask only whether it was done, and chain such calls by &&; why it was not is said here and goes no further.
 pub fn remove<R: Files, E: Write>(rt: &R, err: &mut E, path: &[u8]) -> bool {
     match unlinked(rt, path) {
         Err(e) if e.kind() != ErrorKind::NotFound => {
@@ -173,6 +186,7 @@ pub fn dropped<R: Files>(rt: &R, path: &[u8]) {
 }
 
 /// Makes a file, which no other has the name of, and brings it to the disk.
+// Kept: callers ask only whether it was done, and chain such calls by &&; why it was not is said here and goes no further.
 pub fn made<R: Files, E: Write>(rt: &R, err: &mut E, path: &[u8], bytes: &[u8]) -> bool {
     said(err, path, made_new(rt, path, bytes))
 }
@@ -184,6 +198,7 @@ fn made_new<R: Files>(rt: &R, path: &[u8], bytes: &[u8]) -> io::Result<()> {
 }
 
 // Brings the folder of a path to the disk.
+// Kept: callers ask only whether it was done, and chain such calls by &&; why it was not is said here and goes no further.
 fn sync_folder_of<R: Files, E: Write>(rt: &R, err: &mut E, path: &[u8]) -> bool {
     let folder = match path.iter().rposition(|b| *b == b'/') {
         Some(i) => &path[..i + 1],

@@ -2,7 +2,7 @@
 // and to end. Why a plan file is refused is said on standard error.
 #![tactic(auto)]
 
-ghost use Rattle.std.specs.Prelude.{◌≤◌, length};
+ghost use Rattle.std.specs.Prelude.{◌≤◌, length, IfOk, IfSome};
 
 use basics::Refusal;
 use std::env::{Env, FillError};
@@ -21,6 +21,7 @@ const ENAMETOOLONG: i32 = 36;
 
 /// Reads the plan on standard input into lent words: the words of its table, or why it is refused, which is said on standard error too. The outer error: standard
 /// input cannot be read.
+// Kept: timetable and operator reach no allocator (docs/TRUST.md), so the bytes lie in an array of the largest size; what was read is a slice of it.
 pub fn given_plan<'a, R: Input, E: Write>(
     rt: &R,
     err: &mut E,
@@ -38,6 +39,7 @@ pub fn given_plan<'a, R: Input, E: Write>(
 }
 
 // Reads until the buffer is full, the input ends or a read fails, and returns how many bytes that is.
+// Kept: bytes are counted, as many as each read gives, and no index; the range only bounds the number of reads.
 fn read_full<R: Read>(input: &mut R, buffer: &mut [u8]) -> usize
     ensures { result ≤ length buffer.new }
 {
@@ -58,6 +60,7 @@ fn read_full<R: Read>(input: &mut R, buffer: &mut [u8]) -> usize
 
 // Whether the n bytes that were read for a buffer with that much room are all there is, or all that is asked for. A read that failed is not taken for the end: after
 // the end, and only then, a further read gives 0.
+// Kept: no length stands beside the array of one byte: only whether there is more is asked.
 fn ends<R: Read>(input: &mut R, n: usize, room: usize) -> io::Result<()> {
     if n < room {
         let mut more = [0u8; 1];
@@ -70,19 +73,25 @@ fn ends<R: Read>(input: &mut R, n: usize, room: usize) -> io::Result<()> {
 }
 
 /// Reads to the end, or as much as there is room for, and returns what was read.
-pub fn whole<'a, R: Read>(input: &mut R, buffer: &'a mut [u8]) -> io::Result<&'a [u8]> {
+pub fn whole<'a, R: Read>(input: &mut R, buffer: &'a mut [u8]) -> io::Result<&'a [u8]>
+    ensures { IfOk result (λ bytes. length bytes.now ≤ length buffer.old) }
+{
     let n = read_full(input, buffer);
     ends(input, n, buffer.len())?;
     Ok(&buffer[..n])
 }
 
 /// Reads standard input into a buffer, to its end or as much as there is room for.
-pub fn standard<'a, R: Input>(rt: &R, buffer: &'a mut [u8]) -> io::Result<&'a [u8]> {
+pub fn standard<'a, R: Input>(rt: &R, buffer: &'a mut [u8]) -> io::Result<&'a [u8]>
+    ensures { IfOk result (λ bytes. length bytes.now ≤ length buffer.old) }
+{
     whole(&mut rt.reader(), buffer)
 }
 
 /// The same, where a read that fails is taken for the end.
-pub fn standard_part<'a, R: Input>(rt: &R, buffer: &'a mut [u8]) -> &'a [u8] {
+pub fn standard_part<'a, R: Input>(rt: &R, buffer: &'a mut [u8]) -> &'a [u8]
+    ensures { length result.now ≤ length buffer.old }
+{
     let n = read_full(&mut rt.reader(), buffer);
     &buffer[..n]
 }
@@ -94,7 +103,9 @@ pub fn argument<'a, R: Env, E: Write>(
     i: usize,
     room: &'a mut [u8],
     what: &[u8],
-) -> Option<&'a [u8]> {
+) -> Option<&'a [u8]>
+    ensures { IfSome result (λ text. length text.now ≤ length room.old) }
+{
     let why = match rt.arg(i, room) {
         Ok(n) => return Some(&room[..n]),
         Err(FillError::NotPresent) => EINVAL,
@@ -105,7 +116,9 @@ pub fn argument<'a, R: Env, E: Write>(
 }
 
 /// The same, and nothing where it is missing or too long.
-pub fn argument_or_nothing<'a, R: Env>(rt: &R, i: usize, room: &'a mut [u8]) -> &'a [u8] {
+pub fn argument_or_nothing<'a, R: Env>(rt: &R, i: usize, room: &'a mut [u8]) -> &'a [u8]
+    ensures { length result.now ≤ length room.old }
+{
     match rt.arg(i, room) {
         Ok(n) => &room[..n],
         Err(_) => &[],
@@ -113,12 +126,14 @@ pub fn argument_or_nothing<'a, R: Env>(rt: &R, i: usize, room: &'a mut [u8]) -> 
 }
 
 /// Whether there is such an argument.
+// Kept: no length stands beside the array: an argument that is too long for one byte is there too.
 pub fn has_argument<R: Env>(rt: &R, i: usize) -> bool {
     let mut room = [0u8; 1];
     !matches!(rt.arg(i, &mut room), Err(FillError::NotPresent))
 }
 
 /// The time in whole seconds, and -1 where the clock gives none.
+// Kept: Said::is_due compares -1 as one more instant, which an Option would have to be taken apart for at each of its two times.
 pub fn seconds<R: Clock>(rt: &R) -> i64 {
     let Ok(now) = SystemTime::now(rt) else {
         return -1;
