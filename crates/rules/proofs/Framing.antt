@@ -1,43 +1,30 @@
 -- What is read of a leg: its record, its stream's and its link's, and their bounds. Assumes nothing.
-use Prim.Native.Nat.{ℕ, ◌+◌, ◌*◌, ◌≤◌}
-use mathlib.Core.Path.{◌≡◌, ◌∙◌, ap}
+use Prim.Native.Nat.{ℕ, ◌+◌, ◌≤◌}
+use mathlib.Core.Path.{◌≡◌, ap}
 use mathlib.Core.List.{List}
 use native.Mathlib.Omega.{arith}
-use lib.ListN.{length}
 use Rattle.numbers.specs.Number.{max_word}
-use Rattle.table.specs.Layout.{link_words, stream_words, leg_words, max_legs}
-use Rattle.table.specs.Records.{link_part, stream_part, leg_part, link_in, stream_in, leg_in, leg_at}
+use Rattle.table.specs.Layout.{max_legs}
+use Rattle.table.specs.Records.{link_at, stream_at, leg_at}
 use Rattle.table.specs.declared.Leg.{Leg}
 use Rattle.table.specs.declared.Link.{Link}
 use Rattle.table.specs.declared.Stream.{Stream}
-use Rattle.table.proofs.PartLaws.{link_inside, stream_inside, leg_inside, link_of_part, stream_of_part, leg_of_part}
 use Rattle.shape.specs.Streams.{max_period, max_periods, max_octets}
 use Rattle.shape.specs.Legs.{link_of, stream_of}
 use Rattle.shape.specs.Guarantees.{StreamPlaced, LinkSmall}
 use Rattle.rules.specs.Times.{start_time, wire_time, hold_time, start_of}
 use Rattle.rules.specs.Steps.{Timed, StartsAt, FrameOf, LegIn}
 
--- A leg's record lies in the part, and is the table's.
-module _ {t legs : List ℕ} {a : ℕ} (here : LegIn t a) (of : legs ≡ leg_part t) where
-  pub leg_lies : leg_words * a + leg_words ≤ length legs
-  leg_lies = rw of (leg_inside t here.table.sized a here.leg)
+-- A leg's record, read of a plan p, is the table's.
+module _ {t p : List ℕ} {a : ℕ} {leg : Leg} (here : LegIn t a) (same : p ≡ t) (is : leg ≡ leg_at p a) where
+  pub leg_is : leg ≡ leg_at t a
+  leg_is = rw same at is
 
-  module _ {leg : Leg} (is : leg ≡ leg_in legs a) where
-    pub leg_is : leg ≡ leg_at t a
-    leg_is = is ∙ rw of (leg_of_part t a)
+  pub leg_link : leg.link ≡ (leg_at t a).link
+  leg_link = ap (λ (l : Leg). l.link) leg_is
 
-    pub leg_link : leg.link ≡ (leg_at t a).link
-    leg_link = ap (λ (l : Leg). l.link) leg_is
-
-    -- So do the records of its stream and of its link.
-    pub leg_stream : leg.stream ≡ (leg_at t a).stream
-    leg_stream = ap (λ (l : Leg). l.stream) leg_is
-
-    pub stream_lies : {streams : List ℕ} → streams ≡ stream_part t → stream_words * leg.stream + stream_words ≤ length streams
-    stream_lies of-streams = rw (of-streams, leg_stream) (stream_inside t here.table.sized _ (here.table.leg a here.leg).stream)
-
-    pub link_lies : {links : List ℕ} → links ≡ link_part t → link_words * leg.link + link_words ≤ length links
-    link_lies of-links = rw (of-links, leg_link) (link_inside t here.table.sized _ (here.table.leg a here.leg).link)
+  pub leg_stream : leg.stream ≡ (leg_at t a).stream
+  leg_stream = ap (λ (l : Leg). l.stream) leg_is
 
 -- All that is read of leg a.
 pub record Reading : Type 0 where
@@ -55,14 +42,14 @@ pub record Reading : Type 0 where
   pub legs : stream.first + stream.count ≤ max_legs
   pub small : LinkSmall link
 
-abbrev pub reading : {t legs streams links : List ℕ} {a : ℕ} {leg : Leg} {stream : Stream} {link : Link} → LegIn t a → legs ≡ leg_part t → leg ≡ leg_in legs a
-    → streams ≡ stream_part t → stream ≡ stream_in streams leg.stream → links ≡ link_part t → link ≡ link_in links leg.link → Reading
-reading {t = t} {a = a} {leg = leg} {stream = stream} {link = link} here of is of-streams is-stream of-links is-link =
+abbrev pub reading : {t p : List ℕ} {a : ℕ} {leg : Leg} {stream : Stream} {link : Link} → LegIn t a → p ≡ t → leg ≡ leg_at p a → stream ≡ stream_at p leg.stream → link ≡ link_at p leg.link
+    → Reading
+reading {t = t} {a = a} {leg = leg} {stream = stream} {link = link} here same is is-stream is-link =
     let p = here.table.leg a here.leg in
-    let n = leg_stream here of is in
-    let m = leg_link here of is in
-    let e : stream ≡ stream_of t a = is-stream ∙ rw (of-streams, n) (stream_of_part t _) in
-    let k : link ≡ link_of t a = is-link ∙ rw (of-links, m) (link_of_part t _) in
+    let n = leg_stream here same is in
+    let m = leg_link here same is in
+    let e : stream ≡ stream_of t a = rw (same, n) at is-stream in
+    let k : link ≡ link_of t a = rw (same, m) at is-link in
     let placed : StreamPlaced t (leg_at t a).stream = here.table.stream _ p.stream in
     record {
       t = t;
@@ -70,10 +57,10 @@ reading {t = t} {a = a} {leg = leg} {stream = stream} {link = link} here of is o
       leg = leg;
       stream = stream;
       link = link;
-      leg_is = leg_is here of is;
+      leg_is = leg_is here same is;
       stream_is = e;
       link_is = k;
-      periods = rw (leg_is here of is) p.periods;
+      periods = rw (leg_is here same is) p.periods;
       octets = rw e placed.small.octets_to;
       period = rw e (placed.small.period_from, placed.small.period_to);
       legs = rw e (omega (arith, placed.in_table, here.table.sized.limits.legs));

@@ -1,16 +1,15 @@
 // A leg of a plan, read once, and the rules judged of it.
 ghost use Rattle.std.specs.Prelude.{◌≡◌, ◌<◌, IsTrue, ◌↔◌};
 ghost use Rattle.table.specs.Layout.{leg_count};
-ghost use Rattle.table.specs.Records.{leg_at};
-ghost use Rattle.overlap.specs.Divisor.{IsGcd};
 ghost use Rattle.rules.specs.Rules.{Window, Hop, Deadline, Overlap};
-ghost use Rattle.rules.specs.Places.{places_of, PairHolds, JudgedTold};
+ghost use Rattle.rules.specs.Places.{places_of, AskedOf, AskedHolds, JudgedTold};
 ghost use Rattle.rules.specs.Steps.{LegIn, FrameOf, ReadyOf, SharerOf};
 
-use crate::{Frame, Rule, Sharer, judge, place, times};
+use crate::{Asked, Frame, Rule, Sharer, judge, place, times};
 use shape::plan::Plan;
 
 /// Internal: a leg of a plan with what its stream and its link say of it.
+// Kept: nobody compares or prints it, and Plan, which it lends, has no equality.
 #[derive(Clone, Copy)]
 pub struct TimedLeg<'p, 'a> {
     pub plan: &'p Plan<'a>,
@@ -74,11 +73,28 @@ impl<'p, 'a> TimedLeg<'p, 'a> {
         judge::sharer(self.plan.words(), self.at, self.frame)
     }
 
+    /// Whether what is asked of it holds.
+    fn keeps(&self, asked: Asked) -> bool
+        requires { AskedOf self.now.at asked }
+        ensures { IsTrue result ↔ AskedHolds self.now.plan.now self.now.at asked }
+    {
+        match asked {
+            Asked::Window => self.keeps_window(),
+            Asked::Hop => self.keeps_hop(),
+            Asked::Deadline => self.keeps_deadline(),
+            Asked::Overlap(b) => self.keeps_clear_of(b),
+        }
+    }
+
     /// Internal: the rule that is broken at its place p, or None where it is kept.
     pub fn broken_at(&self, p: usize) -> Option<Rule>
         requires { p < places_of self.now.at }
         ensures { JudgedTold self.now.plan.now self.now.at p result }
     {
-        place::judged_place(self.plan.words(), self.at, self.frame, p)
+        let asked = place::asked_at(p);
+        if self.keeps(asked) {
+            return None;
+        }
+        Some(Rule::from(asked))
     }
 }
