@@ -6,10 +6,11 @@ ghost use Rattle.places.specs.Chains.{Begun, Chained, Unbegun};
 use shape::plan::Plan;
 
 /// The lowest leg of a link that no leg uses, and the leg after the last one of a link.
+// Kept: it lies above every leg, so that one test ends a chain and a search; an Option would need two.
 pub const NO_CHAIN: usize = table::MAX_LEGS;
 
 /// A plan and the chains of its links: `first` has each link's lowest leg, `next` each leg's successor on its link.
-#[derive(Clone, Copy)]
+#[derive(Drop)]
 pub struct Chains<'c, 'a> {
     pub plan: &'c Plan<'a>,
     pub first: &'c [usize],

@@ -12,7 +12,7 @@ use overlap::Known;
 use rules::leg::TimedLeg;
 
 /// A leg of a plan, with the chains of its links.
-#[derive(Clone, Copy)]
+#[derive(Drop)]
 struct ChainedLeg<'c, 'a> {
     leg: TimedLeg<'c, 'a>,
     first: &'c [usize],
@@ -28,6 +28,7 @@ impl<'c, 'a> ChainedLeg<'c, 'a> {
         ensures { (n ≤ result) × NextOn self.now.leg.plan.now (leg_at self.now.leg.plan.now self.now.leg.at).link n result }
     {
         let mut b = self.first[self.leg.frame.link as usize];
+        // Kept: nothing is counted; the loop follows the chain of a link.
         while b < n {
             b = self.next[b];
         }
@@ -47,6 +48,7 @@ impl<'c, 'a> ChainedLeg<'c, 'a> {
             divisor: mine.slot.period,
         };
         let mut b = start;
+        // Kept: nothing is counted; the loop follows the chain of a link.
         while b < m {
             let other = TimedLeg::of(self.leg.plan, b).sharer();
             known = overlap::known_with(known, mine.slot.period, other.slot.period);
@@ -106,6 +108,7 @@ pub fn judged_leg(chains: &Chains, a: usize, p: usize, limit: usize) -> Option<B
     };
     let n = whole_from(p);
     let mut q = p;
+    // Kept: nothing is counted; places of legs on other links are passed over at once.
     while q < limit {
         let s = chained.next_place(n, q, limit);
         if limit <= s {
