@@ -39,7 +39,7 @@ pub struct Entry {
     pub into: u64,
 }
 
-// Two slots, of whose first meeting can be told. A slot of overlap keeps no such fact: `slot_of` of rules builds it as a record.
+// Two slots of whose first meeting can be told. Slot keeps no such fact itself, since `slot_of` (rules) builds one as a record.
 // Kept: nobody compares or prints it, and each further derive is a function more to prove.
 #[derive(Clone, Copy)]
 struct Pair {
@@ -108,7 +108,7 @@ fn exchange(met: Option<Meeting>) -> Option<Meeting>
 
 /// Internal: the first meeting of two legs on one link; None if they never meet. It is the beginning of a repeat of one of them: the earlier of the first beginning of b while a holds the
 /// link, and the first beginning of a while b does.
-// Kept: a public call that takes two plain slots may not ask more of its callers; it makes a Pair of them at once.
+// Kept: docs/ARCHITECTURE.md names this crate, so a public call of it takes what it took: two plain slots, of which it makes Pairs at once.
 pub fn first_meeting(a: Slot, b: Slot) -> Option<Meeting>
     requires brief { Brief a }
     requires brief_2 { Brief b }
