@@ -1,4 +1,4 @@
--- Along the route: where a link is met, and how long after the first leg each leg starts. Assumes nothing.
+-- Along the route: how long after the first leg each leg starts. Assumes nothing.
 use Prim.Native.Nat.{ℕ, ◌+◌, ◌*◌, ◌≤◌, ◌<◌}
 use mathlib.Core.Path.{◌≡◌, refl, ◌∙◌, sym, ap, subst}
 use mathlib.Core.List.{List}
@@ -19,10 +19,6 @@ use Rattle.enlarge.proofs.Sending.{link_is}
 use Rattle.enlarge.proofs.Ranges.{wanted_in_range, wanted_sendable}
 use Rattle.enlarge.proofs.NewLegs.{start_first, start_next}
 use Rattle.admission.specs.Steps.{Ready, max_reach, AfterIs}
-
--- Not met on the first j links.
-pub record Unmet (route : List ℕ) (l j : ℕ) : Type 0 where
-  pub before : (i : ℕ) → i < j → get_or route i 0 ≡ l → ⊥
 
 -- Leg i starts at an instant, on the way to leg j.
 pub record Walked (t : List ℕ) (w : Wanted) (route : List ℕ) (j start i : ℕ) : Type 0 where

@@ -2,26 +2,20 @@
 ghost use Rattle.std.specs.Prelude.{◌≡◌, ◌+◌, ◌≤◌, ◌<◌, length};
 ghost use Rattle.table.specs.Layout.{leg_count};
 ghost use Rattle.table.specs.Records.{link_at};
-ghost use Rattle.rules.specs.Steps.{FrameOf, Timed};
+ghost use Rattle.rules.specs.Steps.{Timed};
 ghost use Rattle.rules.specs.Times.{hold_time};
 ghost use Rattle.offsets.specs.Conditions.{Holding, Says};
 ghost use Rattle.enlarge.specs.Steps.{Sendable};
-ghost use Rattle.admission.specs.Steps.{AfterIs, Asks, FirstMet, MetAt};
+ghost use Rattle.admission.specs.Steps.{AfterIs, Asks, MetAt};
 
 use crate::Candidate;
 use offsets::{Condition, StoredCondition};
-use rules::Frame;
 
 // Where a link is met on the route, if it is.
 fn met_at(route: &[u32], link: u32) -> Option<usize>
     ensures { MetAt route.now link result }
 {
-    for (j, on) in route.iter().enumerate() {
-        if *on == link {
-            return Some(j);
-        }
-    }
-    None
+    route.iter().position(|on| *on == link)
 }
 
 impl<'p> Candidate<'p> {
@@ -30,8 +24,8 @@ impl<'p> Candidate<'p> {
         requires { Sendable self.now.table self.now.wanted 0 link }
         ensures { Timed (hold_time self.now.wanted.octets (link_at self.now.table link).rate) result }
     {
-        let l = table::parts::link_in(table::parts::link_part(self.table), link as usize);
-        rules::times::hold_time(self.wanted.octets, l.rate)
+        let l = table::parts::link_in(table::parts::link_part(self.asked.table), link as usize);
+        rules::times::hold_time(self.asked.wanted.octets, l.rate)
     }
 
     // How long after the first leg leg j of the new stream starts; for the route's length, when its last frame has arrived.
@@ -40,8 +34,8 @@ impl<'p> Candidate<'p> {
         ensures { AfterIs self.now.table self.now.wanted self.now.route j result }
     {
         let mut start: u64 = 0;
-        for link in &self.route[..j] {
-            start = enlarge::sent_on(self.table, self.wanted, start, *link);
+        for link in &self.asked.route[..j] {
+            start = self.asked.sent_on(start, *link);
         }
         start
     }
@@ -51,25 +45,10 @@ impl<'p> Candidate<'p> {
         requires { j < length self.now.route }
         ensures { Says (Asks self.now.table self.now.wanted self.now.route (leg_count self.now.table + j)) result }
     {
-        let period = self.wanted.period as u64;
+        let period = self.asked.wanted.period as u64;
         let after = self.after_of(j);
-        let hold = self.hold_on(self.route[j]);
+        let hold = self.hold_on(self.asked.route[j]);
         offsets::window_condition(after, period, hold)
-    }
-
-    // What leg a of the table asks where new leg j is on its link: that the two never meet.
-    fn beside(&self, a: usize, leg: Frame, j: usize) -> Condition
-        requires a_bound { a < leg_count self.now.table }
-        requires frame_of { FrameOf self.now.table a leg }
-        requires first_met { FirstMet self.now.route leg.link j }
-        ensures { Says (Asks self.now.table self.now.wanted self.now.route a) result }
-    {
-        let period = self.wanted.period as u64;
-        let after = self.after_of(j);
-        let hold = self.hold_on(leg.link);
-        let other = rules::judge::sharer(self.table, a, leg).slot;
-        let g = overlap::gcd(other.period, period);
-        offsets::pair_condition(after, period, hold, other, g)
     }
 
     // What leg a of the table asks: that the new leg on its link, if there is one, never meets it.
@@ -77,31 +56,38 @@ impl<'p> Candidate<'p> {
         requires { a < leg_count self.now.table }
         ensures { Says (Asks self.now.table self.now.wanted self.now.route a) result }
     {
-        let leg = rules::times::frame(self.table, a);
-        match met_at(self.route, leg.link) {
-            Some(j) => self.beside(a, leg, j),
-            None => offsets::free_condition(),
-        }
+        let leg = rules::times::frame(self.asked.table, a);
+        let Some(j) = met_at(self.asked.route, leg.link) else {
+            return offsets::free_condition();
+        };
+        let period = self.asked.wanted.period as u64;
+        let after = self.after_of(j);
+        let hold = self.hold_on(leg.link);
+        let other = leg.slot();
+        let g = overlap::gcd(other.period, period);
+        offsets::pair_condition(after, period, hold, other, g)
     }
 
     // Keeps what the legs of the table ask, one after the other.
+    // Kept: no slice is gone over; the number of each leg is what is asked about.
     fn keep_old(&self, conditions: &mut [StoredCondition])
         requires { leg_count self.now.table ≤ length conditions.old }
         ensures { Holding conditions.new (leg_count self.now.table) (Asks self.now.table self.now.wanted self.now.route) × (length conditions.new ≡ length conditions.old) }
     {
-        for a in 0..self.table[table::LEGS_AT] as usize {
+        for a in 0..self.asked.table[table::LEGS_AT] as usize {
             offsets::keep(conditions, a, self.old_condition(a));
         }
     }
 
     // Keeps what the new legs ask, after those.
+    // Kept: no slice is gone over; the number of each new leg is what is asked about.
     fn keep_new(&self, conditions: &mut [StoredCondition])
         requires room { leg_count self.now.table + length self.now.route ≤ length conditions.old }
         requires holding { Holding conditions.old (leg_count self.now.table) (Asks self.now.table self.now.wanted self.now.route) }
         ensures { Holding conditions.new (leg_count self.now.table + length self.now.route) (Asks self.now.table self.now.wanted self.now.route) }
     {
-        let legs = self.table[table::LEGS_AT] as usize;
-        for j in 0..self.route.len() {
+        let legs = self.asked.table[table::LEGS_AT] as usize;
+        for j in 0..self.asked.route.len() {
             offsets::keep(conditions, legs + j, self.new_condition(j));
         }
     }

@@ -21,11 +21,12 @@ fn end_of(period: u32, last: u64, limit: u32) -> u64
 
 impl<'p> Candidate<'p> {
     // The least number from `from` on and below a limit at which all legs of the enlarged table have what they ask.
+    // Kept: the library allocates nothing, so the conditions and their order lie in arrays of fixed size.
     fn least_asked(&self, limit: u64, from: u64) -> Option<u64>
         requires { limit ≤ max_word }
         ensures { Searches (AllAsked self.now.table self.now.wanted self.now.route) limit from result }
     {
-        let count = self.table[table::LEGS_AT] as usize + self.route.len();
+        let count = self.asked.table[table::LEGS_AT] as usize + self.asked.route.len();
         let mut all = [offsets::FREE; table::MAX_LEGS];
         self.keep_all(&mut all);
         let conditions = &all[..count];
@@ -35,16 +36,16 @@ impl<'p> Candidate<'p> {
     }
 
     // The least first offset from `from` on and below a limit that fits. The deadline does not depend on it.
-    pub(crate) fn least(&self, limit: u32, from: u32) -> Option<u64>
+    pub(crate) fn least_offset(&self, limit: u32, from: u32) -> Option<u64>
         ensures { Searches (Fits self.now.table self.now.wanted self.now.route) limit from result }
     {
-        let links = self.route.len();
+        let links = self.asked.route.len();
         let arrived = self.after_of(links);
-        if (self.wanted.deadline as u64) < arrived {
+        if (self.asked.wanted.deadline as u64) < arrived {
             return None;
         }
         let last = self.after_of(links - 1);
-        let end = end_of(self.wanted.period, last, limit);
+        let end = end_of(self.asked.wanted.period, last, limit);
         self.least_asked(end, from as u64)
     }
 }

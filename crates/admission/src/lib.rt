@@ -6,7 +6,7 @@ ghost use Rattle.offsets.specs.Search.{LeastFrom};
 ghost use Rattle.admission.specs.Admits.{Admits, AdmitsBetween, Fits, MayAdmit};
 
 use basics::{Cause, Refusal};
-use enlarge::Wanted;
+use enlarge::{Request, Wanted};
 use std::marker::Model;
 
 mod conditions;
@@ -20,12 +20,10 @@ pub struct Admitted {
     pub words: usize,
 }
 
-// A stream that is wanted of an accepted table to which it can be added: its route is the numbers of its links, in order.
+// A stream that is asked for, of an accepted table to which it can be added.
 #[derive(Drop)]
 struct Candidate<'p> {
-    table: &'p [u32],
-    wanted: Wanted,
-    route: &'p [u32],
+    asked: Request<'p>,
 }
 
 impl<'p> Model for Candidate<'p> {
@@ -33,9 +31,9 @@ impl<'p> Model for Candidate<'p> {
 
     ghost Value = { Asked };
 
-    ghost view = { λ c. record { table = c.table.now; wanted = c.wanted; route = c.route.now } };
+    ghost view = { λ c. record { table = c.asked.table.now; wanted = c.asked.wanted; route = c.asked.route.now } };
 
-    ghost invariant = { λ c. Ready c.table.now c.wanted c.route.now };
+    ghost invariant = { λ c. Ready c.asked.table.now c.asked.wanted c.asked.route.now };
 }
 
 impl<'p> Candidate<'p> {
@@ -47,10 +45,10 @@ impl<'p> Candidate<'p> {
         ensures { AdmitsBetween self.now.table self.now.wanted self.now.route from until out.old (Ok (Some result)) out.new }
     {
         let offset = x as u32;
-        enlarge::lay_from(self.table, self.wanted, self.route, offset, out);
+        self.asked.lay_from(offset, out);
         Admitted {
             offset,
-            words: early::enlarged_words(self.table, self.route.len()),
+            words: early::enlarged_words(&self.asked),
         }
     }
 
@@ -59,8 +57,8 @@ impl<'p> Candidate<'p> {
         requires { MayAdmit self.now.table self.now.wanted self.now.route (length out.old) }
         ensures { AdmitsBetween self.now.table self.now.wanted self.now.route from until out.old result out.new }
     {
-        let period = self.wanted.period;
-        match self.least(period.min(until), from) {
+        let period = self.asked.wanted.period;
+        match self.least_offset(period.min(until), from) {
             Some(x) => Ok(Some(self.written(from, until, x, out))),
             None if until < period => Ok(None),
             None => Err(Cause::NoOffset.at(0)),
@@ -70,6 +68,7 @@ impl<'p> Candidate<'p> {
 
 /// A piece of an admission: only the first offsets from `from` up to but without `until` are looked at. Ok(None): none of them fits yet, and the period goes on
 /// after them. Errors: 1 to 7, 11, 20, 15, 19 and 18, in this order.
+// Kept: docs/CALLS.md names this call, which takes plain words.
 pub fn admit_between(
     t: &[u32],
     w: Wanted,
@@ -80,16 +79,17 @@ pub fn admit_between(
 ) -> Result<Option<Admitted>, Refusal>
     ensures { AdmitsBetween t.now w route.now from until out.old result out.new }
 {
-    early::judged(t, w, route, out.len())?;
-    let candidate = Candidate {
+    let asked = Request {
         table: t,
         wanted: w,
         route,
     };
-    candidate.looked(from, until, out)
+    early::judged(&asked, out.len())?;
+    Candidate { asked }.looked(from, until, out)
 }
 
 /// Admits one stream to an accepted table: its least first offset, and in the lent words the table with it. Never Ok(None). Errors: as admit_between.
+// Kept: docs/CALLS.md names this call, which takes plain words.
 pub fn admit(
     t: &[u32],
     w: Wanted,

@@ -2,13 +2,13 @@
 use Prim.Native.Nat.{ℕ, ◌+◌, ◌≤◌, ◌<◌}
 use mathlib.Core.Path.{◌≡◌, refl, ◌∙◌, sym, ap}
 use mathlib.Core.List.{List, [], ◌∷◌, ◌++◌, append_assoc, append-nil}
-use lib.ListN.{length, get_or, drop, length-append}
+use lib.ListN.{length, get_or, set, drop, length-append}
 use lib.Seq.{drop-cons, drop-length}
 use native.Mathlib.Nat.{add-zero}
 use native.Mathlib.Numerals.{add-one}
 use native.Mathlib.Omega.{arith}
 use Rattle.numbers.specs.Series.{overlaid}
-use Rattle.numbers.proofs.Overlay.{overlaid_none, overlaid_append, overlaid_length}
+use Rattle.numbers.proofs.Overlay.{overlaid_none, overlaid_append, overlaid_more, overlaid_length}
 use Rattle.enlarge.specs.Steps.{LaidTo}
 
 pub laid_long : {b : List ℕ} {at : ℕ} {xs : List ℕ} {next : ℕ} {b' : List ℕ} → LaidTo b at xs next b' → length b' ≡ length b
@@ -27,6 +27,16 @@ laid_then {xs = xs} {ys = ys} l m = record {
   ends = omega (arith, l.ends, m.ends, length-append xs ys);
   room = omega (arith, m.room, laid_long l);
   after = after_then ys l m.after;
+}
+
+-- One word.
+pub laid_word : (b : List ℕ) (at v : ℕ) → at < length b → LaidTo b at (v ∷ []) (at + 1) (set b at v)
+laid_word b at v h = record {
+  ends = refl;
+  room = omega arith;
+  after = ap (λ (x : List ℕ). set x at v) (sym (overlaid_none b at))
+      ∙ ap (λ (k : ℕ). set (overlaid b at []) k v) (sym (add-zero at))
+      ∙ overlaid_more b at [] v (omega arith);
 }
 
 -- The words whole are being laid over b from position at on, which made it out so far: rest is to come, from position next on.
@@ -73,3 +83,35 @@ module _ (l : List ℕ) (i : ℕ) where
 
   pub left_none : i ≤ length l → length l ≤ i → drop i l ≡ []
   left_none h k = let e : i ≡ length l = omega arith in rw e (drop-length l)
+
+-- Words copied one by one: i are done.
+pub record Copying (from b : List ℕ) (at : ℕ) (out : List ℕ) (i : ℕ) : Type 0 where
+  pub within : i ≤ length from
+  pub laying : Laying b at from (drop i from) out (at + i)
+
+pub copying_start : (from b : List ℕ) (at : ℕ) → at + length from ≤ length b → Copying from b at b 0
+copying_start from b at h = record { within = omega arith; laying = rw (add-zero at) (laying_start h) }
+
+module _ {from b : List ℕ} {at : ℕ} {out : List ℕ} {i : ℕ} (f : Copying from b at out i) where
+  pub copying_long : length out ≡ length b
+  copying_long = laying_long f.laying
+
+  module _ (more : i < length from) where
+    to_come : Laying b at from ((get_or from i 0 ∷ []) ++ drop (i + 1) from) out (at + i)
+    to_come = rw (left_on from i more) at f.laying
+
+    pub copying_room : at + i < length out
+    copying_room = omega (arith, laying_fits (get_or from i 0 ∷ []) (drop (i + 1) from) to_come refl)
+
+    pub copying_next : Copying from b at (set out (at + i) (get_or from i 0)) (i + 1)
+    copying_next =
+        let next : at + (i + 1) ≡ at + i + 1 = omega arith in
+        record {
+          within = omega arith;
+          laying = rw next (laying_more (get_or from i 0 ∷ []) (drop (i + 1) from) to_come refl (laid_word out (at + i) (get_or from i 0) copying_room));
+        }
+
+  pub copying_end : length from ≤ i → LaidTo b at from (at + length from) out
+  copying_end h =
+      let all : i ≡ length from = omega (arith, f.within) in
+      rw all at (laying_end (rw (left_none from i f.within h) at f.laying))

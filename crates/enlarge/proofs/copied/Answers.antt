@@ -1,12 +1,9 @@
--- `enlarge::copied` meets its contract: what lies before the words and after them is as it was. Assumes nothing.
-use Rattle.std.proofs.Common.{arith, ◌≡◌, ◌+◌, ◌-◌, length, refl}
-use Rattle.std.proofs.lemmas.List.{drop-drop}
-use Rattle.numbers.specs.Series.{overlaid}
+-- `enlarge::copied` meets its contract: the words passed are copied. Assumes nothing.
+use Rattle.enlarge.proofs.Laying.{copying_start, copying_next}
 use Rattle.enlarge.proofs.copied.Goals as goal
 
-pub returns : goal.returns
-unfolding overlaid
-returns c =
-    let at = c.args.at in
-    let size : at + length c.args.from.now - at ≡ length c.args.from.now = omega arith in
-    record { ends = refl; room = c.requires; after = rw (size, c.copy_from_slice.ensures.after, drop-drop) refl }
+pub loop-i-init : goal.loop-i-init
+loop-i-init c = search copying_start
+
+pub loop-i-preserved : goal.loop-i-preserved
+loop-i-preserved c = search copying_next
