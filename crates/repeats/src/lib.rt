@@ -94,7 +94,8 @@ impl Pair {
             return Some(self.beginning(e.first, e.second));
         }
         let rest = self.a.period - e.into;
-        let landing = landing::first_landing(self.b.period, self.a.period, rest, rest + (self.a.hold - 1))?;
+        let last = rest + (self.a.hold - 1);
+        let landing = landing::first_landing(self.b.period, self.a.period, rest, last)?;
         Some(self.beginning(e.first + 1 + landing.turns, e.second + landing.steps))
     }
 }
