@@ -10,6 +10,7 @@ use files::Cursor;
 const EVERY_PLACE: u32 = 4294967295;
 
 /// Internal: whether the rules hold of a well-formed table.
+// Kept: `Slices` asks for a well-formed table, which a Plan's guarantees alone do not say.
 pub fn rules_told(t: &[u32]) -> bool
     requires { WellFormedTable t.now }
     ensures { IsTrue result ↔ RulesHold t.now }

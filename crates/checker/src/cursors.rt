@@ -25,6 +25,7 @@ fn is_place_or_end(plan: &Plan, a: u32, p: u32) -> bool
 }
 
 /// The refusals 8 and 9 of a cursor of a well-formed plan.
+// Kept: CursorTold says that none of 1 to 7 is due, which a Plan's guarantees alone do not say.
 fn placed(plan: &Plan, c: Cursor) -> Result<(), Refusal>
     requires { WellFormedTable plan.now }
     ensures { CursorTold plan.now c result }
@@ -47,6 +48,7 @@ pub fn judged_cursor(t: &[u32], c: Cursor) -> Result<(), Refusal>
 }
 
 /// The refusals 10, 11 and 17 of a move, whose cursor is right.
+// Kept: CursorRight speaks of a cursor and of words that a move is to change, which a type that lends them would bar.
 fn allowed(t: &[u32], c: Cursor, mv: Move) -> Result<(), Refusal>
     requires { CursorRight t.now c }
     ensures { MoveTold t.now c mv result }
@@ -76,11 +78,7 @@ pub fn pulled_back(c: Cursor, revision: u32, leg: u32) -> Cursor
     ensures { PulledBack c revision leg result }
 {
     if c.leg < leg {
-        return Cursor {
-            revision,
-            leg: c.leg,
-            place: c.place,
-        };
+        return Cursor { revision, ..c };
     }
     Cursor {
         revision,

@@ -7,6 +7,7 @@ use files::Cursor;
 use places::chains::{Chains, NO_CHAIN};
 use shape::plan::Plan;
 
+// Kept: a Cursor goes to callers and comes back from files and C, so it cannot hold a fact about one table.
 /// Looks on leg by leg, with the chains of all legs: the slice stands at (a,p), and `left` is what is left of its budget.
 fn look_on(chains: &Chains, cursor: Cursor, budget: u32) -> SliceAnswer
     requires { CursorRight chains.now.plan.now cursor }
@@ -22,9 +23,9 @@ fn look_on(chains: &Chains, cursor: Cursor, budget: u32) -> SliceAnswer
         if let Some(broken) = places::leg::judged_leg(chains, a as usize, p, limit) {
             return SliceAnswer::Violated(
                 Cursor {
-                    revision: cursor.revision,
                     leg: a,
                     place: broken.place as u32,
+                    ..cursor
                 },
                 (budget as usize - left + (broken.place - p) + 1) as u32,
                 broken.rule,
@@ -33,9 +34,9 @@ fn look_on(chains: &Chains, cursor: Cursor, budget: u32) -> SliceAnswer
         if limit < end {
             return SliceAnswer::Paused(
                 Cursor {
-                    revision: cursor.revision,
                     leg: a,
                     place: limit as u32,
+                    ..cursor
                 },
                 budget,
             );
@@ -45,15 +46,16 @@ fn look_on(chains: &Chains, cursor: Cursor, budget: u32) -> SliceAnswer
     }
     SliceAnswer::NothingViolated(
         Cursor {
-            revision: cursor.revision,
             leg: legs,
             place: 0,
+            ..cursor
         },
         (budget as usize - left) as u32,
     )
 }
 
 /// Internal: a slice from a right cursor.
+// Kept: the library allocates nothing, so the chains lie in arrays of fixed size; a Cursor cannot hold a fact about one table.
 pub fn looked(t: &[u32], cursor: Cursor, budget: u32) -> SliceAnswer
     requires { CursorRight t.now cursor }
     ensures { Slices t.now cursor budget result }
