@@ -1,15 +1,14 @@
 // Whether a leg and a place are a place of a table.
 ghost use Rattle.basics.specs.Refusals.{Told};
-ghost use Rattle.shape.specs.Shape.{WellFormedTable};
 ghost use Rattle.margins.specs.Asking.{ask_refusals};
 
 use basics::{Cause, Refusal};
 
-// Refusal 9, or none, of a well-formed table.
-fn placed(t: &[u32], leg: u32, place: u32) -> Result<(), Refusal>
-    requires { WellFormedTable t.now }
+// The first of the refusals 1 to 7 and 9 that is due, or none.
+pub(crate) fn judged(t: &[u32], leg: u32, place: u32) -> Result<(), Refusal>
     ensures { Told (ask_refusals t.now leg place) result }
 {
+    shape::judged_shape(t)?;
     if t[table::LEGS_AT] <= leg {
         return Err(Cause::NoPlace.at(0));
     }
@@ -17,12 +16,4 @@ fn placed(t: &[u32], leg: u32, place: u32) -> Result<(), Refusal>
         return Err(Cause::NoPlace.at(0));
     }
     Ok(())
-}
-
-// The first of the refusals 1 to 7 and 9 that is due, or none.
-pub(crate) fn judged(t: &[u32], leg: u32, place: u32) -> Result<(), Refusal>
-    ensures { Told (ask_refusals t.now leg place) result }
-{
-    shape::judged_shape(t)?;
-    placed(t, leg, place)
 }

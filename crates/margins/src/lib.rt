@@ -92,7 +92,8 @@ pub fn nearest_at(t: &[u32], leg: u32, place: u32) -> Result<Nearest, Refusal>
     Ok(Leg::of(t, leg as usize).nearest(place as usize))
 }
 
-// A leg of a well-formed table, with its frame. (rules::TimedLeg does not say that its table is well-formed, which the moved leg's rules need.)
+// A leg of a well-formed table, with its frame.
+// Kept: rules::TimedLeg says Guarantees of its table alone, and where a moved leg stands (`same` of proofs/Standing.antt) rests on WellFormedTable.
 #[derive(Drop)]
 struct Leg<'p> {
     table: &'p [u32],

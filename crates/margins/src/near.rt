@@ -5,7 +5,8 @@ ghost use Rattle.rules.specs.Places.{places_of};
 ghost use Rattle.margins.specs.Nearest.{IsAbove, IsBelow, NearestOf};
 ghost use Rattle.margins.specs.Ranges.{Fits, Within};
 
-use crate::{Leg, Nearest, Range, turning};
+use crate::turning::Turn;
+use crate::{Leg, Nearest, Range};
 
 // The first number of a range above y.
 fn above(r: Range, y: u64) -> Option<u32>
@@ -17,7 +18,7 @@ fn above(r: Range, y: u64) -> Option<u32>
         return None;
     }
     let start = r.from.max(y + 1);
-    let x = start + turning::ahead(r.turn, start);
+    let x = start + Turn { condition: r.turn }.ahead(start);
     if x < r.end {
         return Some(x as u32);
     }
@@ -37,7 +38,7 @@ fn below(r: Range, y: u64) -> Option<u32>
     if end == 0 {
         return None;
     }
-    let w = turning::back(r.turn, end - 1);
+    let w = Turn { condition: r.turn }.back(end - 1);
     if r.from + w < end {
         return Some((end - 1 - w) as u32);
     }

@@ -4,17 +4,16 @@ ghost use Rattle.numbers.specs.Number.{max_word};
 ghost use Rattle.offsets.specs.Conditions.{Sound};
 ghost use Rattle.rules.specs.Times.{max_ready};
 ghost use Rattle.rules.specs.Places.{AskedOf};
-ghost use Rattle.rules.specs.Steps.{FrameOf};
 ghost use Rattle.rules.specs.declared.Asked.TheVariants as asked;
 ghost use Rattle.margins.specs.Moving.{Moving};
 ghost use Rattle.margins.specs.Ranges.{Among, Between, InWindow, LateFrom, RangeFor, StandsAt};
 
 use crate::{Leg, Range, turning};
 use offsets::Condition;
-use overlap::Slot;
-use rules::{Asked, Frame};
+use rules::Asked;
 
 // The numbers between that a condition allows.
+// Kept: `widened` (offsets) builds a Condition as a record, also one that is not sound, so Sound is no ghost field of it.
 fn among(from: u64, end: u64, q: Condition) -> Range
     requires from_le_max_ready { (from ≤ max_ready) × (end ≤ max_word) }
     requires sound { Sound q }
@@ -35,6 +34,7 @@ fn between(from: u64, end: u64) -> Range
     among(from, end, offsets::free_condition())
 }
 
+// Kept: as a ghost field it was tried: the check has no proof that WellFormedTable is a proposition. `moving` hands the invariant out in the words of the Value.
 impl<'p> Leg<'p> {
     // The first offset with which it does not keep its window.
     fn window_end(&self) -> u64
@@ -114,33 +114,18 @@ impl<'p> Leg<'p> {
         self.due_alone()
     }
 
-    // The overlap with a leg b of the same link.
-    fn apart(&self, b: usize, other: Frame) -> Range
-        requires b_lt_a { b < self.now.at }
-        requires frame_of { FrameOf self.now.table b other }
-        requires link_value { self.now.frame.link ≡ other.link }
-        ensures { RangeFor (StandsAt self.now.table self.now.at (asked.Overlap b)) result }
-    {
-        let f = self.frame;
-        let slot = Slot {
-            offset: other.offset,
-            period: other.period,
-            hold: other.hold,
-        };
-        let g = overlap::gcd(other.period, f.period);
-        let q = offsets::pair_condition(0, f.period, f.hold, slot, g);
-        among(0, self.window_end(), q)
-    }
-
     fn overlap_range(&self, b: usize) -> Range
         requires { b < self.now.at }
         ensures { RangeFor (StandsAt self.now.table self.now.at (asked.Overlap b)) result }
     {
+        let f = self.frame;
         let other = rules::times::frame(self.table, b);
-        if self.frame.link != other.link {
+        if f.link != other.link {
             return self.whole_range();
         }
-        self.apart(b, other)
+        let g = overlap::gcd(other.period, f.period);
+        let q = offsets::pair_condition(0, f.period, f.hold, other.slot(), g);
+        among(0, self.window_end(), q)
     }
 
     // The offsets with which it keeps its window and what is asked of it holds.

@@ -1,6 +1,6 @@
--- `margins::turning::ahead` meets its contract. Assumes nothing.
+-- `margins::turning::Turn::ahead` meets its contract. Assumes nothing.
 use Rattle.margins.proofs.TurnLaws.{ahead_late}
-use Rattle.margins.proofs.turning.ahead.Goals as goal
+use Rattle.margins.proofs.turning.Turn.ahead.Goals as goal
 
 pub returns-then-q-r : goal.returns-then-q-r
 returns-then-q-r c = search ahead_late

@@ -1,6 +1,6 @@
--- `margins::turning::back` meets its contract. Assumes nothing.
+-- `margins::turning::Turn::back` meets its contract. Assumes nothing.
 use Rattle.margins.proofs.TurnLaws.{back_early, back_late}
-use Rattle.margins.proofs.turning.back.Goals as goal
+use Rattle.margins.proofs.turning.Turn.back.Goals as goal
 
 pub returns-then-r-q : goal.returns-then-r-q
 returns-then-r-q c = search back_early
