@@ -20,6 +20,7 @@ pub enum Found {
 }
 
 /// Where a survey goes on after a violated place: at the next place, or at the end.
+// Kept: a Cursor goes to callers and comes back, so it cannot hold a fact about one table; RightAfter speaks of both.
 fn place_after(t: &[u32], at: Cursor) -> Cursor
     requires cursor_right { CursorRight t.now at }
     requires place { IsPlace t.now at.leg at.place }
@@ -27,19 +28,19 @@ fn place_after(t: &[u32], at: Cursor) -> Cursor
 {
     if (at.place as usize) + 1 < places::places_of(at.leg as usize) {
         return Cursor {
-            revision: at.revision,
-            leg: at.leg,
             place: at.place + 1,
+            ..at
         };
     }
     Cursor {
-        revision: at.revision,
         leg: at.leg + 1,
         place: 0,
+        ..at
     }
 }
 
 /// Internal: the next step of a survey, which looks at as many places as the budget says.
+// Kept: a Cursor goes to callers and comes back, so it cannot hold a fact about one table; `Finds` speaks of both.
 pub fn step(t: &[u32], from: Cursor, budget: u32) -> Found
     requires { CursorRight t.now from }
     ensures { Finds t.now from budget result }
