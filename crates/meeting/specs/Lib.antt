@@ -1,4 +1,3 @@
 pub mod Meets
-pub mod Steps
 pub mod Theorems
 pub mod AtNumbers
