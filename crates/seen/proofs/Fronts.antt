@@ -4,9 +4,10 @@ use Prim.Native.Nat.{ℕ, ◌+◌, ◌-◌, ◌≤◌, ◌<◌}
 use mathlib.Core.Path.{◌≡◌, refl, ◌∙◌, sym, ap}
 use mathlib.Core.List.{List, [], ◌∷◌, ◌++◌}
 use mathlib.Core.Logic.{inl, inr}
-use lib.ListN.{length, take, drop, length-drop, length-append}
+use lib.ListN.{length, drop, length-drop, length-append}
 use native.Mathlib.Omega.{arith}
 use Rattle.std.specs.Prelude.{None, ◌↔◌}
+use Rattle.std.proofs.lemmas.List.{append_assoc, append-nil, drop_at}
 use Rattle.basics.specs.declared.Cause.{Cause}
 use Rattle.numbers.specs.Number.{bytes_of, NoNumber}
 use Rattle.numbers.specs.Series.{file_of}
@@ -110,8 +111,11 @@ module _ (s : List ℕ) where
         let end : at ≡ mark_end = (number_once s mark_is (under_mark u)).1 in
         word_not_refused s mark_end e k u.word (under_edition u).stands (rw end at none)
 
-    pub front_read : {e next : ℕ} → NumberStands s at e next → (next ≤ length s) × Under s e (drop next s)
-    front_read second = (number_within s second, two_numbers s mark_is second)
+    pub front_within : {e next : ℕ} → NumberStands s at e next → next ≤ length s
+    front_within second = number_within s second
+
+    pub front_read : {e next : ℕ} → NumberStands s at e next → Under s e (drop next s)
+    front_read second = two_numbers s mark_is second
 
 -- s is kept under one edition and no other.
 pub named_other : (s : List ℕ) {d e : ℕ} {r : List ℕ} → Under s d r → (d ≡ e → ⊥) → (q : List ℕ) → Under s e q → ⊥
@@ -141,11 +145,15 @@ module _ (s : List ℕ) {e : ℕ} {r : List ℕ} (u : Under s e r) where
   pub none_only : Splits r None → (q : List ℕ) → OnlyUnder s e q → ⊥
   none_only none q k = none q [] (kept_after_front k.under k.kept)
 
--- The plan that was kept alone, where n bytes are to follow from next + at on.
-module _ (s : List ℕ) {e next at n : ℕ} (u : Under s e (drop next s)) (within : next ≤ length s) (start : at ≤ length (drop next s)) (room : n ≤ length (drop at (drop next s)))
-    (kept : Kept (drop next s) (take n (drop at (drop next s))) (drop n (drop at (drop next s)))) where
-  pub only_other : (length s - next - at ≡ n → ⊥) → (q : List ℕ) → OnlyUnder s e q → ⊥
-  only_other more q k =
-      let one = kept_once (drop next s) _ _ q [] kept (kept_after_front s u k.under k.kept) in
-      let none = ap length one.1 in
-      more (omega (arith, room, length-drop next s, length-drop at (drop next s), length-drop n (drop at (drop next s))))
+-- The plan that was kept alone is all that follows, and where another one follows it none was.
+module _ {s : List ℕ} {e : ℕ} {r p o : List ℕ} (u : Under s e r) (kept : Kept r p o) where
+  pub only_other : (o ≡ [] → ⊥) → (q : List ℕ) → OnlyUnder s e q → ⊥
+  only_other more q k = more (sym (kept_once r p o q [] kept (kept_after_front s u k.under k.kept)).1)
+
+  pub only_first : o ≡ [] → (length s - length p ≤ length s) × OnlyUnder s e (drop (length s - length p) s)
+  only_first none =
+      let alone = rw (none, append-nil p) at kept.whole in
+      let front = bytes_of mark ++ (bytes_of e ++ bytes_of (length p)) in
+      let whole : s ≡ front ++ p = rw (u.whole, alone, append_assoc (bytes_of mark) (bytes_of e ++ bytes_of (length p)) p, append_assoc (bytes_of e) (bytes_of (length p)) p) refl in
+      let at : length front ≡ length s - length p = omega (arith, ap length whole, length-append front p) in
+      (omega arith, record { rest = r; under = u; kept = rw (ap (drop (length s - length p)) whole ∙ drop_at front p _ at, sym none) kept })

@@ -1,25 +1,44 @@
 -- The number in front says where the first plan ends, and no other reading of what was seen is there. Assumes nothing.
 use Prim.Native.Nat.{ℕ, ◌+◌, ◌-◌, ◌≤◌, ◌<◌}
 use mathlib.Core.Path.{◌≡◌, refl, ◌∙◌, sym, ap}
-use mathlib.Core.List.{List, [], ◌++◌}
+use mathlib.Core.List.{List, [], ◌∷◌, ◌++◌}
 use mathlib.Core.Logic.{◌⊎◌, inl, inr, ⊎_elim}
 use lib.ListN.{length, take, drop, length-drop, length-append, take-append-drop}
 use lib.Seq.{take_all, take_at, drop_at, length-take-le}
 use native.Mathlib.Omega.{arith}
-use Rattle.std.specs.Prelude.{Result, Ok, Err, IsOk, ◌↔◌}
+use Rattle.std.specs.Prelude.{Result, Ok, Err, IsOk, Option, Some, None, MatchOption, false, ◌↔◌}
+use Rattle.std.specs.Result.{result_ok}
+use Rattle.std.specs.List.{IsSplitAt}
+use Rattle.std.proofs.Common.{◌==◌}
+use Rattle.std.specs.Borrow.{Bor}
 use Rattle.basics.specs.declared.Refusal.{Refusal}
 use Rattle.files.specs.Steps.{PlanTold}
 use Rattle.basics.specs.declared.Cause.{Cause}
 use Rattle.numbers.specs.Number.{bytes_of, NoNumber}
-use Rattle.numbers.specs.Calls.{NumberStands}
+use Rattle.numbers.specs.declared.Number.{Number}
+use Rattle.numbers.specs.Calls.{NumberStands, ReadsNumber}
 use Rattle.numbers.proofs.OneNumber.{same_word, word_not_refused}
 use Rattle.table.specs.declared.Edition.{Edition}
 use Rattle.files.proofs.OneAnswer.{file_no_fault}
-use Rattle.seen.specs.Seen.{Kept, Known, PlanFile, Copy, PlanParts}
+use Rattle.seen.specs.Seen.{Kept, Known, PlanFile, Copy, Splits}
 
 -- What is lent from a position on.
 pub after : (s : List ℕ) (at : ℕ) → at ≤ length s → take (length s - at) (drop at s) ≡ drop at s
 after s at h = take_all (length s - at) (drop at s) (omega (arith, length-drop at s))
+
+-- A number that is read or not, as an option of it tells.
+pub number_read : {s : List ℕ} {at : ℕ} (r : Result Number Refusal) {n : Number} → ReadsNumber s at r → Some n ≡ result_ok r → NumberStands s at n.value n.next
+number_read (Ok m) {n} h e = let one : n ≡ m = cc in rw one h
+number_read (Err d) h e = absurd (cc)
+
+pub number_none : {s : List ℕ} {at : ℕ} (r : Result Number Refusal) → ReadsNumber s at r → None ≡ result_ok r → (k : Cause) × NoNumber s at k
+number_none (Ok m) h e = absurd (cc)
+number_none (Err d) h e = (d.cause, h.1)
+
+-- What is not empty is no list without items.
+pub some_left : (o : List ℕ) → false ≡ (length o == 0) → o ≡ [] → ⊥
+some_left [] e z = absurd (cc)
+some_left (x ∷ xs) e z = absurd (cc)
 
 -- What comes after the number.
 plans_after : (s : List ℕ) {n next : ℕ} (h : NumberStands s 0 n next) → drop next s ≡ h.stands.rest
@@ -91,10 +110,12 @@ pub plan_told : (e : Edition) (s : List ℕ) (r : Result ℕ Refusal) → PlanTo
 plan_told e s (Ok n) (t, f, l) = (λ ok. (t, f), λ p. refl)
 plan_told e s (Err d) f = (λ ok. absurd (cc), λ p. absurd (file_no_fault p.1 f))
 
+-- What comes after the number is cut where it says: the two plans, or nothing was kept.
+pub split_told : {s rest : List ℕ} {n next : ℕ} (o : Option (Bor (List ℕ) × Bor (List ℕ)))
+    → NumberStands s 0 n next → rest ≡ drop next s → MatchOption o (length rest < n) (λ p. IsSplitAt rest n p.0.now p.1.now) → Splits s o
+split_told {s} {rest} {n} {next} None h e m = cut_kept s h (inr (omega (arith, length-drop next s, ap length e, m)))
+split_told {s} {rest} {n} {next} (Some p) h e m = rw (m.1, m.2, e) (kept_parts s h (rw e at m.0))
+
 -- Where a plan file stands in front and something after it, that tells.
-pub told_plans : (e : Edition) (s : List ℕ) (at : ℕ) {R : Type 0} → at ≤ length s → (at ≡ length s → ⊥)
-    → PlanFile e (take at s) → R ↔ PlanFile e (drop at s) → R ↔ PlanParts e s at
-told_plans e s at h more first told = (
-  λ r. (first, inr (told.0 r)),
-  λ x. ⊎_elim (λ (z : drop at s ≡ []). let l = ap length z in absurd (more (omega (arith, length-drop at s)))) told.1 x.1,
-)
+pub told_plans : {e : Edition} {f o : List ℕ} {R : Type 0} → PlanFile e f → (o ≡ [] → ⊥) → R ↔ PlanFile e o → R ↔ (PlanFile e f × ((o ≡ []) ⊎ PlanFile e o))
+told_plans first more told = (λ r. (first, inr (told.0 r)), λ x. ⊎_elim (λ z. absurd (more z)) told.1 x.1)

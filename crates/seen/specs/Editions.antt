@@ -1,11 +1,11 @@
 -- What was last seen, and the edition of the rules under which it was seen. The present edition is always an argument.
 use Rattle.std.specs.Prelude.{ℕ, ◌≤◌, ◌≡◌, List, [], ◌∷◌, ◌++◌, ◌⊎◌, length, drop, Result, Ok, Err, Option, Some, None}
+use Rattle.std.specs.Borrow.{Bor}
 use Rattle.basics.specs.declared.Refusal.{Refusal}
 use Rattle.numbers.specs.Number.{max_word, bytes_of}
 use Rattle.numbers.specs.Series.{file_of, Laid, TooSmall}
 use Rattle.table.specs.Layout.{current, first_layout}
 use Rattle.seen.specs.Seen.{Kept, Known, Copy}
-use Rattle.seen.specs.declared.Front.{Front}
 
 -- The number that stands before the edition, by which our file is known. What was kept before editions were named begins with how many bytes a plan file has, and none has
 -- so many. A plan file that somebody put in its place would begin so only at this very revision.
@@ -57,14 +57,14 @@ abbrev pub EditionTold : List ℕ → Option ℕ → Type 0
 EditionTold s (Some e) = OfEdition s e
 EditionTold s None = (e : ℕ) → OfEdition s e → ⊥
 
--- The edition that s names in front and the position after it; or s names none.
-abbrev pub FrontTold : List ℕ → Option Front → Type 0
-FrontTold s (Some f) = (f.next ≤ length s) × Under s f.edition (drop f.next s)
+-- The edition that s names in front and what comes after it; or s names none.
+abbrev pub FrontTold : List ℕ → Option (ℕ × Bor (List ℕ)) → Type 0
+FrontTold s (Some f) = Under s f.0 f.1.now
 FrontTold s None = (e : ℕ) (r : List ℕ) → Under s e r → ⊥
 
--- Where what was seen under this edition begins in s; or s is not kept under it.
-abbrev pub RestTold : List ℕ → ℕ → Option ℕ → Type 0
-RestTold s edition (Some next) = (next ≤ length s) × Under s edition (drop next s)
+-- What was seen under this edition in s; or s is not kept under it.
+abbrev pub RestTold : List ℕ → ℕ → Option (Bor (List ℕ)) → Type 0
+RestTold s edition (Some rest) = Under s edition rest.now
 RestTold s edition None = (r : List ℕ) → Under s edition r → ⊥
 
 -- The plan p was kept alone under this edition.

@@ -1,10 +1,10 @@
 -- What was last seen of a plan.
-use Rattle.std.specs.Prelude.{ℕ, ◌≤◌, ◌≡◌, List, [], ◌++◌, ◌⊎◌, length, take, drop, Option, Some, None}
+use Rattle.std.specs.Prelude.{ℕ, ◌≤◌, ◌≡◌, List, [], ◌++◌, ◌⊎◌, length, Option, Some, None}
+use Rattle.std.specs.Borrow.{Bor}
 use Rattle.numbers.specs.Number.{max_word, bytes_of}
 use Rattle.table.specs.Layout.{SizedIn}
 use Rattle.table.specs.declared.Edition.{Edition}
 use Rattle.files.specs.Reading.{IsFile}
-use Rattle.seen.specs.declared.Parts.{Parts}
 
 -- What was seen is how many bytes the first plan has, as a number, then that plan, then the other one or nothing.
 pub record Kept (s first other : List ℕ) : Type 0 where
@@ -17,10 +17,6 @@ pub record Known (s p : List ℕ) : Type 0 where
   pub other : List ℕ
   pub kept : Kept s first other
   pub is : (first ≡ p) ⊎ (other ≡ p)
-
--- Two plans stand in s, one after the other, and the first has so many bytes: p is one of the two.
-abbrev pub KnownParts : List ℕ → ℕ → List ℕ → Type 0
-KnownParts s at p = (take at s ≡ p) ⊎ (drop at s ≡ p)
 
 -- p is a plan file of the layout e.
 abbrev pub PlanFile : Edition → List ℕ → Type 0
@@ -35,11 +31,7 @@ pub record Copy (e : Edition) (s : List ℕ) : Type 0 where
   pub plan : PlanFile e first
   pub rest : (other ≡ []) ⊎ PlanFile e other
 
--- Two plans stand in s, one after the other, and the first has so many bytes: the first is a plan file, and the second is one or is empty.
-abbrev pub PlanParts : Edition → List ℕ → ℕ → Type 0
-PlanParts e s at = PlanFile e (take at s) × ((drop at s ≡ []) ⊎ PlanFile e (drop at s))
-
--- Where the first plan begins in s and how many bytes it has; or s does not have the form of what was seen.
-abbrev pub Splits : List ℕ → Option Parts → Type 0
-Splits s (Some p) = (p.at ≤ length s) × (p.size ≤ length (drop p.at s)) × Kept s (take p.size (drop p.at s)) (drop p.size (drop p.at s))
+-- The two plans that were kept in s; or s does not have the form of what was seen.
+abbrev pub Splits : List ℕ → Option (Bor (List ℕ) × Bor (List ℕ)) → Type 0
+Splits s (Some p) = Kept s p.0.now p.1.now
 Splits s None = (first other : List ℕ) → Kept s first other → ⊥

@@ -1,7 +1,6 @@
 -- `seen::is_copy` meets its contract: there is one front, and what comes after it tells. Assumes nothing.
-use Rattle.seen.proofs.Laws.{after}
 use Rattle.seen.proofs.Fronts.{rest_copied}
 use Rattle.seen.proofs.is_copy.Goals as goal
 
 pub returns : goal.returns
-returns c = rest_copied _ c.in-Some.ensures.1 (rw (after c.args.seen.now c.in-Some.next c.in-Some.ensures.0) at c.is_copy_in.ensures)
+returns c = rest_copied _ c.in-Some.ensures c.is_copy_in.ensures

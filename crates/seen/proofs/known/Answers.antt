@@ -1,7 +1,6 @@
 -- `seen::known` meets its contract: there is one front, and what comes after it tells. Assumes nothing.
-use Rattle.seen.proofs.Laws.{after}
 use Rattle.seen.proofs.Fronts.{rest_known}
 use Rattle.seen.proofs.known.Goals as goal
 
 pub returns : goal.returns
-returns c = rest_known _ c.in-Some.ensures.1 (rw (after c.args.seen.now c.in-Some.next c.in-Some.ensures.0) at c.known_in.ensures)
+returns c = rest_known _ c.in-Some.ensures c.known_in.ensures

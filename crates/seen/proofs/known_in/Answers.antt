@@ -1,6 +1,7 @@
 -- `seen::known_in` meets its contract: there is one way to split what was seen, and its parts tell. Assumes nothing.
-use Rattle.seen.proofs.Laws.{after, split_known}
+use Rattle.std.proofs.Common.{rules}
+use Rattle.seen.proofs.Laws.{split_known}
 use Rattle.seen.proofs.known_in.Goals as goal
 
-pub returns : goal.returns
-returns c = split_known c.in-Some.ensures.2 (rw (after c.args.seen.now c.in-Some.parts.at c.in-Some.ensures.0) at c.known_part.ensures)
+pub returns-else-same : goal.returns-else-same
+returns-else-same c = split_known c.in-Some.ensures (search rules)

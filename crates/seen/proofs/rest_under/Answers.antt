@@ -2,5 +2,5 @@
 use Rattle.seen.proofs.Fronts.{named_other}
 use Rattle.seen.proofs.rest_under.Goals as goal
 
-pub returns-then-front-edition : goal.returns-then-front-edition
-returns-then-front-edition c = named_other _ c.in_ok-front.ensures.1 c.if-front-edition.true
+pub returns-then-named-edition : goal.returns-then-named-edition
+returns-then-named-edition c = named_other _ c.in_ok-named.ensures c.if-named-edition.true
