@@ -70,7 +70,9 @@ impl<'p, 'a> TimedLeg<'p, 'a> {
     pub fn sharer(&self) -> Sharer
         ensures { SharerOf self.now.plan.now self.now.at result }
     {
-        judge::sharer(self.plan.words(), self.at, self.frame)
+        Sharer {
+            slot: self.frame.slot(),
+        }
     }
 
     /// Whether what is asked of it holds.
