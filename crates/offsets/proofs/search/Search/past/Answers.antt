@@ -1,7 +1,6 @@
 -- `offsets::search::Search::past` meets its contract: too early, too late, or allowed. Assumes nothing.
 use Rattle.std.proofs.Common.{rules}
 use Rattle.offsets.proofs.Waiting.{waits_early, waits_late}
-use Rattle.offsets.proofs.search.Search.past.Goals.{After-reduced-r}
 use Rattle.offsets.proofs.search.Search.past.Goals as goal
 
 pub moved-requires-clause-waits : goal.moved-requires-clause-waits
