@@ -33,6 +33,7 @@ fn lowest_broken(network: &Network, times: &[i64]) -> Option<usize>
 
 /// Tests times: returns the lowest constraint that they do not keep, or `None` where they keep every constraint, be they above zero or not, the latest or not.
 /// Event v has the v-th of them, counted from 0; an event past their end has no time, and a constraint that names it is not kept. Refuses with 27 or 16.
+// Kept: docs/CALLS.md names this call, which takes plain words.
 pub fn test_times(
     events: usize,
     constraints: &[i64],
@@ -44,12 +45,11 @@ pub fn test_times(
     Ok(lowest_broken(&network, times))
 }
 
-// The constraint that number a of a list names, if there is one.
-fn named_at(network: &Network, numbers: &[u32], a: usize) -> Option<Constraint>
-    requires { a < length numbers.now }
-    ensures { Names result network.now.events network.now.constraints.now numbers.now a }
+// The constraint that a number names, if there is one.
+fn named(network: &Network, number: u32) -> Option<Constraint>
+    ensures { Names result network.now.events network.now.constraints.now number }
 {
-    let k = numbers[a] as usize;
+    let k = number as usize;
     if k < network.size() {
         Some(network.constraint(k))
     } else {
@@ -61,36 +61,36 @@ fn named_at(network: &Network, numbers: &[u32], a: usize) -> Option<Constraint>
 fn is_chain(network: &Network, numbers: &[u32]) -> bool
     ensures { IsTrue result ↔ IsChain network.now.constraints.now numbers.now }
 {
-    if numbers.is_empty() {
-        return false;
-    }
-    let Some(begin) = named_at(network, numbers, 0) else {
+    let Some(first) = numbers.first() else {
         return false;
     };
-    let first = begin.from;
-    let mut seen = [0usize; network::MAX_EVENTS];
-    let mut at = first;
+    let Some(begin) = named(network, *first) else {
+        return false;
+    };
+    // Kept: the library allocates nothing, so the marks lie in an array of the largest size.
+    let mut seen = [false; network::MAX_EVENTS];
+    let mut at = begin.from;
     let mut sum: i64 = 0;
-    for a in 0..numbers.len() {
-        let Some(c) = named_at(network, numbers, a) else {
+    for number in numbers {
+        let Some(c) = named(network, *number) else {
             return false;
         };
-        let i = c.from;
-        if i != at {
+        if c.from != at {
             return false;
         }
-        if seen[i] != 0 {
+        if seen[c.from] {
             return false;
         }
-        seen[i] = a + 1;
+        seen[c.from] = true;
         sum = signed::sum(sum, c.most);
         at = c.to;
     }
-    at == first && sum < 0
+    at == begin.from && sum < 0
 }
 
 /// Tests a chain: returns whether the constraints with these numbers, at least one and in this order, are linked and closed, meet no event twice and have a
 /// negative sum. Refuses with 27 or 16.
+// Kept: docs/CALLS.md names this call, which takes plain words.
 pub fn test_chain(events: usize, constraints: &[i64], numbers: &[u32]) -> Result<bool, Refusal>
     ensures { TestsChain events constraints.now numbers.now result }
 {

@@ -2,5 +2,5 @@
 use Rattle.claims.specs.Steps.{Linked}
 use Rattle.claims.proofs.is_chain.Given as goal
 
-abbrev pub invariant-loop-a : goal.invariant-loop-a
-invariant-loop-a l = Linked l.network.events l.network.constraints.now l.numbers l.a l.at l.first l.sum l.seen
+abbrev pub invariant-loop-number : goal.invariant-loop-number
+invariant-loop-number l = Linked l.network.events l.network.constraints.now l.numbers l.number-index l.at l.begin.from l.sum l.seen
