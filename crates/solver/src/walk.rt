@@ -14,7 +14,8 @@ pub struct Turn {
     pub len: usize,
 }
 
-// One step back from event x.
+// One step back from event x. An event's mark is the number of the step that left it, counted from 1, and 0 before.
+// Kept: an `Option` for a mark would hold the same number beside a case more; `Walked` (specs/Walks.antt) takes marks as numbers.
 fn back(
     network: &Network,
     by: &[u32; network::MAX_EVENTS],
@@ -48,7 +49,7 @@ fn walk_back(
 {
     let mut x = v;
     let mut k: usize = 0;
-    // no for: the walk ends where it meets an event again
+    // Kept: no index is counted to an end; the walk ends where it meets an event again.
     while seen[x] == 0 {
         x = back(network, by, k, x, path, seen);
         k = k + 1;
@@ -70,6 +71,7 @@ pub fn chain_from(
     requires events_in_bounds { network.now.events ≤ length chain.old }
     ensures { GivesChain network.now.events network.now.constraints.now result chain.old chain.new }
 {
+    // Kept: the library allocates nothing, so the path and the marks lie in arrays of the largest size.
     let mut path = [0u32; network::MAX_EVENTS];
     let mut seen = [0usize; network::MAX_EVENTS];
     let Turn { start, len } = walk_back(network, by, v, &mut path, &mut seen);

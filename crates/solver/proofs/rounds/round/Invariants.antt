@@ -5,4 +5,4 @@ use Rattle.solver.proofs.rounds.round.Given as goal
 
 abbrev pub invariant-loop-k : goal.invariant-loop-k
 invariant-loop-k l =
-    Stands l.network.events l.network.constraints.now l.base l.k l.times l.ticks l.by × Last l.last l.network.events l.base (numbers_of l.ticks)
+    Stands l.network.events l.network.constraints.now l.base l.k l.lowered.times l.lowered.ticks l.lowered.by × Last l.last l.network.events l.base (numbers_of l.lowered.ticks)
