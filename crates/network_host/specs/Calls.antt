@@ -16,17 +16,19 @@ refused_result k = 100 + k
 abbrev pub verdict : ℕ → ℕ → Verdict
 verdict r n = record { result = r; number = n }
 
+-- 0, where times are given or kept; r, with a number, where something else was found; or a refusal, with its position.
+abbrev pub found_verdict : ℕ → Result (Option ℕ) Refusal → Verdict
+found_verdict r (Ok None) = verdict 0 0
+found_verdict r (Ok (Some k)) = verdict r k
+found_verdict r (Err e) = verdict (refused_result (number_of e.cause)) e.at
+
 -- Solving: 0 times; 1 a chain, with its length; or a refusal, with its position.
 abbrev pub outcome_verdict : Result (Option ℕ) Refusal → Verdict
-outcome_verdict (Ok None) = verdict 0 0
-outcome_verdict (Ok (Some l)) = verdict 1 l
-outcome_verdict (Err e) = verdict (refused_result (number_of e.cause)) e.at
+outcome_verdict o = found_verdict 1 o
 
 -- The test of times: 0 kept; 2 not, with the lowest constraint that is not kept; or a refusal, with its position.
 abbrev pub times_verdict : Result (Option ℕ) Refusal → Verdict
-times_verdict (Ok None) = verdict 0 0
-times_verdict (Ok (Some k)) = verdict 2 k
-times_verdict (Err e) = verdict (refused_result (number_of e.cause)) e.at
+times_verdict t = found_verdict 2 t
 
 -- The test of a chain: 1 a chain; 3 none; or a refusal, with its position.
 abbrev pub chain_verdict : Result Bool Refusal → Verdict

@@ -4,22 +4,27 @@
 ghost use Rattle.network_host.specs.Calls.{HostSolves, HostTestsTimes, HostTestsChain};
 ghost use Rattle.std.specs.Prelude.{◌≡◌};
 ghost use Rattle.basics.specs.Cause.{number_of};
-ghost use Rattle.network_host.specs.Calls.{verdict, outcome_verdict, times_verdict, chain_verdict, refused_result};
+ghost use Rattle.network_host.specs.Calls.{verdict, found_verdict, chain_verdict, refused_result};
 ghost use Rattle.network_host.specs.Steps.{Small, NumberSmall, ChainSmall};
 
 use basics::Refusal;
 
 // The results: times, a chain, times that break a constraint, and no chain; and what is added to a refusal's number.
+// Kept: C's number of this result.
 const TIMES: u32 = 0;
 
+// Kept: C's number of this result.
 const CHAIN: u32 = 1;
 
+// Kept: C's number of this result.
 const BROKEN: u32 = 2;
 
+// Kept: C's number of this result.
 const NO_CHAIN: u32 = 3;
 
 const REFUSED: u32 = 100;
 
+// Kept: C gets this struct as it is laid out, with an array of this size; nobody compares or prints it.
 /// What C gets of solving, laid out as the struct in the header: a result, a number beside it, and the times.
 #[repr(C)]
 #[derive(Clone, Copy)]
@@ -37,6 +42,7 @@ pub struct Verdict {
     pub number: u32,
 }
 
+// Kept: no `From`, which could not require that 32 bits hold the position of the refusal.
 fn refused(refusal: Refusal) -> Verdict
     requires { Small (number_of refusal.cause) refusal.at }
     ensures { result ≡ verdict (refused_result (number_of refusal.cause)) refusal.at }
@@ -47,35 +53,19 @@ fn refused(refusal: Refusal) -> Verdict
     }
 }
 
-fn of_outcome(outcome: Result<Option<usize>, Refusal>) -> Verdict
-    requires { NumberSmall outcome }
-    ensures { result ≡ outcome_verdict outcome }
+// Times, or what was found in their place, which is a result of its own, with its number.
+fn of_found(found: Result<Option<usize>, Refusal>, other: u32) -> Verdict
+    requires { NumberSmall found }
+    ensures { result ≡ found_verdict other found }
 {
-    match outcome {
+    match found {
         Ok(None) => Verdict {
             result: TIMES,
             number: 0,
         },
-        Ok(Some(length)) => Verdict {
-            result: CHAIN,
-            number: length as u32,
-        },
-        Err(refusal) => refused(refusal),
-    }
-}
-
-fn of_times(test: Result<Option<usize>, Refusal>) -> Verdict
-    requires { NumberSmall test }
-    ensures { result ≡ times_verdict test }
-{
-    match test {
-        Ok(None) => Verdict {
-            result: TIMES,
-            number: 0,
-        },
-        Ok(Some(k)) => Verdict {
-            result: BROKEN,
-            number: k as u32,
+        Ok(Some(number)) => Verdict {
+            result: other,
+            number: number as u32,
         },
         Err(refusal) => refused(refusal),
     }
@@ -99,11 +89,12 @@ fn of_chain(test: Result<bool, Refusal>) -> Verdict
 }
 
 /// Solves a network: the latest times, or a chain in the first of the lent words.
+// Kept: C's call (include/conepalhui-network.h), which takes plain numbers.
 pub fn conepalhui_network(events: usize, constraints: &[i64], chain: &mut [u32]) -> NetworkAnswer
     ensures { HostSolves events constraints.now chain.old result chain.new }
 {
     let solved = solver::solve(events, constraints, chain);
-    let verdict = of_outcome(solved.outcome);
+    let verdict = of_found(solved.outcome, CHAIN);
     let times = solved.times;
     NetworkAnswer {
         result: verdict.result,
@@ -113,13 +104,15 @@ pub fn conepalhui_network(events: usize, constraints: &[i64], chain: &mut [u32])
 }
 
 /// Tests times, whoever made them.
+// Kept: C's call (include/conepalhui-network.h), which takes plain numbers.
 pub fn conepalhui_network_times(events: usize, constraints: &[i64], times: &[i64]) -> Verdict
     ensures { HostTestsTimes events constraints.now times.now result }
 {
-    of_times(claims::test_times(events, constraints, times))
+    of_found(claims::test_times(events, constraints, times), BROKEN)
 }
 
 /// Tests a chain, whoever made it.
+// Kept: C's call (include/conepalhui-network.h), which takes plain numbers.
 pub fn conepalhui_network_chain(events: usize, constraints: &[i64], numbers: &[u32]) -> Verdict
     ensures { HostTestsChain events constraints.now numbers.now result }
 {
