@@ -54,6 +54,7 @@ pub fn step(t: &[u32], from: Cursor, budget: u32) -> Found
         ),
         SliceAnswer::Paused(at, _) => Found::Paused(at),
         SliceAnswer::NothingViolated(end, _) => Found::Over(end),
+        // Kept: `Slices` speaks of SliceAnswer with its four cases; that this one never comes here is proved.
         SliceAnswer::Refused(_, _) => unreachable!(),
     }
 }
