@@ -5,17 +5,12 @@ use mathlib.Core.List.{List}
 use lib.ListN.{length, get_or, take}
 use lib.Seq.{get_or-take, length-take-le}
 use native.Mathlib.Omega.{arith}
-use Rattle.table.specs.Records.{link_part, link_in, link_at}
-use Rattle.table.specs.declared.Link.{Link}
 use Rattle.shape.specs.Guarantees.{Guarantees}
 use Rattle.shape.proofs.Placed.{well_formed_guarantees}
-use Rattle.rules.specs.Times.{hold_time}
-use Rattle.rules.specs.Steps.{Timed}
 use Rattle.enlarge.specs.Enlarged.{sent_on}
 use Rattle.enlarge.specs.Reads.{start_at}
 use Rattle.enlarge.specs.Steps.{max_hop, WantedInRange, Sendable, Sent}
 use Rattle.enlarge.specs.declared.Wanted.{Wanted}
-use Rattle.enlarge.proofs.Sending.{link_is}
 use Rattle.enlarge.proofs.Ranges.{wanted_in_range, wanted_sendable}
 use Rattle.enlarge.proofs.NewLegs.{start_first, start_next}
 use Rattle.admission.specs.Steps.{Ready, max_reach, AfterIs}
@@ -75,8 +70,3 @@ module _ {t : List ℕ} {w : Wanted} {route : List ℕ} {j start i : ℕ} (s : W
         is = s.is ∙ ap (start_at t w 0 route) (let e : i ≡ j = omega (arith, s.upto) in e);
         small = omega (arith, s.small, s.upto, s.inside, (in_range s.ready).stream.count_to);
       }
-
--- The hold time of a link that was read.
-pub held : {t links : List ℕ} {w : Wanted} {start l n : ℕ} {link : Link} {r : ℕ}
-    → Sendable t w start l → links ≡ link_part t → n ≡ l → link ≡ link_in links n → Timed (hold_time w.octets link.rate) r → Timed (hold_time w.octets (link_at t l).rate) r
-held {w = w} {r = r} s of names is timed = subst (λ (k : Link). Timed (hold_time w.octets k.rate) r) (link_is s of names is) timed

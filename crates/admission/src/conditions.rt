@@ -10,6 +10,7 @@ ghost use Rattle.admission.specs.Steps.{AfterIs, Asks, MetAt};
 
 use crate::Candidate;
 use offsets::{Condition, StoredCondition};
+use shape::plan::Plan;
 
 // Where a link is met on the route, if it is.
 fn met_at(route: &[u32], link: u32) -> Option<usize>
@@ -24,8 +25,8 @@ impl<'p> Candidate<'p> {
         requires { Sendable self.now.table self.now.wanted 0 link }
         ensures { Timed (hold_time self.now.wanted.octets (link_at self.now.table link).rate) result }
     {
-        let l = table::parts::link_in(table::parts::link_part(self.asked.table), link as usize);
-        rules::times::hold_time(self.asked.wanted.octets, l.rate)
+        let link = Plan::of(self.asked.table).link(link as usize);
+        rules::times::hold_time(self.asked.wanted.octets, link.rate)
     }
 
     // How long after the first leg leg j of the new stream starts; for the route's length, when its last frame has arrived.

@@ -7,6 +7,8 @@ ghost use Rattle.table.specs.Layout.{stream_words, leg_words};
 ghost use Rattle.enlarge.specs.Enlarged.{grown, legs_at_zero, legs_from, without_times, enlarged};
 ghost use Rattle.enlarge.specs.Steps.{LaidTo, Addable, Sendable, Sent, Sends, LegsRoom};
 
+use shape::plan::Plan;
+
 /// What is wanted of a new stream: its period and its deadline in ns, and the octets of its frames.
 #[derive(Clone, Copy, Debug, PartialEq, Eq)]
 pub struct Wanted {
@@ -49,11 +51,10 @@ impl<'p> Request<'p> {
         requires { Sendable self.now.table.now self.now.wanted start l }
         ensures { Sent self.now.table.now self.now.wanted start l result }
     {
-        let link = table::parts::link_in(table::parts::link_part(self.table), l as usize);
-        let arrived = start
-            + rules::times::wire_time(self.wanted.octets, link.rate)
-            + link.propagation as u64;
-        arrived + self.table[table::PRECISION_AT] as u64
+        let plan = Plan::of(self.table);
+        let link = plan.link(l as usize);
+        let wire = rules::times::wire_time(self.wanted.octets, link.rate);
+        start + wire + link.propagation as u64 + plan.precision() as u64
     }
 
     // Lays all that comes before the new legs, and returns the position after it.
@@ -84,6 +85,7 @@ impl<'p> Request<'p> {
     }
 
     // Lays the new legs, all at offset 0 and none late, from a position on.
+    // Kept: no twin of lay_legs_from, which divides by the period: here nothing of what is wanted is judged yet, and the period may be 0.
     fn lay_legs_at_zero(&self, out: &mut [u32], at: usize)
         requires { LegsRoom self.now.table.now self.now.route.now at (length out.old) }
         ensures { out.new ≡ overlaid out.old at (legs_at_zero self.now.table.now self.now.route.now) }
