@@ -30,7 +30,7 @@ use Rattle.host.specs.declared.Answer.{Answer}
 use Rattle.host.specs.declared.admit.AdmissionAnswer.{AdmissionAnswer}
 use Rattle.host.specs.Calls.{WritesFile}
 use Rattle.host.specs.Admissions.{admission, unadmitted, AdmitsTable, HostAdmitsBetween}
-use Rattle.host.specs.Steps.{SmallUnadmitted, OwnRoom}
+use Rattle.host.specs.Steps.{Small, OwnRoom}
 use Rattle.host.proofs.Laws.{plan_fault_small, table_small}
 use Rattle.host.proofs.Steps.{read_front, read_fault}
 
@@ -63,14 +63,14 @@ module _ (t : List ℕ) (w : Wanted) (route : List ℕ) {bytes own : ℕ} (room 
   told_anyway from until (Err d) (inr (m, f)) = inr (may_anyway m, f)
 
 -- The number and the position of a refusal are small.
-early_small : (t : List ℕ) (w : Wanted) (route : List ℕ) (room : ℕ) (k : Cause) (p : ℕ) → (early_refusals t w route room).Fault k p → SmallUnadmitted k p
-early_small t w route room k p (inl f) = let s = table_small (shape_of_table t k p f) in record { number = omega (arith, s.number); position = s.position }
+early_small : (t : List ℕ) (w : Wanted) (route : List ℕ) (room : ℕ) (k : Cause) (p : ℕ) → (early_refusals t w route room).Fault k p → Small k p
+early_small t w route room k p (inl f) = table_small (shape_of_table t k p f)
 early_small t w route room k p (inr (s, inl f)) = record { number = omega (arith, ap number_of f.0); position = omega (arith, f.1) }
 early_small t w route room k p (inr (s, inr (r, inl f))) = record { number = omega (arith, ap number_of f.0); position = omega (arith, f.1) }
 early_small t w route room k p (inr (s, inr (r, inr (c, inl f)))) = record { number = omega (arith, ap number_of f.0); position = omega (arith, f.1) }
 early_small t w route room k p (inr (s, inr (r, inr (c, inr (h, f))))) = record { number = omega (arith, ap number_of f.0); position = omega (arith, f.1) }
 
-refused_small : (t : List ℕ) (w : Wanted) (route : List ℕ) (room from until : ℕ) (k : Cause) (p : ℕ) → PieceTold t w route room from until (refused k p) → SmallUnadmitted k p
+refused_small : (t : List ℕ) (w : Wanted) (route : List ℕ) (room from until : ℕ) (k : Cause) (p : ℕ) → PieceTold t w route room from until (refused k p) → Small k p
 refused_small t w route room from until k p (inl f) = early_small t w route room k p f
 refused_small t w route room from until k p (inr (m, f)) = record { number = omega (arith, ap number_of f.0); position = omega (arith, f.1) }
 
@@ -79,7 +79,7 @@ module _ (t : List ℕ) (w : Wanted) (route : List ℕ) (from until : ℕ) (own 
   this_given : (a : Admission) → given ≡ a → AdmitsBetween t w route from until own given own' → AdmitsBetween t w route from until own a own'
   this_given a e h = subst (λ (b : Admission). AdmitsBetween t w route from until own b own') e h
 
-  pub unadmitted_small : {q : Refusal} → given ≡ Err q → AdmitsBetween t w route from until own given own' → SmallUnadmitted q.cause q.at
+  pub unadmitted_small : {q : Refusal} → given ≡ Err q → AdmitsBetween t w route from until own given own' → Small q.cause q.at
   unadmitted_small {q} e h = refused_small t w route (length own) from until q.cause q.at (this_given (Err q) e h).answer
 
   module _ {file : List ℕ} (room : OwnRoom (length file) (length own)) where
@@ -142,8 +142,8 @@ module _ (t : List ℕ) (w : Wanted) (route : List ℕ) (from until : ℕ) (own 
 
 -- A plan file was read, or is refused.
 module _ (s v : List ℕ) {r : Result ℕ Refusal} where
-  pub plan_unadmitted_small : {q : Refusal} → r ≡ Err q → TakesPlan s r v → SmallUnadmitted q.cause q.at
-  plan_unadmitted_small {q} e h = let s = plan_fault_small s q.cause q.at (read_fault s v e h) in record { number = omega (arith, s.number); position = s.position }
+  pub plan_unadmitted_small : {q : Refusal} → r ≡ Err q → TakesPlan s r v → Small q.cause q.at
+  plan_unadmitted_small {q} e h = plan_fault_small s q.cause q.at (read_fault s v e h)
 
   module _ (w : Wanted) (route : List ℕ) (from until : ℕ) {file : List ℕ} {a : AdmissionAnswer} where
     pub plan_unadmitted : {q : Refusal} → r ≡ Err q → TakesPlan s r v → a ≡ unadmitted q.cause q.at → HostAdmitsBetween s w route from until file a file

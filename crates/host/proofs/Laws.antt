@@ -2,18 +2,17 @@
 use Prim.Native.Nat.{ℕ, ◌≤◌}
 use mathlib.Core.Path.{◌≡◌, refl, ◌∙◌, sym, ap}
 use mathlib.Core.List.{List, [], ◌∷◌}
-use mathlib.Core.Logic.{inl, inr, ⊎_elim}
+use mathlib.Core.Logic.{inl, inr}
 use native.Mathlib.Omega.{arith}
 use lib.ListN.{length, get_or}
 use Rattle.basics.specs.Cause.{number_of}
 use Rattle.basics.specs.declared.Cause.{Cause}
 use Rattle.basics.specs.declared.Cause.TheVariants as cause
-use Rattle.numbers.specs.Number.{NoNumber}
 use Rattle.numbers.specs.Series.{Row}
 use Rattle.numbers.proofs.Rows.{file_length}
 use Rattle.table.specs.Layout.{max_table_words, current, first_layout, words_in, LimitsIn}
 use Rattle.table.specs.declared.Edition.{Edition}
-use Rattle.shape.specs.OfTables.{max_refusal, OfTable}
+use Rattle.shape.specs.OfTables.{OfTable}
 use Rattle.files.specs.Plan.{PlanDueIn, PlanFaultIn, PlanFault}
 use Rattle.files.specs.Theorems.{max_file_bytes}
 use Rattle.host.specs.Refusals.{CursorUnread}
@@ -80,9 +79,6 @@ number_small cause.TooManyPairs = omega arith
 number_small cause.NoLink = omega arith
 number_small cause.TooLarge = omega arith
 
-no_number_small : (s : List ℕ) (p : ℕ) (k : Cause) → NoNumber s p k → number_of k ≤ max_refusal
-no_number_small s p k n = ⊎_elim (λ x. omega (arith, ap number_of x.0)) (λ x. omega (arith, ap number_of x.0)) n
-
 -- So many numbers end within the largest file.
 row_end : (s ws : List ℕ) (p : ℕ) → Row s 0 ws p → length ws ≤ max_table_words → p ≤ max_file_bytes
 row_end s ws p r h = omega (arith, r.ends, file_length ws)
@@ -94,11 +90,11 @@ module _ (e : Edition) (few : (ws : List ℕ) → LimitsIn e ws → words_in e w
   due_few ws (inr x) = omega (arith, few ws x.0, x.1)
 
   fault_small : (s : List ℕ) (k : Cause) (p : ℕ) → PlanFaultIn e s k p → Small k p
-  fault_small s k p (inl c) = record { number = no_number_small s p k c.no_number; position = row_end s c.ws p c.row (due_few c.ws c.due) }
-  fault_small s k p (inr (inl x)) = record { number = omega (arith, ap number_of x.0); position = omega (arith, x.1) }
+  fault_small s k p (inl c) = record { number = number_small k; position = row_end s c.ws p c.row (due_few c.ws c.due) }
+  fault_small s k p (inr (inl x)) = record { number = number_small k; position = omega (arith, x.1) }
   fault_small s k p (inr (inr x)) =
       let o = x.1 in
-      record { number = omega (arith, ap number_of x.0); position = row_end s o.ws p o.row (omega (arith, o.complete.exact, few o.ws o.complete.limits)) }
+      record { number = number_small k; position = row_end s o.ws p o.row (omega (arith, o.complete.exact, few o.ws o.complete.limits)) }
 
 pub plan_fault_small : (s : List ℕ) (k : Cause) (p : ℕ) → PlanFault s k p → Small k p
 plan_fault_small = fault_small current (λ ws l. omega (arith, l.links, l.streams, l.legs))
@@ -107,9 +103,9 @@ pub first_fault_small : (s : List ℕ) (k : Cause) (p : ℕ) → PlanFaultIn fir
 first_fault_small = fault_small first_layout (λ ws l. omega (arith, l.links, l.streams, l.legs))
 
 pub cursor_file_small : (s : List ℕ) (k : Cause) (p : ℕ) → CursorUnread s k p → Small k p
-cursor_file_small s k p (inl c) = record { number = no_number_small s p k c.no_number; position = row_end s c.ws p c.row (omega (arith, c.due)) }
+cursor_file_small s k p (inl c) = record { number = number_small k; position = row_end s c.ws p c.row (omega (arith, c.due)) }
 cursor_file_small s k p (inr x) =
-    let o = x.1 in record { number = omega (arith, ap number_of x.0); position = row_end s o.ws p o.row (omega (arith, o.complete)) }
+    let o = x.1 in record { number = number_small k; position = row_end s o.ws p o.row (omega (arith, o.complete)) }
 
 pub table_small : {k : Cause} {p : ℕ} → OfTable k p → Small k p
-table_small o = record { number = o.small; position = omega (arith, o.position) }
+table_small {k} o = record { number = number_small k; position = omega (arith, o.position) }

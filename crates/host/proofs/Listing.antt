@@ -10,13 +10,11 @@ use mathlib.Core.Path.{◌≡◌, refl, ◌∙◌, ap, subst}
 use mathlib.Core.List.{List}
 use mathlib.Core.Logic.{◌⊎◌, inl, inr}
 use native.Mathlib.Omega.{arith}
-use lib.ListN.{length, take}
+use lib.ListN.{length}
 use borrow.Author.Tests.{lt-ltb, le-ltb}
 use Rattle.basics.specs.Pick.{pick}
 use Rattle.numbers.specs.Number.{max_word}
 use Rattle.numbers.proofs.Rows.{file_length}
-use Rattle.files.specs.Plan.{TakesPlan}
-use Rattle.files.specs.Theorems.{max_file_bytes}
 use Rattle.shape.specs.Shape.{ShapeFault}
 use Rattle.shape.proofs.Refused.{shape_of_table}
 use Rattle.gates.specs.Pairs.{max_pairs}
@@ -27,9 +25,9 @@ use Rattle.gate_lists.specs.Theorems.{max_list_bytes}
 use Rattle.gate_lists.proofs.OneAnswer.{one_gate_list}
 use Rattle.host.specs.declared.Answer.{Answer}
 use Rattle.host.specs.Answers.{answered, refusal}
-use Rattle.host.specs.GateLists.{ListsGates, HostListsGates, in_word, HostReadsGates}
+use Rattle.host.specs.GateLists.{ListsGates, in_word, HostReadsGates}
+use Rattle.host.specs.Steps.{Small}
 use Rattle.host.proofs.Laws.{table_small}
-use Rattle.host.proofs.Steps.{read_front, unread_refused}
 
 -- A number as a word holds it.
 pub in_word_small : (n : ℕ) → n ≤ max_word → in_word n ≡ n
@@ -55,9 +53,9 @@ of_list_small k (inl x) = omega (arith, x)
 of_list_small k (inr (inl x)) = omega (arith, x)
 of_list_small k (inr (inr x)) = x.1
 
-cause_small : (t : List ℕ) (k : Cause) (p : ℕ) → ShapeFault t k p ⊎ (OfList (number_of k) × (p ≡ 0)) → (number_of k ≤ 23) × (p ≤ max_file_bytes)
-cause_small t k p (inl f) = let s = table_small (shape_of_table t k p f) in (omega (arith, s.number), s.position)
-cause_small t k p (inr x) = (of_list_small (number_of k) x.0, omega (arith, x.1))
+cause_small : (t : List ℕ) (k : Cause) (p : ℕ) → ShapeFault t k p ⊎ (OfList (number_of k) × (p ≡ 0)) → Small k p
+cause_small t k p (inl f) = table_small (shape_of_table t k p f)
+cause_small t k p (inr x) = record { number = omega (arith, of_list_small (number_of k) x.0); position = omega (arith, x.1) }
 
 -- The gate list that is written has at most 1,024 pairs, and so its file has at most 10,240 bytes.
 pub written_few : (t : List ℕ) (l : ℕ) (b b' ws : List ℕ) (n : ℕ) → IsGateList t l ws → WritesGateList t l b (Ok n) b' → length ws ≤ 2 * max_pairs
@@ -69,7 +67,7 @@ module _ (t : List ℕ) (l : ℕ) (b b' : List ℕ) {r : Result ℕ Refusal} whe
   this_written : (x : Result ℕ Refusal) → r ≡ x → WritesGateList t l b r b' → WritesGateList t l b x b'
   this_written x e h = subst (λ (y : Result ℕ Refusal). WritesGateList t l b y b') e h
 
-  pub unlisted_small : {q : Refusal} → r ≡ Err q → WritesGateList t l b r b' → (number_of q.cause ≤ 23) × (q.at ≤ max_file_bytes)
+  pub unlisted_small : {q : Refusal} → r ≡ Err q → WritesGateList t l b r b' → Small q.cause q.at
   unlisted_small {q} e h = cause_small t q.cause q.at (list_cause t l (length b) q.cause q.at (this_written (Err q) e h).0)
 
   pub listed_small : {n : ℕ} → r ≡ Ok n → WritesGateList t l b r b' → n ≤ max_list_bytes
@@ -84,14 +82,6 @@ module _ {t : List ℕ} {l : ℕ} {b b' : List ℕ} {r : Result ℕ Refusal} whe
 
   pub table_listed : {n : ℕ} → r ≡ Ok n → WritesGateList t l b r b' → ListsGates t l b (answered 0 n) b'
   table_listed {n} e h = record { given = Ok n; writes = this_written t l b b' (Ok n) e h; answer = refl }
-
--- A plan file was read, or is refused.
-module _ (s w : List ℕ) {r : Result ℕ Refusal} {l : ℕ} {b : List ℕ} {a : Answer} where
-  pub plan_unlisted : {q : Refusal} → r ≡ Err q → TakesPlan s r w → a ≡ refusal q.cause q.at → HostListsGates s l b a b
-  plan_unlisted e h f = inl (unread_refused s w e h f)
-
-  pub list_on : {b' : List ℕ} {n : ℕ} → r ≡ Ok n → TakesPlan s r w → ListsGates (take n w) l b a b' → HostListsGates s l b a b'
-  list_on {b'} e h x = let f = read_front s w e h in inr (f.table, f.file, subst (λ (t : List ℕ). ListsGates t l b a b') f.is x)
 
 -- A list file was read, or is refused.
 module _ (s b b' : List ℕ) {r : Result ℕ Refusal} where

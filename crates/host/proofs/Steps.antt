@@ -21,7 +21,6 @@ use Rattle.table.specs.declared.Move.{Move}
 use Rattle.table.proofs.Sizes.{size_one, table_words_at_most}
 use Rattle.files.specs.Reading.{IsFile}
 use Rattle.files.specs.Plan.{PlanFaultIn, PlanUnreadIn, PlanFault, InFront, write_refusals, TakesPlan, WritesPlan}
-use Rattle.files.specs.Cursors.{ReadsCursor}
 use Rattle.files.specs.Theorems.{max_file_bytes}
 use Rattle.files.specs.declared.Cursor.{Cursor}
 use Rattle.files.proofs.ComeBack.{file_bytes_at_most}
@@ -41,12 +40,11 @@ use Rattle.editions.specs.Reading.{ReadsFirst}
 use Rattle.editions.proofs.Wider.{first_older, converted_sized}
 use Rattle.editions.proofs.Answers.{first_gives_tables}
 use Rattle.host.specs.declared.Answer.{Answer}
-use Rattle.host.specs.declared.Opened.{Opened}
 use Rattle.host.specs.Answers.{answered, rule_result, refusal, with_cursor}
-use Rattle.host.specs.Refusals.{RefusedFor, CursorUnread, AfterPlan, AfterCursor}
-use Rattle.host.specs.Calls.{Lent, lent, WritesBoth, WritesFile, HostConverts, MovedLeg, Started, Sliced, StartsTable, SlicesTable, MovesTable, HostStarts, HostSlices, HostMoves}
-use Rattle.host.specs.Steps.{Small, Opens}
-use Rattle.host.proofs.Laws.{plan_fault_small, first_fault_small, cursor_file_small, table_small}
+use Rattle.host.specs.Refusals.{RefusedFor}
+use Rattle.host.specs.Calls.{Lent, lent, WritesBoth, WritesFile, HostConverts, MovedLeg, Started, Sliced, HostMoves}
+use Rattle.host.specs.Steps.{Small, MovesFrom}
+use Rattle.host.proofs.Laws.{plan_fault_small, first_fault_small, table_small}
 
 -- Too few bytes are lent for the cursor that comes back: each call on a table looks there first.
 pub no_room_lem : {M : Type 0} {room needed : ℕ} {m : M} {a : Answer} {r : Refusal} → room < needed → r ≡ record { cause = cause.NoRoom; at = 0 } → a ≡ refusal r.cause r.at
@@ -64,61 +62,18 @@ module _ (s w : List ℕ) {r : Result ℕ Refusal} where
   pub unread_small : {f : Refusal} → r ≡ Err f → TakesPlan s r w → Small f.cause f.at
   unread_small {f} e h = plan_fault_small s f.cause f.at (read_fault e h)
 
-  pub unread_refused : {M : Type 0} {m : M} {a : Answer} {q : Refusal} → r ≡ Err q → TakesPlan s r w → a ≡ refusal q.cause q.at
-      → RefusedFor M (PlanFault s) m a m
-  unread_refused {M} {m} {a} {q} e h f = record { cause = q.cause; at = q.at; fault = read_fault e h; answer = f; kept = refl }
+-- What is said of the table of a file is carried on.
+pub of_its_table : {A : Type 0} {File R Then : List ℕ → Type 0} → ((t : List ℕ) → R t → Then t) → A ⊎ ((t : List ℕ) × File t × R t) → A ⊎ ((t : List ℕ) × File t × Then t)
+of_its_table f (inl u) = inl u
+of_its_table f (inr (t, i, x)) = inr (t, i, f t x)
 
-  pub start_on_is : {out : List ℕ} {a : Answer} {out' : List ℕ} {n : ℕ} → r ≡ Ok n → TakesPlan s r w → StartsTable (take n w) out a out'
-      → HostStarts s out a out'
-  start_on_is {out} {a} {out'} e h x =
-      let f = read_front e h in inr (f.table, f.file, subst (λ (t : List ℕ). StartsTable t out a out') f.is x)
+-- A plan file was read, and its table moved.
+pub move_on : {s w q : List ℕ} {n : ℕ} {mv : Move} {m m' : Lent} {a : Answer} → InFront s n w → MovesFrom (take n w) q mv m a m' → HostMoves s q mv m a m'
+move_on {q = q} {mv = mv} {m = m} {m' = m'} {a = a} f x = inr (f.table, f.file, subst (λ (t : List ℕ). MovesFrom t q mv m a m') f.is x)
 
 -- The table that lies in the first words has their number.
 pub front_length : {s w : List ℕ} {n : ℕ} → InFront s n w → n ≡ length (take n w)
 front_length {s} {w} {n} f = sym (length-take-le _ _ f.inside)
-
--- Both were read, or one is refused.
-fault_small : (s q w : List ℕ) (k : Cause) (p : ℕ) → PlanFault s k p ⊎ ((t : List ℕ) × IsFile Sized s t × CursorUnread q k p) → Small k p
-fault_small s q w k p (inl f) = plan_fault_small s k p f
-fault_small s q w k p (inr x) = cursor_file_small q k p x.2
-
-module _ (s q w : List ℕ) {r : Result Opened Refusal} where
-  pub both_opened : {o : Opened} → r ≡ Ok o → Opens s q r w → InFront s o.words w × ReadsCursor q (Ok o.cursor)
-  both_opened e h = subst (λ (x : Result Opened Refusal). Opens s q x w) e h
-
-  opened_fault : {f : Refusal} → r ≡ Err f → Opens s q r w → PlanFault s f.cause f.at ⊎ ((t : List ℕ) × IsFile Sized s t × CursorUnread q f.cause f.at)
-  opened_fault e h = subst (λ (x : Result Opened Refusal). Opens s q x w) e h
-
-  pub opened_small : {f : Refusal} → r ≡ Err f → Opens s q r w → Small f.cause f.at
-  opened_small {f} e h = fault_small s q w f.cause f.at (opened_fault e h)
-
-module _ (M : Type 0) (s q w : List ℕ) (m : M) (Then : List ℕ → Cursor → Answer → M → Type 0) (a : Answer) where
-  fault_refused : (k : Cause) (p : ℕ) → a ≡ refusal k p → PlanFault s k p ⊎ ((t : List ℕ) × IsFile Sized s t × CursorUnread q k p)
-      → AfterPlan M s m (λ (t : List ℕ). AfterCursor M q m (Then t)) a m
-  fault_refused k p f (inl x) = inl (record { cause = k; at = p; fault = x; answer = f; kept = refl })
-  fault_refused k p f (inr x) = inr (x.0, x.1, inl (record { cause = k; at = p; fault = x.2; answer = f; kept = refl }))
-
-  opened_then : (m' : M) (r : Result Opened Refusal) (o : Opened) → r ≡ Ok o → Opens s q r w → Then (take o.words w) o.cursor a m'
-      → AfterPlan M s m (λ (t : List ℕ). AfterCursor M q m (Then t)) a m'
-  opened_then m' r o e h x =
-      let b = both_opened s q w e h in
-      let f = b.0 in
-      inr (f.table, f.file, inr (o.cursor, b.1, subst (λ (t : List ℕ). Then t o.cursor a m') f.is x))
-
-module _ (s q w : List ℕ) {r : Result Opened Refusal} {budget : ℕ} {out : List ℕ} {a : Answer} where
-  pub slice_unopened : {f : Refusal} → r ≡ Err f → Opens s q r w → a ≡ refusal f.cause f.at → HostSlices s q budget out a out
-  slice_unopened {f} e h g = fault_refused (List ℕ) s q w out (λ (t : List ℕ) (c : Cursor). SlicesTable t c budget out) a f.cause f.at g (opened_fault s q w e h)
-
-  pub slice_on : {out' : List ℕ} {o : Opened} → r ≡ Ok o → Opens s q r w → SlicesTable (take o.words w) o.cursor budget out a out'
-      → HostSlices s q budget out a out'
-  slice_on {out'} {o} e h x = opened_then (List ℕ) s q w out (λ (t : List ℕ) (c : Cursor). SlicesTable t c budget out) a out' r o e h x
-
-module _ (s q w : List ℕ) {r : Result Opened Refusal} {mv : Move} {m : Lent} {a : Answer} where
-  pub move_unopened : {f : Refusal} → r ≡ Err f → Opens s q r w → a ≡ refusal f.cause f.at → HostMoves s q mv m a m
-  move_unopened {f} e h g = fault_refused Lent s q w m (λ (t : List ℕ) (c : Cursor). MovesTable t c mv m) a f.cause f.at g (opened_fault s q w e h)
-
-  pub move_on : {m' : Lent} {o : Opened} → r ≡ Ok o → Opens s q r w → MovesTable (take o.words w) o.cursor mv m a m' → HostMoves s q mv m a m'
-  move_on {m'} {o} e h x = opened_then Lent s q w m (λ (t : List ℕ) (c : Cursor). MovesTable t c mv m) a m' r o e h x
 
 -- A start was granted, or is refused.
 pub start_small : (t : List ℕ) {g : Result Cursor Returned} {d : Returned} → g ≡ Err d → Starts t g → Small d.refusal.cause d.refusal.at

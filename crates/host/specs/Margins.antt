@@ -16,7 +16,6 @@ use Rattle.margins.specs.declared.At.{At}
 use Rattle.host.specs.declared.place_margin.MarginNumbers.{MarginNumbers}
 use Rattle.host.specs.Answers.{refused_result, rule_result}
 use Rattle.host.specs.OfPlans.{OfPlan, InNumbers}
-use Rattle.host.specs.Steps.{Small}
 
 -- 1 where the rule asks something at the place, and 0 where it does not.
 abbrev pub asked_in : Margin → ℕ
@@ -98,8 +97,3 @@ PlanMargins plan leg place = OfPlan (Result At Refusal) refused (λ (t : List �
 -- A MARGIN, in numbers.
 abbrev pub HostMargins : List ℕ → ℕ → ℕ → MarginNumbers → Type 0
 HostMargins plan leg place = InNumbers (Result At Refusal) MarginNumbers (PlanMargins plan leg place) (margin_numbers (rule_at place))
-
--- A refusal is small enough to be told.
-abbrev pub SmallMargin : Result At Refusal → Type 0
-SmallMargin (Ok a) = Unit {0}
-SmallMargin (Err e) = Small e.cause e.at

@@ -7,7 +7,6 @@ use Rattle.meeting.specs.Meets.{Meets}
 use Rattle.host.specs.declared.first_meeting.MeetingNumbers.{MeetingNumbers}
 use Rattle.host.specs.Answers.{refused_result}
 use Rattle.host.specs.OfPlans.{OfPlan, InNumbers}
-use Rattle.host.specs.Steps.{Small}
 
 -- 0 where the two legs never meet, and 1 where they do: with the last repeat of each that has begun then, and the instant. Refused: 100 plus the number, and the position.
 abbrev pub meeting_numbers : Result (Option Meeting) Refusal → MeetingNumbers
@@ -22,8 +21,3 @@ PlanMeets plan leg other = OfPlan (Result (Option Meeting) Refusal) refused (λ 
 -- A FIRST MEETING, in numbers.
 abbrev pub HostMeets : List ℕ → ℕ → ℕ → MeetingNumbers → Type 0
 HostMeets plan leg other = InNumbers (Result (Option Meeting) Refusal) MeetingNumbers (PlanMeets plan leg other) meeting_numbers
-
--- A refusal is small enough to be told.
-abbrev pub SmallMeeting : Result (Option Meeting) Refusal → Type 0
-SmallMeeting (Ok m) = Unit {0}
-SmallMeeting (Err e) = Small e.cause e.at

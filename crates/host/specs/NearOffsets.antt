@@ -7,7 +7,6 @@ use Rattle.margins.specs.declared.Nearest.{Nearest}
 use Rattle.host.specs.declared.near_offsets.NearestNumbers.{NearestNumbers}
 use Rattle.host.specs.Answers.{refused_result}
 use Rattle.host.specs.OfPlans.{OfPlan, InNumbers}
-use Rattle.host.specs.Steps.{Small}
 
 -- 1 where there is such an offset, and 0 where there is none.
 abbrev pub there_is : Option ℕ → ℕ
@@ -42,8 +41,3 @@ PlanNears plan leg place = OfPlan (Result Nearest Refusal) refused (λ (t : List
 -- THE NEAREST OFFSETS, in numbers.
 abbrev pub HostNears : List ℕ → ℕ → ℕ → NearestNumbers → Type 0
 HostNears plan leg place = InNumbers (Result Nearest Refusal) NearestNumbers (PlanNears plan leg place) nearest_numbers
-
--- A refusal is small enough to be told.
-abbrev pub SmallNearest : Result Nearest Refusal → Type 0
-SmallNearest (Ok n) = Unit {0}
-SmallNearest (Err e) = Small e.cause e.at

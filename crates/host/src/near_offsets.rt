@@ -1,14 +1,15 @@
 // The call for C that tells the nearest offsets of a leg with which a place of it holds. Nothing is lent to be written.
-ghost use Rattle.std.specs.Prelude.{◌≡◌, ◌≤◌, length};
-ghost use Rattle.table.specs.Layout.{max_table_words};
-ghost use Rattle.host.specs.NearOffsets.{there_is, offset_in, offset_numbers, nearest_numbers, PlanNears, HostNears, SmallNearest};
+ghost use Rattle.std.specs.Prelude.{◌≡◌};
+ghost use Rattle.host.specs.NearOffsets.{nearest_numbers, HostNears};
+ghost use Rattle.host.specs.Steps.{SmallTold};
 
-use crate::{ANY_WORD, answers};
+use crate::{answers, plans};
 use basics::Refusal;
 use margins::Nearest;
 
 // What C gets of the nearest offsets, laid out as the struct in include/conepalhui.h: a result (0), refused the position; whether there is a lower offset (1, or 0) and which,
 // and whether there is a higher one and which. What is not told is 0.
+// Kept: C reads these fields, and include/conepalhui.h says that a result and what is told beside it are numbers.
 #[repr(C)]
 #[derive(Clone, Copy, Debug, PartialEq, Eq)]
 pub struct NearestNumbers {
@@ -20,66 +21,41 @@ pub struct NearestNumbers {
     pub above: u32,
 }
 
-fn there_is(o: Option<u32>) -> u32
-    ensures { result ≡ there_is o }
-{
-    match o {
-        Some(_) => 1,
-        None => 0,
-    }
-}
-
-fn offset_in(o: Option<u32>) -> u32
-    ensures { result ≡ offset_in o }
-{
-    o.unwrap_or(0)
-}
-
-// Two offsets, in numbers.
-fn offsets_in(n: Nearest) -> NearestNumbers
-    ensures { result ≡ offset_numbers n }
-{
-    NearestNumbers {
-        result: 0,
-        position: 0,
-        lower: there_is(n.below),
-        below: offset_in(n.below),
-        higher: there_is(n.above),
-        above: offset_in(n.above),
-    }
-}
+// What is told where there is no lower and no higher offset: 0 in each field.
+const NEITHER: NearestNumbers = NearestNumbers {
+    result: 0,
+    position: 0,
+    lower: 0,
+    below: 0,
+    higher: 0,
+    above: 0,
+};
 
 // What is told, in numbers.
+// Kept: no From, since a conversion by From could not ask that the position of a refusal fits a word.
 fn in_numbers(told: Result<Nearest, Refusal>) -> NearestNumbers
-    requires { SmallNearest told }
+    requires { SmallTold told }
     ensures { result ≡ nearest_numbers told }
 {
     match told {
-        Ok(n) => offsets_in(n),
+        Ok(n) => NearestNumbers {
+            lower: u32::from(n.below.is_some()),
+            below: n.below.unwrap_or(0),
+            higher: u32::from(n.above.is_some()),
+            above: n.above.unwrap_or(0),
+            ..NEITHER
+        },
         Err(r) => NearestNumbers {
-            result: answers::REFUSED + u32::from(r.cause),
+            result: answers::refused_result(r.cause),
             position: r.at as u32,
-            lower: 0,
-            below: 0,
-            higher: 0,
-            above: 0,
+            ..NEITHER
         },
     }
-}
-
-// The nearest offsets at a place of a plan file, which is read into words that have room for any table.
-fn near_in_plan(plan: &[u8], leg: u32, place: u32, words: &mut [u32]) -> Result<Nearest, Refusal>
-    requires { max_table_words ≤ length words.old }
-    ensures { PlanNears plan.now leg place result }
-{
-    let n = files::one_pass::take_plan(plan, words)?;
-    margins::nearest_at(&words[..n], leg, place)
 }
 
 // Tells the nearest offsets of a leg with which a place of it holds. Its name ends in the edition of the rules; in the header it is conepalhui_nearest.
 pub fn conepalhui_nearest_3(plan: &[u8], leg: u32, place: u32) -> NearestNumbers
     ensures { HostNears plan.now leg place result }
 {
-    let mut words = [ANY_WORD; table::MAX_TABLE_WORDS];
-    in_numbers(near_in_plan(plan, leg, place, &mut words))
+    in_numbers(plans::of_plan(plan, |t| margins::nearest_at(t, leg, place)))
 }

@@ -3,6 +3,7 @@ ghost use Rattle.std.specs.Prelude.{◌≤◌, length};
 ghost use Rattle.table.specs.Layout.{Sized};
 ghost use Rattle.files.specs.Theorems.{max_cursor_bytes};
 ghost use Rattle.host.specs.Calls.{lent, WritesBoth, WritesFile, StartsTable, SlicesTable, MovesTable};
+ghost use Rattle.host.specs.Steps.{SlicesFrom, MovesFrom};
 
 use crate::{Answer, answers};
 use basics::Cause;
@@ -31,7 +32,7 @@ pub(crate) fn start_table(t: &[u32], out: &mut [u8]) -> Answer
     }
 }
 
-pub(crate) fn slice_table(t: &[u32], cursor: Cursor, budget: u32, out: &mut [u8]) -> Answer
+fn slice_table(t: &[u32], cursor: Cursor, budget: u32, out: &mut [u8]) -> Answer
     ensures { SlicesTable t.now cursor budget out.old result out.new }
 {
     if out.len() < CURSOR_ROOM {
@@ -63,7 +64,18 @@ pub(crate) fn slice_table(t: &[u32], cursor: Cursor, budget: u32, out: &mut [u8]
     }
 }
 
+// The slice from a saved cursor, which is read after the plan.
+pub(crate) fn slice_from(t: &[u32], cursor: &[u8], budget: u32, out: &mut [u8]) -> Answer
+    ensures { SlicesFrom t.now cursor.now budget out.old result out.new }
+{
+    match files::read_cursor(cursor) {
+        Err(refusal) => answers::refused(refusal),
+        Ok(saved) => slice_table(t, saved, budget, out),
+    }
+}
+
 // Writes the file of a table and a cursor, or nothing where the file has no room.
+// Kept: Sized is proved of the words that a move left, by a lemma on Moves; a type that holds it would be built for this one call.
 fn write_both(t: &[u32], cursor: Cursor, file: &mut [u8], out: &mut [u8]) -> Answer
     requires sized { Sized t.now }
     requires max_cursor_bytes_in_bounds { max_cursor_bytes ≤ length out.old }
@@ -82,13 +94,7 @@ fn write_both(t: &[u32], cursor: Cursor, file: &mut [u8], out: &mut [u8]) -> Ans
 }
 
 // A granted move changes the table, even where the new file then has no room.
-pub(crate) fn move_table(
-    t: &mut [u32],
-    cursor: Cursor,
-    mv: Move,
-    file: &mut [u8],
-    out: &mut [u8],
-) -> Answer
+fn move_table(t: &mut [u32], cursor: Cursor, mv: Move, file: &mut [u8], out: &mut [u8]) -> Answer
     ensures { MovesTable t.old cursor mv (lent file.old out.old) result (lent file.new out.new) }
 {
     if out.len() < CURSOR_ROOM {
@@ -100,7 +106,24 @@ pub(crate) fn move_table(
     }
 }
 
+// The move from a saved cursor, which is read after the plan.
+pub(crate) fn move_from(
+    t: &mut [u32],
+    cursor: &[u8],
+    mv: Move,
+    file: &mut [u8],
+    out: &mut [u8],
+) -> Answer
+    ensures { MovesFrom t.old cursor.now mv (lent file.old out.old) result (lent file.new out.new) }
+{
+    match files::read_cursor(cursor) {
+        Err(refusal) => answers::refused(refusal),
+        Ok(saved) => move_table(t, saved, mv, file, out),
+    }
+}
+
 // Writes the file of a table, or nothing where it has no room.
+// Kept: Sized is proved of words that a conversion or an admission wrote, by a lemma on each; a type that holds it would be built for these two calls.
 pub(crate) fn write_file(t: &[u32], file: &mut [u8]) -> Answer
     requires { Sized t.now }
     ensures { WritesFile t.now file.old result file.new }

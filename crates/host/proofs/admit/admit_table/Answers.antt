@@ -1,16 +1,8 @@
 -- `host::admit::admit_table` meets its contract: what was laid into the call's own words is the enlarged table, and its file has room. Assumes nothing.
 use Rattle.std.proofs.Common.{◌∙◌, ap}
 use Rattle.std.specs.Prelude.{Ok}
-use Rattle.host.proofs.Admitting.{unadmitted_small, table_refused, table_admitted, admitted_inside, admitted_sized}
+use Rattle.host.proofs.Admitting.{table_refused, table_admitted, admitted_sized}
 use Rattle.host.proofs.admit.admit_table.Goals as goal
-
-pub unadmitted_for-requires : goal.unadmitted_for-requires
-unadmitted_for-requires c =
-    unadmitted_small _ _ _ _ _ _ _ c.in-Err.is c.admit_between.ensures
-
-pub slice_bounds-write_file-end : goal.slice_bounds-write_file-end
-slice_bounds-write_file-end c =
-    admitted_inside _ _ _ _ _ _ _ (c.in-Ok-Some.is ∙ ap Ok c.in-Ok-Some.field-0-is) c.admit_between.ensures
 
 pub write_file-written-requires : goal.write_file-written-requires
 write_file-written-requires c =

@@ -4,4 +4,4 @@ use Rattle.host.proofs.admit.conepalhui_admit_3.Goals as goal
 
 pub returns : goal.returns
 returns c =
-    host_pieces_make_the_whole.whole _ _ _ _ _ _ _ (period_ends _ _ _ _ _ _ c.admit_plan.ensures) c.admit_plan.ensures
+    host_pieces_make_the_whole.whole _ _ _ _ _ _ _ (period_ends _ _ _ _ _ _ c.conepalhui_admit_between_3.ensures) c.conepalhui_admit_between_3.ensures

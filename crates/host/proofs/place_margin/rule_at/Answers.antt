@@ -8,14 +8,14 @@ use Rattle.host.proofs.place_margin.rule_at.Goals as goal
 from-3 : (p : ℕ) → 3 ≤ p → rule.Overlap ≡ rule_at p
 from-3 p h = sym (places_at_numbers.names.3 (p - 3)) ∙ ap rule_at (omega arith)
 
-pub returns-then-place-eq0 : goal.returns-then-place-eq0
-returns-then-place-eq0 c = sym places_at_numbers.names.0 ∙ ap rule_at (omega arith)
+pub returns-in-0 : goal.returns-in-0
+returns-in-0 c = sym places_at_numbers.names.0 ∙ ap rule_at (omega arith)
 
-pub returns-then-place-eq1 : goal.returns-then-place-eq1
-returns-then-place-eq1 c = sym places_at_numbers.names.1 ∙ ap rule_at (omega arith)
+pub returns-in-1 : goal.returns-in-1
+returns-in-1 c = sym places_at_numbers.names.1 ∙ ap rule_at (omega arith)
 
-pub returns-then-place-eq2 : goal.returns-then-place-eq2
-returns-then-place-eq2 c = sym places_at_numbers.names.2 ∙ ap rule_at (omega arith)
+pub returns-in-2 : goal.returns-in-2
+returns-in-2 c = sym places_at_numbers.names.2 ∙ ap rule_at (omega arith)
 
-pub returns : goal.returns
-returns c = from-3 _ (omega arith)
+pub returns-in_default : goal.returns-in_default
+returns-in_default c = from-3 _ (omega arith)
