@@ -61,6 +61,7 @@ fn walk_back(
 }
 
 /// Internal: a chain, found from an event that was lowered in the last round, in the first of the lent words: how many constraints it has.
+// Kept: the library allocates nothing, so the path, by steps, and the marks, by events, lie in arrays of the largest size.
 pub fn chain_from(
     network: &Network,
     by: &[u32; network::MAX_EVENTS],
@@ -71,7 +72,6 @@ pub fn chain_from(
     requires events_in_bounds { network.now.events ≤ length chain.old }
     ensures { GivesChain network.now.events network.now.constraints.now result chain.old chain.new }
 {
-    // Kept: the library allocates nothing, so the path and the marks lie in arrays of the largest size.
     let mut path = [0u32; network::MAX_EVENTS];
     let mut seen = [0usize; network::MAX_EVENTS];
     let Turn { start, len } = walk_back(network, by, v, &mut path, &mut seen);
