@@ -20,6 +20,7 @@ pub struct Place {
 
 /// The verdict of a recheck: the first violated place, its rule, and how many places were looked at, itself included; or that nothing is violated at the places that were looked at, and
 /// how many they are.
+// Kept: both cases are answers, and `VerdictOf` and the theorems on it name them; a violated place is no error.
 #[derive(Clone, Copy, Debug, PartialEq, Eq)]
 pub enum Rechecked {
     Violated(Place, Rule, u32),

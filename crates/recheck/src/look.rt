@@ -26,6 +26,7 @@ const HOP_AT: usize = 1;
 const DEADLINE_AT: usize = 2;
 
 /// Looks at place p of a leg at which leg m can be read, after n places. Returns how many places were looked at then; the first broken place ends all looks.
+// Kept: Some is the error here and None goes on, for which Option has no method: map_or would nest the Err in a closure.
 fn look(m: usize, leg: &TimedLeg, p: usize, n: usize) -> Result<usize, BrokenAfter>
     requires p_bound { p < places_of leg.now.at }
     requires p_value { can_read leg.now.plan.now m leg.now.at p ≡ true }
@@ -138,6 +139,7 @@ fn all_legs(m: &TimedLeg) -> Result<usize, BrokenAfter>
 }
 
 /// Internal: a recheck of a leg that can be rechecked.
+// Kept: `VerdictOf` says that the table is well-formed, which is more than a Plan or a TimedLeg guarantees.
 pub fn looked(plan: &Plan, leg: u32) -> Rechecked
     requires { CanRecheck plan.now leg }
     ensures { VerdictOf plan.now leg result }

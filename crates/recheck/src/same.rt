@@ -4,6 +4,8 @@ ghost use Rattle.table.specs.Layout.{leg_count, Sized};
 ghost use Rattle.recheck.specs.Premise.{SameButLeg};
 
 /// Internal: whether u differs from a well-formed table t at most in the revision and in the offset and the period word of a leg.
+// Kept: it asks of t only that it is as long as its header says, which is less than a Plan guarantees, and no derived equality passes over one leg.
+// Kept: two words may differ by where they stand, so the loop goes by that and not over the words alone.
 pub fn same_but_leg(t: &[u32], u: &[u32], leg: u32) -> bool
     requires { Sized t.now × (leg < leg_count t.now) }
     ensures { IsTrue result ↔ SameButLeg t.now u.now leg }
