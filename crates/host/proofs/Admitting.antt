@@ -1,8 +1,7 @@
 -- What an admission to the table of a plan file found, carried to the call's statement. The words that a call lends of its own are enough, since no enlarged table has more words than the
 -- largest table, and no number of its file more than 5 bytes. Assumes nothing.
 use Rattle.admission.specs.declared.Admitted.{Admitted}
-use Rattle.std.specs.Prelude.{Result, Ok, Err, Some, None}
-use Rattle.basics.specs.Cause.{number_of, refused}
+use Rattle.std.specs.Prelude.{Ok, Err, Some, None}
 use Rattle.basics.specs.declared.Cause.{Cause}
 use Rattle.basics.specs.declared.Refusal.{Refusal}
 use Prim.Native.Nat.{ℕ, ◌/◌, ◌≤◌}
@@ -11,15 +10,12 @@ use mathlib.Core.List.{List}
 use mathlib.Core.Logic.{inl, inr}
 use native.Mathlib.Omega.{arith}
 use lib.ListN.{length, take}
-use lib.Seq.{length-take-le}
 use Rattle.numbers.specs.Number.{max_number_bytes}
 use Rattle.numbers.specs.Series.{file_of}
-use Rattle.numbers.proofs.Overlay.{overlaid_length, overlaid_taken}
+use Rattle.numbers.proofs.Overlay.{overlaid_taken}
 use Rattle.numbers.proofs.Rows.{file_length}
 use Rattle.table.specs.Layout.{max_table_words, Sized}
-use Rattle.files.specs.Plan.{InFront, TakesPlan}
 use Rattle.shape.specs.Shape.{WellFormedTable}
-use Rattle.shape.proofs.Refused.{shape_of_table}
 use Rattle.enlarge.specs.Enlarged.{enlarged, enlarged_words}
 use Rattle.enlarge.specs.declared.Wanted.{Wanted}
 use Rattle.enlarge.proofs.Grown.{grown_long}
@@ -29,10 +25,8 @@ use Rattle.admission.specs.Admits.{CanAdd, MayAdmit, early_refusals, AdmittedAt,
 use Rattle.host.specs.declared.Answer.{Answer}
 use Rattle.host.specs.declared.admit.AdmissionAnswer.{AdmissionAnswer}
 use Rattle.host.specs.Calls.{WritesFile}
-use Rattle.host.specs.Admissions.{admission, unadmitted, AdmitsTable, HostAdmitsBetween}
-use Rattle.host.specs.Steps.{Small, OwnRoom}
-use Rattle.host.proofs.Laws.{plan_fault_small, table_small}
-use Rattle.host.proofs.Steps.{read_front, read_fault}
+use Rattle.host.specs.Admissions.{admission, unadmitted, AdmitsTable}
+use Rattle.host.specs.Steps.{OwnRoom}
 
 -- A stream can be added only where the enlarged table has no more words than the largest.
 pub few_words : {t : List ℕ} (w : Wanted) (route : List ℕ) → WellFormedTable t → CanAdd t w route → enlarged_words t route ≤ max_table_words
@@ -62,35 +56,16 @@ module _ (t : List ℕ) (w : Wanted) (route : List ℕ) {bytes own : ℕ} (room 
   told_anyway from until (Err d) (inl f) = inl (early_anyway d.cause d.at f)
   told_anyway from until (Err d) (inr (m, f)) = inr (may_anyway m, f)
 
--- The number and the position of a refusal are small.
-early_small : (t : List ℕ) (w : Wanted) (route : List ℕ) (room : ℕ) (k : Cause) (p : ℕ) → (early_refusals t w route room).Fault k p → Small k p
-early_small t w route room k p (inl f) = table_small (shape_of_table t k p f)
-early_small t w route room k p (inr (s, inl f)) = record { number = omega (arith, ap number_of f.0); position = omega (arith, f.1) }
-early_small t w route room k p (inr (s, inr (r, inl f))) = record { number = omega (arith, ap number_of f.0); position = omega (arith, f.1) }
-early_small t w route room k p (inr (s, inr (r, inr (c, inl f)))) = record { number = omega (arith, ap number_of f.0); position = omega (arith, f.1) }
-early_small t w route room k p (inr (s, inr (r, inr (c, inr (h, f))))) = record { number = omega (arith, ap number_of f.0); position = omega (arith, f.1) }
-
-refused_small : (t : List ℕ) (w : Wanted) (route : List ℕ) (room from until : ℕ) (k : Cause) (p : ℕ) → PieceTold t w route room from until (refused k p) → Small k p
-refused_small t w route room from until k p (inl f) = early_small t w route room k p f
-refused_small t w route room from until k p (inr (m, f)) = record { number = omega (arith, ap number_of f.0); position = omega (arith, f.1) }
-
 -- What was given, and what is left in the call's own words.
 module _ (t : List ℕ) (w : Wanted) (route : List ℕ) (from until : ℕ) (own own' : List ℕ) {given : Admission} where
   this_given : (a : Admission) → given ≡ a → AdmitsBetween t w route from until own given own' → AdmitsBetween t w route from until own a own'
   this_given a e h = subst (λ (b : Admission). AdmitsBetween t w route from until own b own') e h
-
-  pub unadmitted_small : {q : Refusal} → given ≡ Err q → AdmitsBetween t w route from until own given own' → Small q.cause q.at
-  unadmitted_small {q} e h = refused_small t w route (length own) from until q.cause q.at (this_given (Err q) e h).answer
 
   module _ {file : List ℕ} (room : OwnRoom (length file) (length own)) where
     pub table_refused : {a : AdmissionAnswer} {q : Refusal} → given ≡ Err q → AdmitsBetween t w route from until own given own' → a ≡ unadmitted q.cause q.at
         → AdmitsTable t w route from until file a file
     table_refused {a} {q} e h f =
         record { given = Err q; told = told_anyway t w route room from until (Err q) (this_given (Err q) e h).answer; answer = f; after = refl }
-
-    pub table_none_yet : given ≡ Ok None → AdmitsBetween t w route from until own given own' → AdmitsTable t w route from until file (admission 1 0 until) file
-    table_none_yet e h =
-        record { given = Ok None; told = told_anyway t w route room from until (Ok None) (this_given (Ok None) e h).answer; answer = refl; after = refl }
 
   -- Admitted, the enlarged table lies in front. It is a table, and its file has room.
   module _ {g : Admitted} (e : given ≡ Ok (Some g)) (h : AdmitsBetween t w route from until own given own') where
@@ -104,20 +79,6 @@ module _ (t : List ℕ) (w : Wanted) (route : List ℕ) (from until : ℕ) (own 
     in_front =
         ap (λ (m : ℕ). take m own') (at_x.count ∙ sym long) ∙ ap (take (length (enlarged t w route g.offset))) (this_given (Ok (Some g)) e h).after
         ∙ overlaid_taken own (enlarged t w route g.offset)
-
-    pub admitted_inside : g.words ≤ length own'
-    admitted_inside =
-        omega (
-          arith,
-          at_x.count,
-          at_x.may.has_room,
-          long,
-          ap length (this_given (Ok (Some g)) e h).after,
-          overlaid_length own 0 (enlarged t w route g.offset) (omega (arith, long, at_x.may.has_room)),
-        )
-
-    pub admitted_long : g.words ≡ length (take g.words own')
-    admitted_long = at_x.count ∙ sym long ∙ sym (ap length in_front)
 
     pub admitted_sized : Sized (take g.words own')
     admitted_sized = subst Sized (sym in_front) at_x.found.has.shape.sized
@@ -139,29 +100,3 @@ module _ (t : List ℕ) (w : Wanted) (route : List ℕ) (from until : ℕ) (own 
           answer = ap (λ (b : Answer). admission b.result b.beside g.offset) y.1.answer;
           after = y.1.after;
         }
-
--- A plan file was read, or is refused.
-module _ (s v : List ℕ) {r : Result ℕ Refusal} where
-  pub plan_unadmitted_small : {q : Refusal} → r ≡ Err q → TakesPlan s r v → Small q.cause q.at
-  plan_unadmitted_small {q} e h = plan_fault_small s q.cause q.at (read_fault s v e h)
-
-  module _ (w : Wanted) (route : List ℕ) (from until : ℕ) {file : List ℕ} {a : AdmissionAnswer} where
-    pub plan_unadmitted : {q : Refusal} → r ≡ Err q → TakesPlan s r v → a ≡ unadmitted q.cause q.at → HostAdmitsBetween s w route from until file a file
-    plan_unadmitted {q} e h f = inl (record { cause = q.cause; at = q.at; fault = read_fault s v e h; answer = f; kept = refl })
-
-    pub admit_on : {file' : List ℕ} {n : ℕ} → r ≡ Ok n → TakesPlan s r v → AdmitsTable (take n v) w route from until file a file'
-        → HostAdmitsBetween s w route from until file a file'
-    admit_on {file'} {n} e h x =
-        let f = read_front s v e h in inr (f.table, f.file, subst (λ (t : List ℕ). AdmitsTable t w route from until file a file') f.is x)
-
--- The call's own words are cut to as many as the file has room for.
-module _ {bytes r : ℕ} (own : List ℕ) (room : OwnRoom bytes r) (enough : max_table_words ≤ length own) where
-  pub own_long : r ≡ length (take r own)
-  own_long = sym (length-take-le r own (omega (arith, room.at_most)))
-
-  pub own_cut : OwnRoom bytes (length (take r own))
-  own_cut = subst (OwnRoom bytes) own_long room
-
--- The table that was read is of the right size.
-pub front_sized : {s v : List ℕ} {n : ℕ} → InFront s n v → Sized (take n v)
-front_sized f = subst Sized (sym f.is) f.file.complete

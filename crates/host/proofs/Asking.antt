@@ -1,24 +1,20 @@
 -- What is told of the table of a plan file is one, and its refusals are small, where that is so of every table. Assumes nothing.
-use Rattle.std.specs.Prelude.{Result, Ok, Err}
 use Rattle.basics.specs.Cause.{number_of}
 use Rattle.basics.specs.declared.Cause.{Cause}
-use Rattle.basics.specs.declared.Refusal.{Refusal}
 use Prim.Native.Nat.{ℕ, ◌≤◌}
-use mathlib.Core.Path.{◌≡◌, refl, ◌∙◌, sym, ap, subst}
+use mathlib.Core.Path.{◌≡◌, ◌∙◌, sym, ap, subst}
 use mathlib.Core.List.{List}
 use mathlib.Core.Logic.{◌⊎◌, inl, inr}
 use native.Mathlib.Omega.{arith}
-use lib.ListN.{take}
 use Rattle.table.specs.Layout.{Sized}
 use Rattle.files.specs.Reading.{IsFile}
-use Rattle.files.specs.Plan.{PlanFault, TakesPlan}
+use Rattle.files.specs.Plan.{PlanFault}
 use Rattle.files.proofs.OneAnswer.{plan_fault_one, file_no_fault, same_file}
 use Rattle.files.proofs.Refused.{plan_refused}
 use Rattle.host.specs.OfPlans.{OfPlan, InNumbers}
 use Rattle.host.specs.ExplainTheorems.{RefusedBy}
 use Rattle.host.specs.Steps.{Small}
 use Rattle.host.proofs.Laws.{plan_fault_small}
-use Rattle.host.proofs.Steps.{read_front, read_fault}
 
 -- The refusals of a plan file.
 of_file : (n : ℕ) (k : Cause) → (number_of k ≡ 2) ⊎ ((12 ≤ number_of k) × (number_of k ≤ 14)) → RefusedBy n (number_of k)
@@ -26,13 +22,6 @@ of_file n k (inl x) = inl x
 of_file n k (inr x) = inr (inr (inl (omega (arith, x.0), omega (arith, x.1))))
 
 module _ (G : Type 0) (refused : Cause → ℕ → G) (Told : List ℕ → G → Type 0) where
-  -- A plan file was read, or is refused.
-  pub plan_unread : (s w : List ℕ) {r : Result ℕ Refusal} {q : Refusal} → r ≡ Err q → TakesPlan s r w → OfPlan G refused Told s (refused q.cause q.at)
-  plan_unread s w {r} {q} e h = inl (record { cause = q.cause; at = q.at; fault = read_fault s w e h; is = refl })
-
-  pub plan_told : (s w : List ℕ) {r : Result ℕ Refusal} {n : ℕ} {g : G} → r ≡ Ok n → TakesPlan s r w → Told (take n w) g → OfPlan G refused Told s g
-  plan_told s w {r} {n} {g} e h x = let f = read_front s w e h in inr (f.table, f.file, subst (λ (t : List ℕ). Told t g) f.is x)
-
   -- What is told is one.
   same_refusal : (s : List ℕ) (k : Cause) (p : ℕ) (l : Cause) (q : ℕ) → PlanFault s k p → PlanFault s l q → refused k p ≡ refused l q
   same_refusal s k p l q f g = let e = plan_fault_one s k p l q f g in ap (λ (i : Cause). refused i p) e.0 ∙ ap (refused l) e.1

@@ -1,4 +1,4 @@
--- What a recheck of the table of a plan file tells, put into numbers. Its refusals are small. Assumes nothing.
+-- The refusals of a recheck of the table of a plan file are small. Assumes nothing.
 use Rattle.recheck.specs.declared.Rechecked.{Rechecked}
 use Rattle.std.specs.Prelude.{Result, Ok, Err}
 use Rattle.basics.specs.Cause.{refused}
@@ -6,16 +6,13 @@ use Rattle.basics.specs.declared.Cause.{Cause}
 use Rattle.basics.specs.declared.Cause.TheVariants as cause
 use Rattle.basics.specs.declared.Refusal.{Refusal}
 use Prim.Native.Nat.{ℕ}
-use mathlib.Core.Path.{◌≡◌, ◌∙◌, ap}
 use mathlib.Core.List.{List}
 use mathlib.Core.Logic.{inl, inr}
 use native.Mathlib.Omega.{arith}
 use Rattle.shape.specs.OfTables.{OfTable}
 use Rattle.shape.proofs.Refused.{of_table, shape_of_table}
 use Rattle.recheck.specs.Rechecks.{recheck_refusals, Rechecks}
-use Rattle.host.specs.declared.late_move.RecheckedAnswer.{RecheckedAnswer}
-use Rattle.host.specs.Rechecks.{recheck_answered, PlanRechecks, HostRechecks}
-use Rattle.host.specs.Steps.{SmallTold}
+use Rattle.host.specs.Steps.{SmallTold, PlanRechecks}
 use Rattle.host.proofs.Laws.{table_small}
 use Rattle.host.proofs.Asking.{plan_small}
 
@@ -30,8 +27,3 @@ table_recheck_small leg t (Err e) h = table_small (recheck_of_table t leg e.caus
 
 pub recheck_small : (plan : List ℕ) (leg : ℕ) (g : Result Rechecked Refusal) → PlanRechecks plan leg g → SmallTold g
 recheck_small plan leg = plan_small (Result Rechecked Refusal) refused (λ (t : List ℕ). Rechecks t leg) SmallTold (λ k p s. s) (table_recheck_small leg) plan
-
--- What is told of the table of a plan file, put into numbers.
-pub recheck_given : {plan : List ℕ} {leg : ℕ} {g : Result Rechecked Refusal} {a : RecheckedAnswer} → PlanRechecks plan leg g → a ≡ recheck_answered g → HostRechecks plan leg a
-recheck_given (inl u) e = inl (record { cause = u.cause; at = u.at; fault = u.fault; answer = e ∙ ap recheck_answered u.is })
-recheck_given {g = g} (inr (t, f, x)) e = inr (t, f, record { given = g; told = x; answer = e })

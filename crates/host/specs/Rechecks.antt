@@ -1,7 +1,7 @@
 -- What the call for C promises that rechecks one leg of the plan of a plan file (document 02, L6): the answer. Nothing is lent to be written, and no cursor is taken or given. plan is the
 -- plan file, and m the leg that was moved.
 use Rattle.std.specs.Prelude.{ℕ, ◌≡◌, List, ◌⊎◌, Result, Ok, Err}
-use Rattle.basics.specs.Cause.{number_of, refused}
+use Rattle.basics.specs.Cause.{number_of}
 use Rattle.basics.specs.declared.Cause.{Cause}
 use Rattle.basics.specs.declared.Refusal.{Refusal}
 use Rattle.table.specs.Layout.{Sized}
@@ -12,7 +12,6 @@ use Rattle.recheck.specs.declared.Rechecked.{Rechecked}
 use Rattle.recheck.specs.declared.Rechecked.TheVariants.{Violated, NothingViolated}
 use Rattle.host.specs.declared.late_move.RecheckedAnswer.{RecheckedAnswer}
 use Rattle.host.specs.Answers.{refused_result, rule_result}
-use Rattle.host.specs.OfPlans.{OfPlan}
 
 -- The answer with result r, n beside it, and the place (a,p).
 abbrev pub rechecked : ℕ → ℕ → ℕ → ℕ → RecheckedAnswer
@@ -41,10 +40,6 @@ pub record RecheckUnread (plan : List ℕ) (a : RecheckedAnswer) : Type 0 where
   pub at : ℕ
   pub fault : PlanFault plan cause at
   pub answer : a ≡ unrechecked cause at
-
--- What is told of a leg of the table of a plan file.
-abbrev pub PlanRechecks : List ℕ → ℕ → Result Rechecked Refusal → Type 0
-PlanRechecks plan m = OfPlan (Result Rechecked Refusal) refused (λ (t : List ℕ). Rechecks t m) plan
 
 -- A RECHECK. The plan reader refuses the file; or it is the file of a table, and this is rechecked. The refusals in their order: 12, 13, 2 and 14 of the plan file, then 4 to 7 of its
 -- table, then 10.

@@ -1,8 +1,8 @@
 // A plan file, read into words of the call's own that have room for any table, and what is asked of its table or written after it.
 ghost use Rattle.std.specs.Prelude.{ℕ, List};
 ghost use Rattle.std.specs.Fn.{FnOnceReturnsAt};
-ghost use Rattle.host.specs.OfPlans.{AskedOf, Leaves};
 ghost use Rattle.host.specs.Refusals.{AfterPlan};
+ghost use Rattle.host.specs.Steps.{AskedOf, Leaves};
 
 use crate::{ANY_WORD, Answer, answers};
 use basics::Refusal;
