@@ -1,5 +1,7 @@
 -- What is told of slots that were gathered is told of the link. Assumes nothing.
-use Rattle.std.specs.Prelude.{Some, None, Ok}
+use Rattle.std.specs.Prelude.{Option, Some, None, Result, Ok, Err}
+use Rattle.std.specs.Option.{ok_or}
+use Rattle.basics.specs.declared.Refusal.{Refusal}
 use Prim.Native.Nat.{ℕ, ◌+◌, ◌*◌, ◌≤◌}
 use mathlib.Core.Path.{◌≡◌, refl, sym, subst}
 use mathlib.Core.List.{List}
@@ -73,6 +75,16 @@ module _ (t : List ℕ) (l : ℕ) (slots : List StoredSlot) (count : ℕ) (g : G
   pub list_past : (words : List ℕ) → CycleTold (InSlots slots count) None → ListTold t l words (refused cause.LongCycle 0)
   list_past words p = inl (refl, refl, λ s. omega (arith, p s.cycle (cycle_also (SlotOn t l) (InSlots slots count) s.cycle from_link to_link s.is), s.short))
 
+  -- The same of an option with the refusal beside it.
+  pub cycle_refused : (words : List ℕ) (o : Option ℕ) (d : Refusal) {e : Refusal} → CycleTold (InSlots slots count) o → Err e ≡ ok_or o d → d ≡ record { cause = cause.LongCycle; at = 0 }
+      → ListTold t l words (Err e)
+  cycle_refused words None d {e} told is due = let same : e ≡ d = cc in rw (same, due) (list_past words told)
+  cycle_refused words (Some c) d told is due = absurd (cc)
+
+  pub cycle_given : (o : Option ℕ) (d : Refusal) {c : ℕ} → CycleTold (InSlots slots count) o → Ok c ≡ ok_or o d → IsCycle (InSlots slots count) c × (c ≤ max_cycle)
+  cycle_given None d told is = absurd (cc)
+  cycle_given (Some b) d {c} told is = let same : c ≡ b = cc in rw same told
+
   module _ (c : ℕ) (is : IsCycle (InSlots slots count) c) (short : c ≤ max_cycle) (some : 1 ≤ count) where
     short_cycle : ShortCycle t l
     short_cycle = record { cycle = c; is = cycle_of c is; short = short }
@@ -95,3 +107,9 @@ module _ (t : List ℕ) (l : ℕ) (slots : List StoredSlot) (count : ℕ) (g : G
       room = omega arith;
       list = front_list t l (slot_in slots 0) c (some_slot some) (cycle_of c is) words n (omega arith) (list_also _ _ c words n to_right right);
     }
+
+    -- Either of the two, as an option with the refusal beside it.
+    pub list_told : (words : List ℕ) (o : Option ℕ) (d : Refusal) {r : Result ℕ Refusal} → length words ≡ 2 * max_pairs → PairsTold (Right (InSlots slots count)) c words o
+        → d ≡ record { cause = cause.TooManyPairs; at = 0 } → r ≡ ok_or o d → ListTold t l words r
+    list_told words None d long told due same = rw (same, due) (list_many words told)
+    list_told words (Some n) d long told due same = rw same (list_pairs words n long told)
