@@ -9,11 +9,13 @@ use native.Mathlib.Nat.{mul-zero}
 use native.Mathlib.Omega.{arith}
 use Rattle.numbers.specs.Series.{Row, file_of, overlaid}
 use Rattle.numbers.specs.Steps.{AllNumbers, Filled, Taken}
-use Rattle.std.specs.Prelude.{Result, Ok, Err, IsOk}
+use Rattle.std.specs.Prelude.{Result, Ok, Err, IsOk, Option, Some, None}
+use Rattle.std.specs.Option.{ok_or}
 use Rattle.basics.specs.declared.Refusal.{Refusal}
 use Rattle.numbers.proofs.Rows.{file_none, file_append, file_row, row_compare, row_stops, stands_front, words_take}
 use Rattle.numbers.proofs.Overlay.{overlaid_all, overlaid_none, overlaid_append, overlaid_length}
 use Rattle.table.specs.Layout.{current, head_words, link_words, stream_words, leg_words, link_count, stream_count, leg_count, stream_start_in, leg_start_in, table_words, LimitsIn, SizedIn}
+use Rattle.table.specs.Size.{LimitsTold}
 use Rattle.table.specs.declared.Edition.{Edition}
 use Rattle.table.proofs.Headers.{SameHeader, limits_same, words_same, same_header_back}
 use Rattle.files.specs.Reading.{IsFile}
@@ -308,3 +310,13 @@ module _ {e : Edition} {s : List ℕ} (u : List ℕ) (file : IsFile (SizedIn e) 
 
     pub limits_kept : Older e → (LimitsIn current b' → ⊥) → ⊥
     limits_kept o h = h (limits_same current (same_header_back old_header) (limits_today o file.complete.limits))
+
+-- What a header's limits tell, as an option with a refusal beside it: the words of its table, or that it passes a limit.
+module _ {e : Edition} {h : List ℕ} where
+  pub limits_given : (o : Option ℕ) (d : Refusal) {n : ℕ} → LimitsTold e h o → Ok n ≡ ok_or o d → LimitsTold e h (Some n)
+  limits_given None d told is = absurd (cc)
+  limits_given (Some m) d {n} told is = let same : n ≡ m = cc in rw same told
+
+  pub limits_past : (o : Option ℕ) (d : Refusal) {x : Refusal} → LimitsTold e h o → Err x ≡ ok_or o d → ((LimitsIn e h → ⊥) → ⊥) → ⊥
+  limits_past None d told is not = not told
+  limits_past (Some m) d told is not = absurd (cc)

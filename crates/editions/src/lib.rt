@@ -32,6 +32,7 @@ fn read_old(e: Edition, bytes: &[u8], words: &mut [u32]) -> Result<usize, Refusa
 }
 
 // The same of bytes that are the file of a table: its table of today, or 15.
+// Kept: a header has as many words in every table, so its array is of that size, and no length lies beside it.
 fn convert(e: Edition, bytes: &[u8], words: &mut [u32]) -> Result<usize, Refusal>
     requires older { Older e }
     requires old_file { OldFile e bytes.now }
@@ -39,9 +40,7 @@ fn convert(e: Edition, bytes: &[u8], words: &mut [u32]) -> Result<usize, Refusal
 {
     let mut head = [0u32; table::HEAD_WORDS];
     series::fill(bytes, 0, table::HEAD_WORDS, &mut head);
-    let Some(size) = table::header_words(table::CURRENT, &head) else {
-        return Err(Cause::AboveLimit.at(0));
-    };
+    let size = table::header_words(table::CURRENT, &head).ok_or(Cause::AboveLimit.at(0))?;
     if words.len() < size {
         return Err(Cause::NoRoom.at(0));
     }
@@ -84,6 +83,7 @@ fn put_converted(e: Edition, bytes: &[u8], links: u32, streams: u32, legs: u32, 
 }
 
 // Takes so many records of width numbers into a buffer from a position on, each made wide words long with one value, and returns the position after them.
+// Kept: `FilledWider` says what all of the buffer is then; parts of it, by chunks_exact_mut, would owe that again for what lies before and after them.
 fn fill_wider(
     bytes: &[u8],
     from: usize,
@@ -111,6 +111,7 @@ fn fill_wider(
 }
 
 // Takes numbers that were looked through, so that none is refused, into a buffer from a position on, and returns the position after them.
+// Kept: `FilledOn` says what all of the buffer is then; with a part of it lent, each caller would owe that for the rest.
 fn fill_on(bytes: &[u8], from: usize, count: usize, out: &mut [u32], to: usize) -> usize
     requires all_numbers { AllNumbers bytes.now from count }
     requires count_in_bounds { to + count ≤ length out.old }
