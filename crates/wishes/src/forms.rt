@@ -1,10 +1,11 @@
 //! The forms of a line. They are told apart by the number of words and the words of the form, so that an event may have any word for its name.
 use crate::number;
-use crate::number::Number;
+use crate::number::NumberError;
 use decimal::DecimalError;
 use lines::words::{has_control, words};
 use std::alloc::{AllocError, Global};
 
+// Kept: nobody compares or prints what a line says, and each further derive is one more function to prove.
 /// Internal: what a line of a network says: nothing; the name of an event; a constraint between two; or what is none of these.
 #[derive(Clone, Copy)]
 pub enum Wish<'a> {
@@ -14,6 +15,7 @@ pub enum Wish<'a> {
     Wrong,
 }
 
+// Kept: nobody compares or prints what a line says, and each further derive is one more function to prove.
 /// The time of the first event minus that of the second is at most a number, or the time of the second minus that of the first. A number that no constraint may have
 /// is one past the limit.
 #[derive(Clone, Copy)]
@@ -26,6 +28,7 @@ pub struct Between<'a> {
     pub number: &'a [u8],
 }
 
+// Kept: nobody compares or prints what a line says, and each further derive is one more function to prove.
 /// Internal: what a line of a claim says: nothing; the first line of an answer; the time of an event, or one that has more than 64 bits; the line of a constraint; or what
 /// is none of these.
 #[derive(Clone, Copy)]
@@ -39,19 +42,19 @@ pub enum Claim<'a> {
 }
 
 // One more than a constraint may have.
-const PAST_MOST: u64 = 1_000_000_001;
+const PAST_MOST: i64 = 1_000_000_001;
 
-// A number of that size or, if it is larger, one past the limit.
-fn limited(below: bool, size: u64) -> i64 {
-    let most = size.min(PAST_MOST) as i64;
-    if below { -most } else { most }
+// The number of a constraint or, if it is further from 0, one past the limit.
+fn limited(number: i128) -> i64 {
+    i64::try_from(number.clamp(i128::from(-PAST_MOST), i128::from(PAST_MOST))).unwrap_or(PAST_MOST)
 }
 
 fn constraint<'a>(first: &'a [u8], second: &'a [u8], sign: &'a [u8], number: &'a [u8]) -> Wish<'a> {
-    let (below, size) = match number::read(number) {
-        Number::Value(below, size) => (below, size),
-        Number::Far(below) => (below, PAST_MOST),
-        Number::Wrong => return Wish::Wrong,
+    let limit = match number::read(number) {
+        Ok(number) => limited(number),
+        Err(NumberError::Below) => -PAST_MOST,
+        Err(NumberError::Above) => PAST_MOST,
+        Err(NumberError::Wrong) => return Wish::Wrong,
     };
     let is_turned = match sign {
         b"<=" => false,
@@ -62,7 +65,11 @@ fn constraint<'a>(first: &'a [u8], second: &'a [u8], sign: &'a [u8], number: &'a
         first,
         second,
         is_turned,
-        most: limited(below != is_turned, size),
+        most: if is_turned {
+            limit.wrapping_neg()
+        } else {
+            limit
+        },
         number,
     })
 }
@@ -86,17 +93,17 @@ pub fn wish_in<'a>(alloc: Global, line: &'a [u8]) -> Result<Wish<'a>, AllocError
 }
 
 fn is_number(word: &[u8]) -> bool {
-    !matches!(number::read(word), Number::Wrong)
+    number::read(word) != Err(NumberError::Wrong)
 }
 
 fn time<'a>(event: &'a [u8], number: &'a [u8]) -> Claim<'a> {
     match number::read(number) {
-        Number::Value(below, size) => match number::signed_of(below, size) {
-            Some(time) => Claim::Time(event, time),
-            None => Claim::FarTime(number),
-        },
-        Number::Far(_) => Claim::FarTime(number),
-        Number::Wrong => Claim::Wrong,
+        Ok(value) => i64::try_from(value).map_or(
+            Claim::FarTime(number),
+            |time| Claim::Time(event, time),
+        ),
+        Err(NumberError::Below | NumberError::Above) => Claim::FarTime(number),
+        Err(NumberError::Wrong) => Claim::Wrong,
     }
 }
 

@@ -1,15 +1,16 @@
 //! Signed numbers as a person types them: a sign or none, and digits.
+ghost use Rattle.std.specs.Prelude.{true};
 ghost use Rattle.decimal.specs.Decimal.{Typed};
-ghost use Rattle.wishes.specs.Number.{WorthTold, ReadsDigits, ReadsSigned};
+ghost use Rattle.wishes.specs.Number.{WorthTold, ReadsAbove, ReadsDigits, ReadsSigned};
 
 use decimal::DecimalError;
 
-/// A number read: whether it is below zero, and its size; only the former where it has more than 64 bits or close to it; or that it is none.
+/// Why a word is not read as a number: it is none; or it is below or above all numbers of 64 bits with a sign.
 #[derive(Clone, Copy, Debug, PartialEq, Eq)]
-pub enum Number {
-    Value(bool, u64),
-    Far(bool),
+pub enum NumberError {
     Wrong,
+    Below,
+    Above,
 }
 
 // The last value after which there is room for one more digit in 64 bits.
@@ -30,39 +31,35 @@ fn worth_of(digits: &[u8]) -> Option<u64>
     Some(value)
 }
 
-fn sized(below: bool, digits: &[u8]) -> Number
-    requires { Typed digits.now }
-    ensures { ReadsDigits digits.now below result }
+// The number that digits are. Two numbers that are just past 64 bits with a sign are read too.
+fn above(digits: &[u8]) -> Result<u64, NumberError>
+    ensures { ReadsAbove digits.now result }
 {
-    match worth_of(digits) {
-        Some(value) => Number::Value(below, value),
-        None => Number::Far(below),
+    match decimal::read_decimal(digits) {
+        Ok(value) => Ok(value as u64),
+        Err(DecimalError::TooLarge) => worth_of(digits).ok_or(NumberError::Above),
+        Err(DecimalError::Empty | DecimalError::NoDigit(_)) => Err(NumberError::Wrong),
     }
 }
 
-fn signed(below: bool, digits: &[u8]) -> Number
-    ensures { ReadsDigits digits.now below result }
+// The number that digits after a minus are.
+fn below(digits: &[u8]) -> Result<i128, NumberError>
+    ensures { ReadsDigits digits.now true result }
 {
-    match decimal::read_decimal(digits) {
-        Ok(value) => Number::Value(below, value as u64),
-        Err(DecimalError::TooLarge) => sized(below, digits),
-        Err(DecimalError::Empty | DecimalError::NoDigit(_)) => Number::Wrong,
+    match above(digits) {
+        Ok(size) => Ok(-i128::from(size)),
+        Err(NumberError::Above | NumberError::Below) => Err(NumberError::Below),
+        Err(NumberError::Wrong) => Err(NumberError::Wrong),
     }
 }
 
 /// Internal: reads a number.
-pub fn read(word: &[u8]) -> Number
+pub fn read(word: &[u8]) -> Result<i128, NumberError>
     ensures { ReadsSigned word.now result }
 {
     match word {
-        [b'-', digits @ ..] => signed(true, digits),
-        [b'+', digits @ ..] => signed(false, digits),
-        _ => signed(false, word),
+        [b'-', digits @ ..] => below(digits),
+        [b'+', digits @ ..] => Ok(i128::from(above(digits)?)),
+        _ => Ok(i128::from(above(word)?)),
     }
-}
-
-/// Internal: a number by its sign and size, if 64 bits with a sign hold it.
-pub fn signed_of(below: bool, size: u64) -> Option<i64> {
-    let size = i128::from(size);
-    i64::try_from(if below { -size } else { size }).ok()
 }

@@ -3,6 +3,7 @@ use crate::forms;
 use crate::forms::{Between, Wish};
 use std::alloc::{AllocError, Global};
 
+// Kept: nobody compares or prints it as a whole, and each further derive is one more function to prove.
 /// The time of event `to` minus the time of event `from` is at most `most`, as a line says.
 #[derive(Clone, Copy)]
 pub struct Constraint<'a> {
@@ -15,6 +16,7 @@ pub struct Constraint<'a> {
     pub number: &'a [u8],
 }
 
+// Kept: nobody compares or prints it as a whole, and each further derive is one more function to prove.
 /// A line that has none of the forms, counted from 1, and what is read of it.
 #[derive(Clone, Copy)]
 pub struct WrongLine<'a> {
@@ -31,12 +33,14 @@ pub struct Wishes<'a> {
 }
 
 // A number as a word of the solver's. No text has as many events as an i64 has values.
+// Kept: no `From`, since a `usize` need not fit an `i64`.
 fn word(n: usize) -> i64 {
     i64::try_from(n).unwrap_or(i64::MAX)
 }
 
 impl<'a> Wishes<'a> {
     /// The event with a name, if there is one.
+    // Kept: a map would stand beside the list, which gives the names by number; there are 129 at most.
     pub fn event(&self, name: &[u8]) -> Option<usize> {
         self.events.iter().position(|known| *known == name)
     }
