@@ -1,13 +1,11 @@
 //! A draft: the records of a plan and the names of its nodes and streams.
 use crate::fault::Fault;
-use reasons::records;
+use reasons::{records, small};
 use std::alloc::{AllocError, Global};
-use std::io;
-use std::io::Write;
 use table::{Leg, Link, Stream};
 
 /// A node that has a name. The number is declared where a line of its own gave it.
-#[derive(Clone, Copy, Debug)]
+#[derive(Clone, Copy, Debug, PartialEq, Eq)]
 pub(crate) struct Node<'t> {
     pub(crate) name: &'t [u8],
     pub(crate) number: u32,
@@ -15,13 +13,14 @@ pub(crate) struct Node<'t> {
 }
 
 /// A stream, and its name if it has one.
-#[derive(Clone, Copy)]
+#[derive(Clone, Copy, Debug, PartialEq, Eq)]
 pub(crate) struct NamedStream<'t> {
     pub(crate) name: Option<&'t [u8]>,
     pub(crate) record: Stream,
 }
 
 /// The links between two nodes.
+// Kept: three answers, of which two are faults, each with a sentence of its own; an Option of an Option would not name them.
 #[derive(Clone, Copy, Debug, PartialEq, Eq)]
 pub(crate) enum Between {
     One(u32),
@@ -40,11 +39,6 @@ pub struct Draft<'t> {
     pub(crate) legs: Vec<Leg>,
     /// No number below it is free for a name.
     lowest_free: u32,
-}
-
-/// A count as a word.
-pub(crate) fn count(n: usize) -> u32 {
-    u32::try_from(n).unwrap_or(u32::MAX)
 }
 
 impl<'t> Draft<'t> {
@@ -83,9 +77,9 @@ impl<'t> Draft<'t> {
     pub fn table(&self, alloc: Global) -> Result<Vec<u32>, AllocError> {
         let mut words = vec![in alloc;
             self.revision,
-            count(self.links.len()),
-            count(self.streams.len()),
-            count(self.legs.len()),
+            small(self.links.len()),
+            small(self.streams.len()),
+            small(self.legs.len()),
             self.precision,
         ]?;
         for l in &self.links {
@@ -127,8 +121,7 @@ impl<'t> Draft<'t> {
 
     /// The name of a node, if it has one.
     pub fn node_name(&self, number: u32) -> Option<&'t [u8]> {
-        let node = self.node_numbered(number)?;
-        Some(node.name)
+        self.node_numbered(number).map(|node| node.name)
     }
 
     /// The name of a stream, if it has one.
@@ -138,25 +131,24 @@ impl<'t> Draft<'t> {
 
     /// The number of the stream with a name.
     pub(crate) fn stream_named(&self, name: &[u8]) -> Option<u32> {
-        let i = self
-            .streams
+        self.streams
             .iter()
-            .position(|stream| stream.name == Some(name))?;
-        Some(count(i))
+            .position(|stream| stream.name == Some(name))
+            .map(small)
     }
 
     /// The links from one node to another.
     pub(crate) fn between(&self, from: u32, to: u32) -> Between {
-        let mut found = Between::None;
-        for (i, link) in self.links.iter().enumerate() {
-            if link.from == from && link.to == to {
-                if found != Between::None {
-                    return Between::Several;
-                }
-                found = Between::One(count(i));
-            }
+        let mut found = self
+            .links
+            .iter()
+            .zip(0..u32::MAX)
+            .filter(|(link, _)| link.from == from && link.to == to);
+        match (found.next(), found.next()) {
+            (None, _) => Between::None,
+            (Some((_, number)), None) => Between::One(number),
+            (Some(_), Some(_)) => Between::Several,
         }
-        found
     }
 
     /// Whether a name or a link has this number.
@@ -169,6 +161,7 @@ impl<'t> Draft<'t> {
     }
 
     /// The lowest number that no name and no link has so far, nor the line at hand. Such numbers are only ever taken.
+    // Kept: what is found is noted too; a find would hand it on in an Option that is taken apart twice.
     pub(crate) fn take_lowest(&mut self, but: Option<u32>) -> u32 {
         for number in self.lowest_free..u32::MAX {
             if but != Some(number) && !self.is_taken(number) {
@@ -186,31 +179,5 @@ impl<'t> Draft<'t> {
         }
         self.nodes.push(node)?;
         Ok(node.number)
-    }
-
-    /// Prints the name of a node, or its number.
-    pub fn print_node<O: Write>(&self, out: &mut O, number: u32) -> io::Result<()> {
-        match self.node_name(number) {
-            Some(name) => out.write_all(name),
-            None => write!(out, "node {number}"),
-        }
-    }
-
-    /// Prints the name of a stream, or its number.
-    pub fn print_stream<O: Write>(&self, out: &mut O, number: u32) -> io::Result<()> {
-        match self.stream_name(number) {
-            Some(name) => out.write_all(name),
-            None => write!(out, "stream {number}"),
-        }
-    }
-
-    /// Prints the two ends of a link, or its number where there is no such link.
-    pub fn print_link<O: Write>(&self, out: &mut O, number: u32) -> io::Result<()> {
-        let Some(link) = self.links.get(number as usize) else {
-            return write!(out, "link {number}");
-        };
-        self.print_node(out, link.from)?;
-        out.write_all(b" -> ")?;
-        self.print_node(out, link.to)
     }
 }

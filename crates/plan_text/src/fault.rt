@@ -5,7 +5,7 @@ use std::io;
 use std::io::Write;
 
 /// A fault, with the words and numbers that its sentence shows.
-#[derive(Clone, Copy, Debug)]
+#[derive(Clone, Copy, Debug, PartialEq, Eq)]
 pub(crate) enum Fault<'t> {
     /// A word, or the end of the line where it is empty, and what is said of it.
     Word(&'t [u8], &'static str),
@@ -60,6 +60,7 @@ fn ends<E: Write>(err: &mut E, from: &[u8], to: &[u8]) -> io::Result<()> {
     Ok(())
 }
 
+// Kept: a line and a name are bytes of any kind, which Display, a text of characters, cannot write.
 impl Fault<'_> {
     /// Says what is wrong with the line of a number.
     pub(crate) fn say<E: Write>(&self, err: &mut E, line: u32) -> io::Result<()> {

@@ -24,7 +24,7 @@ enum Form {
 }
 
 /// The fields that a line gives.
-#[derive(Clone, Copy, Debug, Default)]
+#[derive(Clone, Copy, Debug, Default, PartialEq, Eq)]
 pub(crate) struct Fields {
     pub(crate) revision: Option<u32>,
     pub(crate) precision: Option<u32>,

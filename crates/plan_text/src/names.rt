@@ -1,4 +1,6 @@
 //! The names of a plan's nodes and streams, which stand in a text beside the plan file: PLAN.names.
+ghost use Rattle.std.specs.Prelude.{◌≤◌, length, IfOk};
+
 use crate::{Draft, read};
 use durable::FileRead;
 use std::alloc::{AllocError, Global};
@@ -12,7 +14,9 @@ const MAX_PATH: usize = 4096;
 const ENDING: &[u8] = b".names";
 
 /// The path of the file of names beside a plan file, or nothing where it is longer than a path may be.
-pub fn path_of(alloc: Global, plan: &[u8]) -> Result<Vec<u8>, AllocError> {
+pub fn path_of(alloc: Global, plan: &[u8]) -> Result<Vec<u8>, AllocError>
+    ensures { IfOk result (λ path. length path.items ≤ 4096) }
+{
     let mut path = Vec::new(alloc);
     if plan.len() <= MAX_PATH - ENDING.len() {
         path.extend_from_slice(plan)?;
@@ -131,6 +135,7 @@ impl NamesFile {
 }
 
 /// Whether two tables are the same but for what moves may change: the revision, and the offset and the period word of a leg.
+// Kept: some words are left out of the comparison, so no derived equality says it.
 fn is_same_but_moved(t: &[u32], other: &[u32]) -> bool {
     let links = reasons::records::header_word(t, table::LINKS_AT) as usize;
     let streams = reasons::records::header_word(t, table::STREAMS_AT) as usize;

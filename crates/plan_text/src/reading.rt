@@ -2,7 +2,8 @@
 use crate::draft::Draft;
 use crate::fault::Fault;
 use crate::records::{Above, Reader};
-use lines::words::has_control;
+use lines::content;
+use lines::words::{has_control, words};
 use std::alloc::{AllocError, Global};
 use std::io;
 use std::io::Write;
@@ -14,23 +15,9 @@ pub struct WrongLines {
     pub first: u32,
 }
 
-/// What is read of a line: what stands before a comment, or before a carriage return at its end.
-fn content(line: &[u8]) -> &[u8] {
-    match line.iter().position(|byte| *byte == b'#') {
-        Some(end) => &line[..end],
-        None => line.strip_suffix(b"\r").unwrap_or(line),
-    }
-}
-
-fn words_of<'t>(alloc: Global, line: &'t [u8]) -> Result<Vec<&'t [u8]>, AllocError> {
-    line.split(|byte| *byte == b' ' || *byte == b'\t')
-        .filter(|word| !word.is_empty())
-        .collect(alloc)
-}
-
 impl<'t> Reader<'t> {
-    fn line(&mut self, alloc: Global, line: &'t [u8]) -> Result<(), Fault<'t>> {
-        let words = words_of(alloc, line)?;
+    fn read_line(&mut self, alloc: Global, line: &'t [u8]) -> Result<(), Fault<'t>> {
+        let words = words(alloc, line)?;
         if words.is_empty() {
             return Ok(());
         }
@@ -57,24 +44,29 @@ pub fn read<'t, E: Write>(
         above: Above::Nothing,
         is_begun: false,
     };
-    let mut wrong = WrongLines { count: 0, first: 0 };
-    let mut number: u32 = 0;
-    for line in lines::without_mark(text).split(|byte| *byte == b'\n') {
-        number = number.wrapping_add(1);
-        match reader.line(alloc, content(line)) {
+    let mut wrong: Option<WrongLines> = None;
+    let lines = lines::without_mark(text).split(|byte| *byte == b'\n');
+    for (line, number) in lines.zip(1..u32::MAX) {
+        match reader.read_line(alloc, content(line)) {
             Ok(()) => {}
             Err(Fault::NoMemory) => return Err(io::Error::from(AllocError)),
             Err(fault) => {
-                if wrong.count == 0 {
-                    wrong.first = number;
-                }
-                wrong.count = wrong.count.wrapping_add(1);
                 let _ = fault.say(err, number);
+                wrong = Some(match wrong {
+                    None => WrongLines {
+                        count: 1,
+                        first: number,
+                    },
+                    Some(before) => WrongLines {
+                        count: before.count.saturating_add(1),
+                        ..before
+                    },
+                });
             }
         }
     }
-    if wrong.count == 0 {
-        return Ok(Ok(reader.draft));
+    match wrong {
+        None => Ok(Ok(reader.draft)),
+        Some(wrong) => Ok(Err(wrong)),
     }
-    Ok(Err(wrong))
 }

@@ -1,8 +1,9 @@
 //! The records: what each line adds to the draft. A record with a fault in its fields is added all the same, so that no line below it is found wrong for that.
-use crate::draft::{Between, Draft, NamedStream, Node, count};
+use crate::draft::{Between, Draft, NamedStream, Node};
 use crate::fault::Fault;
 use crate::fields::{Fields, Record, needs};
 use decimal::DecimalError;
+use reasons::small;
 use table::{Leg, Link, Stream};
 
 const ARROW: &[u8] = b"->";
@@ -134,12 +135,12 @@ impl<'t> Reader<'t> {
 
     /// The node of a number that stands for itself. Where a name got it by its order, it is not known which of the two is meant.
     fn node_of_number(&self, stood: &'t [u8]) -> Result<u32, Fault<'t>> {
-        let Ok(number) = decimal::read_decimal(stood) else {
-            return Err(Fault::Word(
+        let number = decimal::read_decimal(stood).map_err(|_| {
+            Fault::Word(
                 stood,
                 " is no node: expected a number from 0 to 4294967295, or a name, which does not begin with a digit",
-            ));
-        };
+            )
+        })?;
         match self.draft.node_numbered(number) {
             Some(node) if !node.is_declared => Err(Fault::Named(
                 number,
@@ -172,13 +173,11 @@ impl<'t> Reader<'t> {
         if is_numeral(stood) {
             return self.node_of_number(stood);
         }
-        match self.draft.node_named(stood) {
-            Some(node) => Ok(node.number),
-            None => Err(Fault::Word(
-                stood,
-                " is no node so far: expected the ends of a link above",
-            )),
-        }
+        let node = self.draft.node_named(stood).ok_or(Fault::Word(
+            stood,
+            " is no node so far: expected the ends of a link above",
+        ))?;
+        Ok(node.number)
     }
 
     // ---- Links
@@ -230,7 +229,7 @@ impl<'t> Reader<'t> {
             period: fields.period.unwrap_or(0),
             deadline: fields.deadline.unwrap_or(0),
             octets: fields.octets.unwrap_or(0),
-            first: fields.first.unwrap_or(count(self.draft.legs.len())),
+            first: fields.first.unwrap_or(small(self.draft.legs.len())),
             count: fields.legs.unwrap_or(0),
         };
         self.draft.streams.push(NamedStream { name, record })?;
@@ -262,7 +261,7 @@ impl<'t> Reader<'t> {
     /// The name of the next stream. A number in its place is that of this very stream.
     fn name_of_stream(&self, stood: &'t [u8]) -> Result<Option<&'t [u8]>, Fault<'t>> {
         if is_numeral(stood) {
-            let own = count(self.draft.streams.len());
+            let own = small(self.draft.streams.len());
             return match decimal::read_decimal(stood) {
                 Ok(n) if n == own => Ok(None),
                 _ => Err(Fault::NotOwnNumber(stood, own)),
@@ -365,7 +364,7 @@ impl<'t> Reader<'t> {
 
     /// Adds a leg, and counts it at the stream above, which is its own unless another is given.
     fn count_leg(&mut self, link: u32, fields: &Fields) -> Result<(), Fault<'t>> {
-        let above = count(self.draft.streams.len()).wrapping_sub(1);
+        let above = small(self.draft.streams.len()).wrapping_sub(1);
         self.draft.legs.push(Leg {
             stream: fields.stream.unwrap_or(above),
             link,

@@ -1,5 +1,6 @@
 //! A draft written as a text.
-use crate::draft::{Between, Draft, count};
+use crate::draft::{Between, Draft};
+use reasons::small;
 use std::alloc::Global;
 use std::io::Write;
 use std::{fmt, io};
@@ -19,6 +20,8 @@ impl Page {
         }
     }
 
+    /// What was written.
+    // Kept: it hands the bytes out and prints nothing.
     pub fn text(&self) -> &[u8] {
         &self.text
     }
@@ -53,6 +56,7 @@ impl fmt::Display for Rate {
 }
 
 /// Writes a draft as a text.
+// Kept: names are bytes of any kind, which Display, a text of characters, cannot write.
 pub fn write<W: Write>(out: &mut W, draft: &Draft) -> io::Result<()> {
     let revision = draft.revision;
     let precision = largest(draft.precision);
@@ -103,14 +107,14 @@ fn put_streams<'d, W: Write>(out: &mut W, draft: &'d Draft) -> io::Result<&'d [L
         let deadline = largest(s.deadline);
         let octets = s.octets;
         write!(out, " period {period} deadline {deadline} octets {octets}")?;
-        let next = count(draft.legs.len().saturating_sub(left.len()));
+        let next = small(draft.legs.len().saturating_sub(left.len()));
         let (below, others) = split_legs(left, s, next);
-        if s.first != next || s.count != count(below.len()) {
+        if s.first != next || s.count != small(below.len()) {
             write!(out, " first {} legs {}", s.first, s.count)?;
         }
         out.write_all(b"\n")?;
         for leg in below {
-            put_leg(out, draft, *leg, Some(count(i)))?;
+            put_leg(out, draft, *leg, Some(small(i)))?;
         }
         left = others;
     }
