@@ -14,6 +14,7 @@ use table::Move;
 // How many bytes the caller has to lend for the cursor: any cursor fits.
 const CURSOR_ROOM: usize = files::MAX_CURSOR_BYTES;
 
+// Kept: StartsTable (specs/Calls.antt) says what C gets at this stage, so a refusal is an Answer here already, and no Err.
 pub(crate) fn start_table(t: &[u32], out: &mut [u8]) -> Answer
     ensures { StartsTable t.now out.old result out.new }
 {
@@ -32,6 +33,7 @@ pub(crate) fn start_table(t: &[u32], out: &mut [u8]) -> Answer
     }
 }
 
+// Kept: SlicesTable (specs/Calls.antt) says what C gets at this stage, so a refusal is an Answer here already, and no Err.
 fn slice_table(t: &[u32], cursor: Cursor, budget: u32, out: &mut [u8]) -> Answer
     ensures { SlicesTable t.now cursor budget out.old result out.new }
 {
@@ -94,6 +96,7 @@ fn write_both(t: &[u32], cursor: Cursor, file: &mut [u8], out: &mut [u8]) -> Ans
 }
 
 // A granted move changes the table, even where the new file then has no room.
+// Kept: MovesTable (specs/Calls.antt) says what C gets at this stage, so a refusal is an Answer here already, and no Err.
 fn move_table(t: &mut [u32], cursor: Cursor, mv: Move, file: &mut [u8], out: &mut [u8]) -> Answer
     ensures { MovesTable t.old cursor mv (lent file.old out.old) result (lent file.new out.new) }
 {
