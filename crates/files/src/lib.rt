@@ -34,6 +34,7 @@ pub struct Returned {
 }
 
 /// Reads a plan file into lent words, and returns how many words its table has: it is in the first of them. Refused 12, 13, 2, 14 or 15.
+// Kept: docs/CALLS.md names this call, and ReadsPlan says how many of the lent words are the table.
 pub fn read_plan(bytes: &[u8], words: &mut [u32]) -> Result<usize, Refusal>
     ensures { ReadsPlan bytes.now words.old result words.new }
 {
@@ -46,6 +47,7 @@ pub fn read_plan(bytes: &[u8], words: &mut [u32]) -> Result<usize, Refusal>
 }
 
 /// Writes a table as a plan file to lent bytes, and returns how many bytes it has: it is in the first of them. Refused 1, 2, 3 or 15.
+// Kept: docs/CALLS.md names this call, and WritesPlan says how many of the lent bytes are the file.
 pub fn write_plan(table: &[u32], bytes: &mut [u8]) -> Result<usize, Refusal>
     ensures { WritesPlan table.now bytes.old result bytes.new }
 {

@@ -34,7 +34,7 @@ impl From<StoredSlot> for Slot {
 }
 
 /// Internal: adds a slot that keeps its window to the first n, after those that do not begin later.
-// Kept: the library allocates nothing, so the slots lie in the first n places of an array of fixed size.
+// Kept: the library allocates nothing, so the slots lie in the first n places of a lent array; rotate_right may become memmove, which the archive goes without.
 // Kept: `widened` (specs/Steps.antt) builds a Slot as a record, so `Kept s` can be no ghost field of it; with it no cast fails, so no TryFrom.
 pub fn add(slots: &mut [StoredSlot], n: usize, s: Slot)
     requires n_in_bounds { n < length slots.old }

@@ -36,7 +36,7 @@ fn is_in_range(events: usize, constraints: &[i64], k: usize) -> bool
 }
 
 // The lowest constraint that is out of range, if there is one.
-// Kept: events and words go apart here, since a `Network` is in range, and that is what is asked.
+// Kept: events and words are not yet a `Network`; Finds and InRange speak of constraint k, and chunks would have to be led back to it.
 fn lowest_bad_constraint(events: usize, constraints: &[i64]) -> Option<usize>
     ensures { Finds (InRange events constraints.now) 0 (constraint_count constraints.now) result }
 {

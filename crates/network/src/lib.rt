@@ -41,6 +41,7 @@ pub fn constraint_count(constraints: &[i64]) -> usize
 }
 
 // The event whose number a word is.
+// Kept: a TryFrom would ask again what IsEvent says.
 fn event_in(events: usize, word: i64) -> usize
     requires { IsEvent events word }
     ensures { result ≡ nat_abs word }

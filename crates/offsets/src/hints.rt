@@ -46,7 +46,8 @@ impl<'a> Named<'a> {
     }
 
     // Puts the hint of a condition where it belongs among the first n. A condition that forbids nothing needs none, and where there is no room it has none.
-    // Kept: the library allocates nothing, so the hints lie in the first n places of an array of fixed size.
+    // Kept: the library allocates nothing, so the hints lie in the first n places of a lent array; rotate_right may become memmove, which the archive goes without.
+    // Kept: gates::slots::add inserts too, where Added says at which place; here the length alone is promised, and neither crate uses the other.
     fn noted(&self, order: &mut [u32], n: usize, hint: u32) -> usize
         requires { hint < length self.now.conditions.now }
         ensures { (result ≤ n + 1) × (length order.new ≡ length order.old) }

@@ -84,6 +84,7 @@ pub fn pair_condition(after: u64, period: u64, hold: u64, other: Slot, g: u64) -
 }
 
 /// Internal: the condition that allows every offset.
+// Kept: FREE is the same in words of 32 bits; made from it, AllowsAll would have to be proved through `widened`.
 pub fn free_condition() -> Condition
     ensures { AllowsAll result }
 {
