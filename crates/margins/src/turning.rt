@@ -14,10 +14,8 @@ pub(crate) fn turning(q: Condition) -> Condition
     ensures { TurnedFrom q result }
 {
     Condition {
-        modulus: q.modulus,
-        shift: q.shift,
-        before: q.before,
         after: q.after.max(1),
+        ..q
     }
 }
 
