@@ -6,19 +6,23 @@ use Rattle.basics.specs.declared.Cause.{Cause}
 use Rattle.basics.specs.declared.Cause.TheVariants as cause
 use Rattle.basics.specs.declared.Refusal.{Refusal}
 use Prim.Native.Nat.{ℕ}
+use mathlib.Core.Path.{◌≡◌, ◌∙◌, ap}
 use mathlib.Core.List.{List}
 use mathlib.Core.Logic.{inl, inr}
 use native.Mathlib.Omega.{arith}
 use Rattle.shape.specs.OfTables.{OfTable}
 use Rattle.shape.proofs.Refused.{of_table, shape_of_table}
+use Rattle.rules.specs.Places.{asked_at, rule_of, rule_at}
+use Rattle.rules.specs.declared.Rule.{Rule}
 use Rattle.repeats.specs.declared.Meeting.{Meeting}
 use Rattle.meeting.specs.Meets.{meeting_refusals, Meets}
 use Rattle.margins.specs.Asking.{ask_refusals}
 use Rattle.margins.specs.Margins.{Margins}
 use Rattle.margins.specs.Nearest.{Nears}
 use Rattle.margins.specs.declared.Nearest.{Nearest}
+use Rattle.host.specs.declared.place_margin.MarginNumbers.{MarginNumbers}
 use Rattle.host.specs.Meetings.{PlanMeets}
-use Rattle.host.specs.Margins.{PlanMargins}
+use Rattle.host.specs.Margins.{margin_numbers, PlanMargins, HostMargins}
 use Rattle.host.specs.NearOffsets.{PlanNears}
 use Rattle.host.specs.Steps.{SmallTold}
 use Rattle.host.proofs.Laws.{table_small}
@@ -49,6 +53,12 @@ table_margin_small leg place t (Err e) h = table_small (ask_of_table t leg place
 
 pub margin_small : (plan : List ℕ) (leg place : ℕ) (g : Result At Refusal) → PlanMargins plan leg place g → SmallTold g
 margin_small plan leg place = plan_small (Result At Refusal) refused (λ (t : List ℕ). Margins t leg place) SmallTold (λ k p s. s) (table_margin_small leg place) plan
+
+-- The rule of what is asked at a place is that of the place.
+pub margin_given : {plan : List ℕ} {leg place : ℕ} {x : Rule} {g : Result At Refusal} {a : MarginNumbers} → x ≡ rule_of (asked_at place) → PlanMargins plan leg place g → a ≡ margin_numbers x g
+    → HostMargins plan leg place a
+unfolding rule_at
+margin_given {g = g} e h f = record { given = g; told = h; answer = f ∙ ap (λ (y : Rule). margin_numbers y g) e }
 
 -- Nearest offsets.
 table_nearest_small : (leg place : ℕ) (t : List ℕ) (g : Result Nearest Refusal) → Nears t leg place g → SmallTold g

@@ -1,7 +1,6 @@
 // The call for C that tells the numbers of the rule at a place of the plan of a plan file, and what is to spare. Nothing is lent to be written.
 ghost use Rattle.std.specs.Prelude.{◌≡◌};
 ghost use Rattle.margins.specs.declared.Spare.TheVariants.{Free};
-ghost use Rattle.rules.specs.Places.{rule_at};
 ghost use Rattle.host.specs.Margins.{told_numbers, margin_numbers, HostMargins};
 ghost use Rattle.host.specs.Steps.{SmallTold};
 
@@ -28,18 +27,6 @@ pub struct MarginNumbers {
     pub after: u64,
     pub hold: u64,
     pub other: u64,
-}
-
-// The rule of a place.
-fn rule_at(place: u32) -> Rule
-    ensures { result ≡ rule_at place }
-{
-    match place {
-        0 => Rule::Window,
-        1 => Rule::Hop,
-        2 => Rule::Deadline,
-        _ => Rule::Overlap,
-    }
 }
 
 // What is told of nothing: 0 in each field.
@@ -122,5 +109,6 @@ pub fn conepalhui_margin_3(plan: &[u8], leg: u32, place: u32) -> MarginNumbers
     ensures { HostMargins plan.now leg place result }
 {
     let told = plans::of_plan(plan, |t| margins::margin_at(t, leg, place));
-    in_numbers(rule_at(place), told)
+    let rule = Rule::from(rules::place::asked_at(place as usize));
+    in_numbers(rule, told)
 }
