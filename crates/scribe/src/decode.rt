@@ -68,6 +68,7 @@ fn with_names<O: Write, E: Write>(
 }
 
 /// The plan on standard input, with the names that stand beside a path, or without any.
+// Kept: no length stands beside the array: the largest plan has room in it, and what was read is a slice of it.
 pub(crate) fn of<R: Files + Input, O: Write, E: Write>(
     alloc: Global,
     rt: &R,

@@ -7,7 +7,7 @@ use std::io::Write;
 use std::rt::Files;
 
 /// Where a plan file is written: a path, and whether a file that is there is replaced.
-#[derive(Clone, Copy, Debug)]
+#[derive(Clone, Copy, Debug, PartialEq, Eq)]
 pub(crate) struct Target<'a> {
     pub(crate) path: &'a [u8],
     pub(crate) is_replacing: bool,

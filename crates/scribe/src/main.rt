@@ -22,6 +22,8 @@ const OPTION_AT: usize = 3;
 /// How long an argument may be.
 const ROOM: usize = 4096;
 
+/// Whether a file that is there is replaced.
+// Kept: no length stands beside the array: an argument is read into it and comes back as a slice.
 fn is_replacing<R: Env>(rt: &R) -> bool {
     let mut room = [0u8; ROOM];
     matches!(
@@ -30,6 +32,8 @@ fn is_replacing<R: Env>(rt: &R) -> bool {
     )
 }
 
+/// Does what the first argument asks.
+// Kept: no length stands beside the array: an argument is read into it and comes back as a slice.
 fn run<R: Env + Files + Input, O: Write, E: Write>(
     alloc: Global,
     rt: &R,
