@@ -21,6 +21,7 @@ fn count(bytes: &[u8]) -> Result<usize, Refusal>
 }
 
 /// Reads a list file into lent words, and returns how many words its list has: it is in the first of them, a mask and a duration in turn. Refused 12, 13 or 15.
+// Kept: docs/CALLS.md names this call and `ReadsList` its answer: a number of lent words, which C takes as it is.
 #[tactic(auto, using(crate::proofs::Counting::no_room_read, crate::proofs::Counting::list_read))]
 pub fn read_list(bytes: &[u8], words: &mut [u32]) -> Result<usize, Refusal>
     ensures { ReadsList bytes.now words.old result words.new }
@@ -38,6 +39,7 @@ pub fn read_list(bytes: &[u8], words: &mut [u32]) -> Result<usize, Refusal>
 
 /// Writes words, a mask and a duration in turn, as a list file to lent bytes, and returns how many bytes it has: it is in the first of them.
 /// Refused 12 for half a pair, or 15.
+// Kept: docs/CALLS.md names this call and `WritesList` its answer: a number of lent bytes, which C takes as it is.
 #[tactic(auto, using(crate::proofs::Counting::no_room_written))]
 pub fn write_list(words: &[u32], bytes: &mut [u8]) -> Result<usize, Refusal>
     ensures { WritesList words.now bytes.old result bytes.new }

@@ -125,6 +125,7 @@ pub fn list_of(t: &[u32], link: u32, words: &mut [u32]) -> Result<usize, Refusal
 }
 
 /// Writes the gate list of a link of an accepted table as a list file to lent bytes: the file lies in the first of them, and Ok says how many. Refuses 1 to 7, 23, 19, 21, 22 or 15.
+// Kept: docs/CALLS.md names this call and `WritesGateList` its answer: a number of lent bytes, which C takes as it is.
 pub fn write_gate_list(t: &[u32], link: u32, bytes: &mut [u8]) -> Result<usize, Refusal>
     ensures { WritesGateList t.now link bytes.old result bytes.new }
 {
