@@ -16,6 +16,7 @@ pub const NEW_WORD: u32 = 0;
 
 /// Reads a plan file of the first layout into lent words, as a table of today, and returns how many words it has: it is in the first of them.
 /// Refused 12, 13, 2, 14 or, by the length of the table of today, 15.
+// Kept: docs/CALLS.md names this call and `ReadsFirst` its answer: a number of lent words.
 pub fn read_first(bytes: &[u8], words: &mut [u32]) -> Result<usize, Refusal>
     ensures { ReadsFirst bytes.now words.old result words.new }
 {

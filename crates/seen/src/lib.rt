@@ -86,6 +86,7 @@ fn rest_under(seen: &[u8], edition: u32) -> Option<&[u8]>
 }
 
 /// Internal: writes what is in front of a copy under an edition of the rules, whose first plan has so many bytes, and returns how many bytes that are. Refused 15.
+// Kept: the theorem WrittenIsKnown speaks of this answer, a number of lent bytes.
 pub fn write_front(edition: u32, size: u32, out: &mut [u8]) -> Result<usize, Refusal>
     ensures { WritesFront edition size out.old result out.new }
 {
@@ -119,6 +120,7 @@ pub fn is_copy(seen: &[u8], edition: u32) -> bool
 }
 
 /// Internal: where the plan begins that was kept alone under an edition of the rules: it is all that follows.
+// Kept: its caller in kept and the definition OnlyTold have a position, behind which all is the plan, so that no size lies beside it.
 pub fn only_plan(seen: &[u8], edition: u32) -> Option<usize>
     ensures { OnlyTold seen.now edition result }
 {
