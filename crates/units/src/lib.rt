@@ -71,16 +71,16 @@ fn split_unit(word: &[u8]) -> Option<(&[u8], Unit)> {
 }
 
 // What a number before a point and the digits after it are worth: the latter are parts of a unit, so many to a unit as scale says.
-fn scaled(a: u32, b: u32, scale: u64, unit: u64) -> Result<u32, TimeError>
-    requires scale_nonzero { 0 < scale }
-    requires unit_bound { unit ≤ 1000000000 }
-    ensures { ScaledTold a b scale unit result }
+fn scaled(a: u32, b: u32, scale: u64, unit: Unit) -> Result<u32, TimeError>
+    requires { 0 < scale }
+    ensures { ScaledTold a b scale (ns_of unit) result }
 {
-    let part = (b as u64) * unit;
+    let size = unit.ns() as u64;
+    let part = (b as u64) * size;
     if part % scale != 0 {
         return Err(TimeError::NotWhole);
     }
-    let ns = (a as u64) * unit + part / scale;
+    let ns = (a as u64) * size + part / scale;
     if ns > u32::MAX as u64 {
         return Err(TimeError::TooLarge);
     }
@@ -98,17 +98,15 @@ fn number(digits: &[u8], too_large: TimeError) -> Result<u32, TimeError>
     })
 }
 
-fn plain(digits: &[u8], unit: u64) -> Result<u32, TimeError>
-    requires { unit ≤ 1000000000 }
-    ensures { PlainTold digits.now unit result }
+fn plain(digits: &[u8], unit: Unit) -> Result<u32, TimeError>
+    ensures { PlainTold digits.now (ns_of unit) result }
 {
     let a = number(digits, TimeError::TooLarge)?;
     scaled(a, 0, 1, unit)
 }
 
-fn after_point(a: u32, digits: &[u8], unit: u64) -> Result<u32, TimeError>
-    requires { unit ≤ 1000000000 }
-    ensures { AfterTold a digits.now unit result }
+fn after_point(a: u32, digits: &[u8], unit: Unit) -> Result<u32, TimeError>
+    ensures { AfterTold a digits.now (ns_of unit) result }
 {
     if digits.len() > MOST_DIGITS {
         return Err(TimeError::TooFine);
@@ -117,9 +115,8 @@ fn after_point(a: u32, digits: &[u8], unit: u64) -> Result<u32, TimeError>
     scaled(a, b, 10u64.pow(digits.len() as u32), unit)
 }
 
-fn pointed(before: &[u8], after: &[u8], unit: u64) -> Result<u32, TimeError>
-    requires { unit ≤ 1000000000 }
-    ensures { PointedTold before.now after.now unit result }
+fn pointed(before: &[u8], after: &[u8], unit: Unit) -> Result<u32, TimeError>
+    ensures { PointedTold before.now after.now (ns_of unit) result }
 {
     let a = number(before, TimeError::TooLarge)?;
     after_point(a, after, unit)
@@ -133,9 +130,8 @@ fn point_of(text: &[u8]) -> Option<usize>
 }
 
 // What a number in a unit is worth.
-fn with_unit(number: &[u8], unit: u64) -> Result<u32, TimeError>
-    requires { unit ≤ 1000000000 }
-    ensures { TimeTold number.now unit result }
+fn with_unit(number: &[u8], unit: Unit) -> Result<u32, TimeError>
+    ensures { TimeTold number.now (ns_of unit) result }
 {
     let Some(point) = point_of(number) else {
         return plain(number, unit);
@@ -146,10 +142,11 @@ fn with_unit(number: &[u8], unit: u64) -> Result<u32, TimeError>
 /// Internal: reads a time: digits, perhaps a point and at most nine digits, and a unit.
 pub fn read_time(word: &[u8]) -> Result<u32, TimeError> {
     let (number, unit) = split_unit(word).ok_or(TimeError::NoUnit)?;
-    with_unit(number, unit.ns() as u64)
+    with_unit(number, unit)
 }
 
 /// The rates that have a name: 10, 100 and 1,000 Mb/s.
+// Kept: OctetTime (specs/Rates.antt) says how many ns an octet takes at each of them, which three numbers in read_rate would leave unsaid.
 #[derive(Clone, Copy, Debug, PartialEq, Eq)]
 pub enum Named {
     Ten,
