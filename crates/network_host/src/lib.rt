@@ -35,6 +35,7 @@ pub struct NetworkAnswer {
 }
 
 /// What C gets of a test: a result, and a number beside it.
+// Kept: host's Answer has the same two words for the other archive; each header has its own struct, and neither crate is below the other.
 #[repr(C)]
 #[derive(Clone, Copy, Debug, PartialEq, Eq)]
 pub struct Verdict {

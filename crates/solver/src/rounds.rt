@@ -6,7 +6,8 @@ ghost use Rattle.solver.specs.Steps.{max_ticks, Last, Stands, Ended};
 use network::Network;
 
 /// Internal: how far the events are lowered: the time of each; the tick at which it was last lowered, 0 for never; and the constraint that lowered it.
-// Kept: three arrays, since `Solved` hands out the times, and C gets them, as an array of their own; nobody compares or prints the three.
+// Kept: three arrays, since C gets the times as an array of their own, and Stands (specs/Steps.antt) takes the three as lists, with 0 for no tick.
+// Kept: nobody compares or prints the three.
 #[derive(Clone, Copy)]
 pub struct Lowered {
     pub times: [i64; network::MAX_EVENTS],
@@ -15,6 +16,7 @@ pub struct Lowered {
 }
 
 // Looks at constraint k, and returns the last event that was lowered, if any.
+// Kept: Stands changes with each constraint that is looked at, so no type holds it.
 fn lower(
     network: &Network,
     base: usize,
@@ -42,6 +44,7 @@ fn lower(
 }
 
 // Looks at every constraint once, and returns the last event that was lowered, if any.
+// Kept: Stands changes with each constraint that is looked at, so no type holds it.
 fn round(network: &Network, base: usize, lowered: &mut Lowered) -> Option<usize>
     requires constraints_bound { base + constraint_count network.now.constraints.now ≤ max_ticks }
     requires stands { Stands network.now.events network.now.constraints.now base 0 lowered.old.times lowered.old.ticks lowered.old.by }
@@ -57,6 +60,7 @@ fn round(network: &Network, base: usize, lowered: &mut Lowered) -> Option<usize>
 
 /// Internal: as many rounds as there are events, or until one lowers nothing. Returns an event that was lowered in the last round, or `None` where the times are the
 /// latest.
+// Kept: Stands changes with each constraint that is looked at, so no type holds it.
 pub fn rounds(network: &Network, lowered: &mut Lowered) -> Option<usize>
     requires { Stands network.now.events network.now.constraints.now 0 0 lowered.old.times lowered.old.ticks lowered.old.by }
     ensures { Ended result network.now.events network.now.constraints.now lowered.new.times lowered.new.ticks lowered.new.by }

@@ -16,6 +16,7 @@ pub struct Turn {
 
 // One step back from event x. An event's mark is the number of the step that left it, counted from 1, and 0 before.
 // Kept: an `Option` for a mark would hold the same number beside a case more; `Walked` (specs/Walks.antt) takes marks as numbers.
+// Kept: Walking takes k, x, path and marks of each step; as a ghost field of a type it would be owed at each write between two steps.
 fn back(
     network: &Network,
     by: &[u32; network::MAX_EVENTS],
@@ -37,6 +38,7 @@ fn back(
 }
 
 // Walks back until an event is met again.
+// Kept: as for `back`, Walking is said of the lists at each step.
 fn walk_back(
     network: &Network,
     by: &[u32; network::MAX_EVENTS],
@@ -49,7 +51,7 @@ fn walk_back(
 {
     let mut x = v;
     let mut k: usize = 0;
-    // Kept: no index is counted to an end; the walk ends where it meets an event again.
+    // Kept: k is the number of steps, and no bound of the loop; the walk ends where it meets an event again.
     while seen[x] == 0 {
         x = back(network, by, k, x, path, seen);
         k = k + 1;
