@@ -15,9 +15,9 @@ pub mod accepted;
 pub mod cursors;
 pub mod look;
 
-// Kept: the customer names these four answers (113 in docs/DECISIONS.md).
 /// The answer of a slice: violated, with the cursor of that place, the steps and the rule; nothing violated from here on, with the end cursor and the steps; paused, with the
 /// cursor of the first place not looked at and the steps; or a refusal, and the cursor as it was given.
+// Kept: the customer names these four answers (113 in docs/DECISIONS.md).
 #[derive(Clone, Copy, Debug, PartialEq, Eq)]
 pub enum SliceAnswer {
     Violated(Cursor, u32, Rule),

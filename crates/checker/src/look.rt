@@ -7,8 +7,8 @@ use files::Cursor;
 use places::chains::{Chains, NO_CHAIN};
 use shape::plan::Plan;
 
-// Kept: a Cursor goes to callers and comes back from files and C, so it cannot hold a fact about one table.
 /// Looks on leg by leg, with the chains of all legs: the slice stands at (a,p), and `left` is what is left of its budget.
+// Kept: a Cursor goes to callers and comes back from files and C, so it cannot hold a fact about one table.
 fn look_on(chains: &Chains, cursor: Cursor, budget: u32) -> SliceAnswer
     requires { CursorRight chains.now.plan.now cursor }
     ensures { Slices chains.now.plan.now cursor budget result }

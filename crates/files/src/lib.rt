@@ -75,8 +75,8 @@ pub fn read_cursor(bytes: &[u8]) -> Result<Cursor, Refusal>
     })
 }
 
-// Kept: it ends as write_plan does, but its refusal gives the cursor back; one function for both would be three lines and a conversion.
 /// Writes a cursor to lent bytes, and returns how many bytes it has: it is in the first of them. Refused 15, with the cursor as it was given.
+// Kept: it ends as write_plan does, but its refusal gives the cursor back; one function for both would be three lines and a conversion.
 pub fn write_cursor(cursor: Cursor, bytes: &mut [u8]) -> Result<usize, Returned>
     ensures { WritesCursor cursor bytes.old result bytes.new }
 {

@@ -7,9 +7,9 @@ ghost use Rattle.files.specs.Plan.{TakesPlan};
 use basics::{Cause, Refusal};
 use numbers::series;
 
-// Kept: read_plan leaves the lent words as they were on a refusal, so it goes over the bytes twice; this goes once and promises nothing then.
 /// Internal: reads a plan file into words that have room for any table, and that nobody reads after a refusal. Returns how many words its table has.
 /// Refused 12, 13, 2 or 14.
+// Kept: read_plan leaves the lent words as they were on a refusal, so it goes over the bytes twice; this goes once and promises nothing then.
 pub fn take_plan(bytes: &[u8], words: &mut [u32]) -> Result<usize, Refusal>
     requires { max_table_words ≤ length words.old }
     ensures { TakesPlan bytes.now result words.new }

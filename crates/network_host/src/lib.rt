@@ -24,8 +24,8 @@ const NO_CHAIN: u32 = 3;
 
 const REFUSED: u32 = 100;
 
-// Kept: C gets this struct as it is laid out, with an array of this size; nobody compares or prints it.
 /// What C gets of solving, laid out as the struct in the header: a result, a number beside it, and the times.
+// Kept: C gets this struct as it is laid out, with an array of this size; nobody compares or prints it.
 #[repr(C)]
 #[derive(Clone, Copy)]
 pub struct NetworkAnswer {

@@ -12,9 +12,9 @@ use rounds::Lowered;
 pub mod rounds;
 pub mod walk;
 
-// Kept: C gets the times as an array of this size; nobody compares or prints the answer as a whole.
 /// What solving gives: `None` where there are times, the length of a chain, or a refusal.
 /// The times are 0 where there is a chain, where it is refused, and for events that there are not.
+// Kept: C gets the times as an array of this size; nobody compares or prints the answer as a whole.
 #[derive(Clone, Copy)]
 pub struct Solved {
     pub outcome: Result<Option<usize>, Refusal>,

@@ -5,8 +5,8 @@ use decimal::DecimalError;
 use lines::words::{has_control, words};
 use std::alloc::{AllocError, Global};
 
-// Kept: nobody compares or prints what a line says, and each further derive is one more function to prove.
 /// Internal: what a line of a network says: nothing; the name of an event; a constraint between two; or what is none of these.
+// Kept: nobody compares or prints what a line says, and each further derive is one more function to prove.
 #[derive(Clone, Copy)]
 pub enum Wish<'a> {
     Nothing,
@@ -15,9 +15,9 @@ pub enum Wish<'a> {
     Wrong,
 }
 
-// Kept: nobody compares or prints what a line says, and each further derive is one more function to prove.
 /// The time of the first event minus that of the second is at most a number, or the time of the second minus that of the first. A number that no constraint may have
 /// is one past the limit.
+// Kept: nobody compares or prints what a line says, and each further derive is one more function to prove.
 #[derive(Clone, Copy)]
 pub struct Between<'a> {
     pub first: &'a [u8],
@@ -28,9 +28,9 @@ pub struct Between<'a> {
     pub number: &'a [u8],
 }
 
-// Kept: nobody compares or prints what a line says, and each further derive is one more function to prove.
 /// Internal: what a line of a claim says: nothing; the first line of an answer; the time of an event, or one that has more than 64 bits; the line of a constraint; or what
 /// is none of these.
+// Kept: nobody compares or prints what a line says, and each further derive is one more function to prove.
 #[derive(Clone, Copy)]
 pub enum Claim<'a> {
     Nothing,

@@ -3,8 +3,8 @@ use crate::forms;
 use crate::forms::{Between, Wish};
 use std::alloc::{AllocError, Global};
 
-// Kept: nobody compares or prints it as a whole, and each further derive is one more function to prove.
 /// The time of event `to` minus the time of event `from` is at most `most`, as a line says.
+// Kept: nobody compares or prints it as a whole, and each further derive is one more function to prove.
 #[derive(Clone, Copy)]
 pub struct Constraint<'a> {
     pub from: usize,
@@ -16,8 +16,8 @@ pub struct Constraint<'a> {
     pub number: &'a [u8],
 }
 
-// Kept: nobody compares or prints it as a whole, and each further derive is one more function to prove.
 /// A line that has none of the forms, counted from 1, and what is read of it.
+// Kept: nobody compares or prints it as a whole, and each further derive is one more function to prove.
 #[derive(Clone, Copy)]
 pub struct WrongLine<'a> {
     pub line: usize,
