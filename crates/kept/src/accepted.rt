@@ -23,12 +23,15 @@ pub enum Accepted {
 }
 
 // Whether u is the same as t but for one leg of t.
+// Kept: a leg is left out of the comparison, so no derived equality says it.
 fn is_same(t: &[u32], u: &[u32], leg: u32) -> bool {
     table::judged_size(t).is_ok()
         && leg < t[table::LEGS_AT]
         && recheck::same::same_but_leg(t, u, leg)
 }
 
+// Kept: operator reaches no allocator (docs/TRUST.md), so files and paths lie in arrays of the largest size, and what was read is a slice of one.
+// Kept: a bool says whether it was done or is so, as callers ask and chain by &&; what went wrong is said or answered already.
 impl<'a, R: Files, O: Write, E: Write> Check<'a, R, O, E> {
     fn not_ours(&mut self) -> Accepted {
         reasons::begin(self.err);

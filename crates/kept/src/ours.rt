@@ -29,6 +29,8 @@ enum Beside {
     NotOurs,
 }
 
+// Kept: operator reaches no allocator (docs/TRUST.md), so files and paths lie in arrays of the largest size, and what was read is a slice of one.
+// Kept: a bool says whether it was done or is so, as callers ask and chain by &&; what went wrong is said or answered already.
 impl<'a, R: Files, O: Write, E: Write> Check<'a, R, O, E> {
     // Says of the cursor's file, or of one beside it, what it is not, and that it was left as it is.
     fn left_as_it_is(&mut self, what: &[u8]) {

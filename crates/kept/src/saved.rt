@@ -3,8 +3,9 @@ use crate::Check;
 use basics::Refusal;
 use durable::FileRead;
 use files::Cursor;
+use reasons::records::header_word;
 use show::answers;
-use show::answers::Part;
+use show::answers::{NotKnown, Part};
 use std::io;
 use std::io::Write;
 use std::rt::Files;
@@ -26,11 +27,18 @@ pub(crate) enum Saved {
     Failed,
 }
 
-/// Whether a cursor is at the end of a plan of that revision and with so many legs.
-pub fn is_end(c: Cursor, revision: u32, legs: usize) -> bool {
-    c.revision == revision && c.leg as usize == legs && c.place == 0
+/// Whether a cursor is at the end of a plan.
+// Kept: no other function says it.
+pub fn is_end(t: &[u32], c: Cursor) -> bool {
+    c == Cursor {
+        revision: header_word(t, table::REVISION_AT),
+        leg: header_word(t, table::LEGS_AT),
+        place: 0,
+    }
 }
 
+// Kept: operator reaches no allocator (docs/TRUST.md), so files and paths lie in arrays of the largest size, and what was read is a slice of one.
+// Kept: a bool says whether it was done or is so, as callers ask and chain by &&; what went wrong is said or answered already.
 impl<'a, R: Files, O: Write, E: Write> Check<'a, R, O, E> {
     pub(crate) fn found(&mut self) -> Saved {
         let mut room = [0u8; CURSOR_ROOM];
@@ -95,14 +103,14 @@ impl<'a, R: Files, O: Write, E: Write> Check<'a, R, O, E> {
                 if seen::known(kept, rules::EDITION, plan) {
                     return Ok(true);
                 }
-                let next: &[u8] = if self.is_copy(kept) {
-                    b"changed"
+                let reason = if self.is_copy(kept) {
+                    NotKnown::Changed
                 } else {
-                    b"damaged"
+                    NotKnown::Damaged
                 };
-                answers::unknown(self.out, b"changed", revision, next)?;
+                answers::unknown(self.out, reason, revision)?;
             }
-            FileRead::Missing => answers::unknown(self.out, b"unseen", revision, b"unseen")?,
+            FileRead::Missing => answers::unknown(self.out, NotKnown::Unseen, revision)?,
             FileRead::Failed => {}
         }
         Ok(false)
@@ -118,9 +126,9 @@ impl<'a, R: Files, O: Write, E: Write> Check<'a, R, O, E> {
     }
 
     /// Whether the saved cursor is at the end of this very plan, which was last seen with it. A cursor that is missing, refused or not of this plan is not.
-    pub fn has_ended(&mut self, plan: &[u8], revision: u32, legs: usize) -> bool {
+    pub fn has_ended(&mut self, plan: &[u8], t: &[u32]) -> bool {
         match self.found() {
-            Saved::At(c) if is_end(c, revision, legs) => self.knows(SEEN, rules::EDITION, plan),
+            Saved::At(c) if is_end(t, c) => self.knows(SEEN, rules::EDITION, plan),
             _ => false,
         }
     }

@@ -1,15 +1,15 @@
 // Start, slice, move and recheck on files. Everything is written beside first, so that a full disk is met before any file is replaced.
-use crate::late;
+use crate::late::{Plans, after_move};
 use basics::{Cause, Refusal};
 use checker::SliceAnswer;
 use durable::FileRead;
 use files::{Cursor, Returned};
 use kept::ours::Standing;
-use kept::{Check, refused};
+use kept::{Check, refused, saved};
 use reasons::records;
 use reasons::records::{header_word, leg_count};
 use show::answers;
-use show::answers::Part;
+use show::answers::{Part, Reached};
 use std::io;
 use std::io::Write;
 use std::rt::Files;
@@ -19,6 +19,7 @@ use table::Move;
 pub(crate) const PLAN_ROOM: usize = files::MAX_FILE_BYTES + 1;
 
 // What is asked of a plan and its check.
+// Kept: an order is matched once, at the call that it is for; in its place a closure would have to hold the check and the plan, which are made later.
 #[derive(Clone, Copy, Debug, PartialEq, Eq)]
 pub(crate) enum Order {
     Start { anew: bool },
@@ -28,6 +29,12 @@ pub(crate) enum Order {
     Recheck(u32),
 }
 
+// A cursor of a plan.
+fn reached(t: &[u32], at: Cursor) -> Reached {
+    let legs = leg_count(t);
+    Reached { at, legs }
+}
+
 // A call: the files of a check, and the path of its plan.
 #[derive(Drop)]
 pub(crate) struct Call<'a, R: Files, O: Write, E: Write> {
@@ -35,6 +42,8 @@ pub(crate) struct Call<'a, R: Files, O: Write, E: Write> {
     pub(crate) plan: &'a [u8],
 }
 
+// Kept: operator reaches no allocator (docs/TRUST.md), so files and tables lie in arrays of the largest size, and what was read or written is a slice of one.
+// Kept: a bool says whether it was done or is so, as callers ask and chain by &&; what went wrong is said or answered already.
 impl<'a, R: Files, O: Write, E: Write> Call<'a, R, O, E> {
     // What is refused is said on standard error before the answer is written.
     pub(crate) fn judged(&mut self, t: &[u32], refusal: Refusal, part: Part) -> io::Result<()> {
@@ -97,7 +106,7 @@ impl<'a, R: Files, O: Write, E: Write> Call<'a, R, O, E> {
             Standing::NotOurs => return Ok(false),
             Standing::Begun(c) => {
                 if !anew {
-                    answers::begun(self.check.out, c, leg_count(t))?;
+                    answers::begun(self.check.out, reached(t, c))?;
                 }
             }
             Standing::OtherEdition(edition) => {
@@ -115,7 +124,7 @@ impl<'a, R: Files, O: Write, E: Write> Call<'a, R, O, E> {
             Err(Returned { refusal, .. }) => self.plan_refused(t, refusal)?,
             Ok(c) => {
                 if self.may_begin(t, anew)? && self.begun(plan, c) {
-                    answers::granted(self.check.out, c, leg_count(t))?;
+                    answers::granted(self.check.out, reached(t, c))?;
                 }
             }
         }
@@ -138,22 +147,21 @@ impl<'a, R: Files, O: Write, E: Write> Call<'a, R, O, E> {
         if !self.may_go_on(t)? {
             return Ok(());
         }
-        let legs = leg_count(t);
         match checker::slice(t, given, budget) {
             SliceAnswer::Refused(refusal, c) => self.cursor_refused(t, refusal, c)?,
             SliceAnswer::Violated(c, steps, rule) => {
                 if self.gone_on(plan, c)? {
-                    answers::violated(self.check.out, c, steps, rule, legs)?;
+                    answers::violated(self.check.out, reached(t, c), steps, rule)?;
                 }
             }
             SliceAnswer::NothingViolated(c, steps) => {
                 if self.gone_on(plan, c)? {
-                    answers::nothing_violated(self.check.out, c, steps, legs)?;
+                    answers::nothing_violated(self.check.out, reached(t, c), steps)?;
                 }
             }
             SliceAnswer::Paused(c, steps) => {
                 if self.gone_on(plan, c)? {
-                    answers::paused(self.check.out, c, steps, legs)?;
+                    answers::paused(self.check.out, reached(t, c), steps)?;
                 }
             }
         }
@@ -162,19 +170,16 @@ impl<'a, R: Files, O: Write, E: Write> Call<'a, R, O, E> {
 
     // Writes the accepted plan that is to be kept, if any, beside its file, and gives it its name.
     fn accepted_kept(&mut self, keep: Option<&[u8]>) -> bool {
-        match keep {
-            None => true,
-            Some(plan) => {
-                self.check.write_accepted_beside(plan) && self.check.put_accepted_in_place()
-            }
-        }
+        keep.is_none_or(|plan| {
+            self.check.write_accepted_beside(plan) && self.check.put_accepted_in_place()
+        })
     }
 
     // Replaces all three files, and before them the accepted plan, if one is to be kept: it is true by itself. The copy goes first and has both plans, so that whichever of the two is
     // found is known; then the plan, then the cursor.
-    fn replaced(&mut self, old: &[u8], new: &[u8], c: Cursor, keep: Option<&[u8]>) -> bool {
-        self.check.write_seen_beside(new, old)
-            && durable::write_beside(self.check.rt, self.check.err, self.plan, &[new])
+    fn replaced(&mut self, plans: Plans, c: Cursor, keep: Option<&[u8]>) -> bool {
+        self.check.write_seen_beside(plans.new, plans.old)
+            && durable::write_beside(self.check.rt, self.check.err, self.plan, &[plans.new])
             && self.check.write_cursor_beside(c)
             && self.accepted_kept(keep)
             && self.check.put_seen_in_place()
@@ -201,7 +206,7 @@ impl<'a, R: Files, O: Write, E: Write> Call<'a, R, O, E> {
         rechecks: bool,
     ) -> io::Result<()> {
         let before = records::leg_at(t, mv.leg);
-        let ended = late::is_end(t, c);
+        let ended = saved::is_end(t, c);
         let d = match checker::move_leg(t, c, mv) {
             Ok(d) => d,
             Err(Returned { refusal, .. }) => return self.move_refused(t, refusal, mv),
@@ -213,20 +218,23 @@ impl<'a, R: Files, O: Write, E: Write> Call<'a, R, O, E> {
         let Ok(n) = files::write_plan(t, &mut room) else {
             return Ok(());
         };
-        let new = &room[..n];
-        if !rechecks {
-            if self.replaced(old, new, d, None) {
-                answers::move_lines(self.check.out, d, leg_count(t), mv, before)?;
-                answers::moved(self.check.out)?;
-            }
+        let plans = Plans {
+            old,
+            new: &room[..n],
+        };
+        let after = if rechecks {
+            Some(after_move(&mut self.check, t, mv.leg, ended, plans))
+        } else {
+            None
+        };
+        if !self.replaced(plans, d, after.and_then(|after| after.keep)) {
             return Ok(());
         }
-        let after = late::after_move(&mut self.check, t, mv.leg, ended);
-        if self.replaced(old, new, d, after.keep.of(old, new)) {
-            answers::move_lines(self.check.out, d, leg_count(t), mv, before)?;
-            self.tell(t, mv.leg, after)?;
+        answers::move_lines(self.check.out, reached(t, d), mv, before)?;
+        match after {
+            Some(after) => self.tell(t, mv.leg, after),
+            None => answers::moved(self.check.out),
         }
-        Ok(())
     }
 
     fn move_leg(&mut self, plan: &[u8], t: &mut [u32], mv: Move, rechecks: bool) -> io::Result<()> {

@@ -8,6 +8,7 @@ use std::io::Write;
 use std::rt::Files;
 
 // Writes a table as a plan file under a new name.
+// Kept: operator reaches no allocator (docs/TRUST.md), so the file lies in an array of the largest size.
 fn written<R: Files, O: Write, E: Write>(
     rt: &R,
     out: &mut O,
@@ -33,6 +34,8 @@ fn written<R: Files, O: Write, E: Write>(
     Ok(())
 }
 
+// The table of the old file is written.
+// Kept: operator reaches no allocator (docs/TRUST.md), so the table lies in an array of the largest size.
 fn converted<R: Files, O: Write, E: Write>(
     rt: &R,
     out: &mut O,
@@ -50,6 +53,8 @@ fn converted<R: Files, O: Write, E: Write>(
     }
 }
 
+// Reads the old file and writes the new one.
+// Kept: operator reaches no allocator (docs/TRUST.md), so the file lies in an array of the largest size, and what was read is a slice of it.
 pub(crate) fn first<R: Files, O: Write, E: Write>(
     rt: &R,
     out: &mut O,

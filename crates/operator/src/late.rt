@@ -3,76 +3,84 @@ use crate::calls::Call;
 use basics::{Cause, Refusal};
 use files::Cursor;
 use kept::accepted::Accepted;
-use kept::{Check, refused, saved};
+use kept::{Check, refused};
 use reasons::records::{header_word, leg_count};
 use recheck::Rechecked;
 use show::answers;
-use show::answers::Part;
+use show::answers::{LookedAt, Part};
 use std::io;
 use std::io::Write;
 use std::rt::Files;
 use table::Move;
 
-// Which plan is to be kept as an accepted one: none, the one before a move, or the one after it.
+// What follows a move: the answer of a recheck, whether a plan that is the same but for that leg is known to have been accepted, and the plan that is to be kept as an accepted
+// one, if any.
 #[derive(Clone, Copy, Debug, PartialEq, Eq)]
-pub(crate) enum Keep {
-    Nothing,
-    Old,
-    New,
+pub(crate) struct After<'p> {
+    told: Result<Rechecked, Refusal>,
+    is_known: bool,
+    pub(crate) keep: Option<&'p [u8]>,
 }
 
-impl Keep {
-    // The plan that is to be kept, of the one before a move and the one after it.
-    pub(crate) fn of<'a>(self, old: &'a [u8], new: &'a [u8]) -> Option<&'a [u8]> {
-        match self {
-            Keep::Nothing => None,
-            Keep::Old => Some(old),
-            Keep::New => Some(new),
+impl After<'_> {
+    // What the recheck of a leg looked at: n places of a plan.
+    fn looked_at(self, t: &[u32], leg: u32, n: u32) -> LookedAt {
+        LookedAt {
+            leg,
+            n,
+            legs: leg_count(t),
+            revision: revision_of(t),
+            is_known: self.is_known,
         }
     }
 }
 
-// What follows a move: the answer of a recheck, whether a plan that is the same but for that leg is known to have been accepted, and what is to be kept.
+// The plan before a move, and the one after it.
 #[derive(Clone, Copy, Debug, PartialEq, Eq)]
-pub(crate) struct After {
-    told: Result<Rechecked, Refusal>,
-    known: bool,
-    pub(crate) keep: Keep,
+pub(crate) struct Plans<'p> {
+    pub(crate) old: &'p [u8],
+    pub(crate) new: &'p [u8],
 }
 
 fn revision_of(t: &[u32]) -> u32 {
     header_word(t, table::REVISION_AT)
 }
 
-// Whether a cursor is at the end of a table.
-pub(crate) fn is_end(t: &[u32], c: Cursor) -> bool {
-    saved::is_end(c, revision_of(t), leg_count(t))
-}
-
 // A plan of which nothing is violated is kept, where that is known of the whole of it; and otherwise the one of which that was known.
-fn found(told: Result<Rechecked, Refusal>, standing: Accepted, ended: bool) -> After {
-    let known = ended || standing == Accepted::Same;
-    let clean = matches!(told, Ok(Rechecked::NothingViolated(_)));
+fn found<'p>(
+    told: Result<Rechecked, Refusal>,
+    standing: Accepted,
+    ended: bool,
+    plans: Plans<'p>,
+) -> After<'p> {
+    let is_known = ended || standing == Accepted::Same;
+    let is_clean = matches!(told, Ok(Rechecked::NothingViolated(_)));
     let keep = if standing == Accepted::NotOurs {
-        Keep::Nothing
-    } else if clean && known {
-        Keep::New
+        None
+    } else if is_clean && is_known {
+        Some(plans.new)
     } else if ended {
-        Keep::Old
+        Some(plans.old)
     } else {
-        Keep::Nothing
+        None
     };
-    After { told, known, keep }
+    After {
+        told,
+        is_known,
+        keep,
+    }
 }
 
 // What follows a move that is granted, after a cursor that was at the end of the plan before it, or was not.
-pub(crate) fn after_move<R: Files, O: Write, E: Write>(
+pub(crate) fn after_move<'p, R: Files, O: Write, E: Write>(
     check: &mut Check<R, O, E>,
     t: &[u32],
     leg: u32,
     ended: bool,
-) -> After {
-    found(recheck::recheck(t, leg), check.accepted(t, leg), ended)
+    plans: Plans<'p>,
+) -> After<'p> {
+    let told = recheck::recheck(t, leg);
+    found(told, check.accepted(t, leg), ended, plans)
 }
 
 impl<'a, R: Files, O: Write, E: Write> Call<'a, R, O, E> {
@@ -91,20 +99,18 @@ impl<'a, R: Files, O: Write, E: Write> Call<'a, R, O, E> {
 
     // Writes the answer of a recheck.
     pub(crate) fn tell(&mut self, t: &[u32], leg: u32, after: After) -> io::Result<()> {
-        let legs = leg_count(t);
-        let revision = revision_of(t);
         match after.told {
             Err(refusal) => self.leg_refused(t, leg, refusal),
             Ok(Rechecked::NothingViolated(n)) => {
-                answers::recheck_clean(self.check.out, leg, n, legs, revision, after.known)
+                answers::recheck_clean(self.check.out, after.looked_at(t, leg, n))
             }
             Ok(Rechecked::Violated(place, rule, n)) => {
                 let at = Cursor {
-                    revision,
+                    revision: revision_of(t),
                     leg: place.leg,
                     place: place.place,
                 };
-                answers::recheck_violated(self.check.out, leg, at, rule, n, legs, after.known)
+                answers::recheck_violated(self.check.out, after.looked_at(t, leg, n), at, rule)
             }
         }
     }
@@ -133,10 +139,14 @@ impl<'a, R: Files, O: Write, E: Write> Call<'a, R, O, E> {
         }
         let standing = self.check.accepted(t, leg);
         let ended = matches!(told, Ok(Rechecked::NothingViolated(_)))
-            && self.check.has_ended(plan, revision_of(t), leg_count(t));
-        let after = found(told, standing, ended);
-        if after.keep == Keep::New {
-            self.keep_plan(plan);
+            && self.check.has_ended(plan, t);
+        let plans = Plans {
+            old: plan,
+            new: plan,
+        };
+        let after = found(told, standing, ended, plans);
+        if let Some(accepted) = after.keep {
+            self.keep_plan(accepted);
         }
         self.tell(t, leg, after)
     }

@@ -41,6 +41,7 @@ const OFFSET_AT: usize = 5;
 const PERIODS_AT: usize = 6;
 
 // An argument that has to be a number. Where it is none, that is said.
+// Kept: no length stands beside the array: an argument is read into it and comes back as a slice.
 fn number_at<R: Env, E: Write>(rt: &R, err: &mut E, i: usize, what: &str) -> Option<u32> {
     let mut room = [0u8; 4096];
     let text = input::argument(rt, err, i, &mut room, what.as_bytes())?;
@@ -58,19 +59,22 @@ fn number_at<R: Env, E: Write>(rt: &R, err: &mut E, i: usize, what: &str) -> Opt
 }
 
 // A start says whether a check that has begun may be dropped.
+// Kept: no length stands beside the array: an argument is read into it and comes back as a slice.
 fn start_order<R: Env, E: Write>(rt: &R, err: &mut E) -> Option<Order> {
     if !input::has_argument(rt, ANEW_AT) {
         return Some(Order::Start { anew: false });
     }
     let mut room = [0u8; 4096];
-    if input::argument_or_nothing(rt, ANEW_AT, &mut room) == b"--anew".as_slice() {
-        return Some(Order::Start { anew: true });
+    match input::argument_or_nothing(rt, ANEW_AT, &mut room) {
+        b"--anew" => Some(Order::Start { anew: true }),
+        _ => {
+            reasons::text(
+                err,
+                b"after the files a start takes --anew and nothing else\n",
+            );
+            None
+        }
     }
-    reasons::text(
-        err,
-        b"after the files a start takes --anew and nothing else\n",
-    );
-    None
 }
 
 // The move that is asked for. Its period word is 0 where it is not given.
@@ -97,6 +101,8 @@ fn recheck_order<R: Env, E: Write>(rt: &R, err: &mut E) -> Option<Order> {
     Some(Order::Recheck(number_at(rt, err, FIRST_NUMBER_AT, "the leg")?))
 }
 
+// What is asked for, by the first argument.
+// Kept: no length stands beside the array: an argument is read into it and comes back as a slice.
 fn order_of<R: Env, E: Write>(rt: &R, err: &mut E) -> Option<Asked> {
     let mut room = [0u8; 4096];
     let order = match input::argument_or_nothing(rt, VERB_AT, &mut room) {
@@ -142,6 +148,8 @@ fn on_paths<'a, R: Files, O: Write, E: Write>(
     call.answered(order)
 }
 
+// Reads the two paths and does what is asked.
+// Kept: no length stands beside the array: an argument is read into it and comes back as a slice.
 fn on_files<R: Env + Files, O: Write, E: Write>(
     rt: &R,
     out: &mut O,

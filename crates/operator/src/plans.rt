@@ -21,6 +21,7 @@ fn given<'a, R: Input, O: Write, E: Write>(
     }
 }
 
+// Kept: operator reaches no allocator (docs/TRUST.md), so the table lies in an array of the largest size, and what was read is a slice of it.
 pub(crate) fn words<R: Input, O: Write, E: Write>(
     rt: &R,
     out: &mut O,
@@ -33,6 +34,7 @@ pub(crate) fn words<R: Input, O: Write, E: Write>(
     }
 }
 
+// Kept: operator reaches no allocator (docs/TRUST.md), so the table lies in an array of the largest size, and what was read is a slice of it.
 pub(crate) fn shape<R: Input, O: Write, E: Write>(
     rt: &R,
     out: &mut O,

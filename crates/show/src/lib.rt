@@ -2,30 +2,12 @@
 // safe and to end; the programs' expected output tests the rest.
 #![tactic(auto)]
 
-ghost use Rattle.std.specs.Prelude.{◌≤◌};
-ghost use Rattle.table.specs.Layout.{Sized};
-
 use basics::Refusal;
 use std::io;
 use std::io::Write;
 
 pub mod answers;
 pub mod told;
-
-/// Prints text as it is.
-pub fn text<O: Write>(out: &mut O, bytes: &[u8]) -> io::Result<()> {
-    out.write_all(bytes)
-}
-
-/// Prints a number in decimal.
-pub fn number<O: Write>(out: &mut O, n: u64) -> io::Result<()> {
-    write!(out, "{n}")
-}
-
-/// Ends a line.
-pub fn end_line<O: Write>(out: &mut O) -> io::Result<()> {
-    writeln!(out)
-}
 
 /// Prints a refusal's number and position, and ends no line.
 pub fn refusal<O: Write>(out: &mut O, refusal: Refusal) -> io::Result<()> {
@@ -37,7 +19,7 @@ pub fn refusal<O: Write>(out: &mut O, refusal: Refusal) -> io::Result<()> {
 /// Prints a refusal's line.
 pub fn refused<O: Write>(out: &mut O, refused: Refusal) -> io::Result<()> {
     refusal(out, refused)?;
-    end_line(out)
+    writeln!(out)
 }
 
 /// Prints bytes in hexadecimal, two digits each, on one line.
@@ -48,7 +30,7 @@ pub fn bytes<O: Write>(out: &mut O, bytes: &[u8]) -> io::Result<()> {
             write!(out, " {byte:02x}")?;
         }
     }
-    end_line(out)
+    writeln!(out)
 }
 
 /// Prints words, width of them to a line. After a last line that has fewer is a blank, and no end of a line.
@@ -62,30 +44,21 @@ pub fn rows<O: Write>(out: &mut O, words: &[u32], width: usize) -> io::Result<()
     Ok(())
 }
 
-fn records<O: Write>(out: &mut O, t: &[u32]) -> io::Result<()>
-    requires { Sized t.now }
-{
+/// Prints a table, a record to a line: header, links, streams, legs. Where its size is refused it prints that, and returns false.
+pub fn table<O: Write>(out: &mut O, t: &[u32]) -> io::Result<bool> {
+    if let Err(refusal) = table::judged_size(t) {
+        refused(out, refusal)?;
+        return Ok(false);
+    }
     rows(out, &t[..table::HEAD_WORDS], table::HEAD_WORDS)?;
     rows(out, table::parts::link_part(t), table::LINK_WORDS)?;
     rows(out, table::parts::stream_part(t), table::STREAM_WORDS)?;
-    rows(out, table::parts::leg_part(t), table::LEG_WORDS)
-}
-
-/// Prints a table, a record to a line: header, links, streams, legs. Where its size is refused it prints that, and returns false.
-pub fn table<O: Write>(out: &mut O, t: &[u32]) -> io::Result<bool> {
-    match table::judged_size(t) {
-        Ok(()) => {
-            records(out, t)?;
-            Ok(true)
-        }
-        Err(refusal) => {
-            refused(out, refusal)?;
-            Ok(false)
-        }
-    }
+    rows(out, table::parts::leg_part(t), table::LEG_WORDS)?;
+    Ok(true)
 }
 
 /// Prints the table in the first n words of a buffer, where it has as many.
+// Kept: n is what a call says of words that were lent to it; at a slice each caller would have to take the case apart in which n is too large.
 pub fn first_words<O: Write>(out: &mut O, words: &[u32], n: usize) -> io::Result<()> {
     if let Some(t) = words.get(..n) {
         table(out, t)?;
@@ -94,6 +67,7 @@ pub fn first_words<O: Write>(out: &mut O, words: &[u32], n: usize) -> io::Result
 }
 
 /// Prints the words of a buffer from the n-th on, on one line.
+// Kept: n is what a call says of words that were lent to it; at a slice each caller would have to take the case apart in which n is too large.
 pub fn rest_words<O: Write>(out: &mut O, words: &[u32], n: usize) -> io::Result<()> {
     match words.get(n..) {
         Some(rest) if !rest.is_empty() => rows(out, rest, rest.len()),

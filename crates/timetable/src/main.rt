@@ -30,6 +30,7 @@ fn checked<O: Write, E: Write>(out: &mut O, err: &mut E, t: &[u32]) -> io::Resul
     }
 }
 
+// Kept: timetable reaches no allocator (docs/TRUST.md), so the table lies in an array of the largest size, and what was read is a slice of it.
 fn run<R: Input, O: Write, E: Write>(rt: &R, out: &mut O, err: &mut E) -> io::Result<()> {
     let mut room = [0u32; table::MAX_TABLE_WORDS];
     match input::given_plan(rt, err, &mut room)? {
