@@ -49,8 +49,7 @@ impl<'a, R: Files, O: Write, E: Write> Check<'a, R, O, E> {
             Some(edition) if edition != ACCEPTED_HERE => return Accepted::Unknown,
             _ => {}
         }
-        let Some(plan) = seen::only_plan(kept, ACCEPTED_HERE).and_then(|next| kept.get(next..))
-        else {
+        let Some(plan) = seen::only_plan(kept, ACCEPTED_HERE) else {
             return self.not_ours();
         };
         let mut words = [0u32; table::MAX_TABLE_WORDS];

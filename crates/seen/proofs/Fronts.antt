@@ -1,13 +1,12 @@
 -- What stands in front is two numbers, and a number is read in one way: so there is one edition in front, and one thing after it. Where a number
 -- that is not the mark stands in front, as in a copy without an edition, no edition does. Assumes nothing.
-use Prim.Native.Nat.{ℕ, ◌+◌, ◌-◌, ◌≤◌, ◌<◌}
+use Prim.Native.Nat.{ℕ, ◌+◌, ◌≤◌, ◌<◌}
 use mathlib.Core.Path.{◌≡◌, refl, ◌∙◌, sym, ap}
 use mathlib.Core.List.{List, [], ◌∷◌, ◌++◌}
 use mathlib.Core.Logic.{inl, inr}
 use lib.ListN.{length, drop, length-drop, length-append}
 use native.Mathlib.Omega.{arith}
 use Rattle.std.specs.Prelude.{None, ◌↔◌}
-use Rattle.std.proofs.lemmas.List.{append_assoc, append-nil, drop_at}
 use Rattle.basics.specs.declared.Cause.{Cause}
 use Rattle.numbers.specs.Number.{bytes_of, NoNumber}
 use Rattle.numbers.specs.Series.{file_of}
@@ -150,10 +149,5 @@ module _ {s : List ℕ} {e : ℕ} {r p o : List ℕ} (u : Under s e r) (kept : K
   pub only_other : (o ≡ [] → ⊥) → (q : List ℕ) → OnlyUnder s e q → ⊥
   only_other more q k = more (sym (kept_once r p o q [] kept (kept_after_front s u k.under k.kept)).1)
 
-  pub only_first : o ≡ [] → (length s - length p ≤ length s) × OnlyUnder s e (drop (length s - length p) s)
-  only_first none =
-      let alone = rw (none, append-nil p) at kept.whole in
-      let front = bytes_of mark ++ (bytes_of e ++ bytes_of (length p)) in
-      let whole : s ≡ front ++ p = rw (u.whole, alone, append_assoc (bytes_of mark) (bytes_of e ++ bytes_of (length p)) p, append_assoc (bytes_of e) (bytes_of (length p)) p) refl in
-      let at : length front ≡ length s - length p = omega (arith, ap length whole, length-append front p) in
-      (omega arith, record { rest = r; under = u; kept = rw (ap (drop (length s - length p)) whole ∙ drop_at front p _ at, sym none) kept })
+  pub only_first : o ≡ [] → OnlyUnder s e p
+  only_first none = record { rest = r; under = u; kept = rw (sym none) kept }

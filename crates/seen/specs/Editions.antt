@@ -1,5 +1,5 @@
 -- What was last seen, and the edition of the rules under which it was seen. The present edition is always an argument.
-use Rattle.std.specs.Prelude.{ℕ, ◌≤◌, ◌≡◌, List, [], ◌∷◌, ◌++◌, ◌⊎◌, length, drop, Result, Ok, Err, Option, Some, None}
+use Rattle.std.specs.Prelude.{ℕ, ◌≤◌, ◌≡◌, List, [], ◌∷◌, ◌++◌, ◌⊎◌, Result, Ok, Err, Option, Some, None}
 use Rattle.std.specs.Borrow.{Bor}
 use Rattle.basics.specs.declared.Refusal.{Refusal}
 use Rattle.numbers.specs.Number.{max_word, bytes_of}
@@ -73,7 +73,7 @@ pub record OnlyUnder (s : List ℕ) (edition : ℕ) (p : List ℕ) : Type 0 wher
   pub under : Under s edition rest
   pub kept : Kept rest p []
 
--- Where the plan that was kept alone under this edition begins in s: it is all that follows; or none was kept so.
-abbrev pub OnlyTold : List ℕ → ℕ → Option ℕ → Type 0
-OnlyTold s edition (Some next) = (next ≤ length s) × OnlyUnder s edition (drop next s)
+-- The plan that was kept alone under this edition: it is all that follows; or none was kept so.
+abbrev pub OnlyTold : List ℕ → ℕ → Option (Bor (List ℕ)) → Type 0
+OnlyTold s edition (Some plan) = OnlyUnder s edition plan.now
 OnlyTold s edition None = (p : List ℕ) → OnlyUnder s edition p → ⊥

@@ -119,16 +119,15 @@ pub fn is_copy(seen: &[u8], edition: u32) -> bool
     is_copy_in(table::CURRENT, rest)
 }
 
-/// Internal: where the plan begins that was kept alone under an edition of the rules: it is all that follows.
-// Kept: its caller in kept and the definition OnlyTold have a position, behind which all is the plan, so that no size lies beside it.
-pub fn only_plan(seen: &[u8], edition: u32) -> Option<usize>
+/// Internal: the plan that was kept alone under an edition of the rules: it is all that follows what stands in front.
+pub fn only_plan(seen: &[u8], edition: u32) -> Option<&[u8]>
     ensures { OnlyTold seen.now edition result }
 {
     let (plan, other) = split(rest_under(seen, edition)?)?;
     if !other.is_empty() {
         return None;
     }
-    Some(seen.len() - plan.len())
+    Some(plan)
 }
 
 /// Internal: of which edition bytes that were kept are: of the one that they name, or of the first where they are a copy and name none.
