@@ -169,14 +169,15 @@ module _ {s : List ℕ} {from n w g v : ℕ} {b : List ℕ} {to : ℕ} {out : Li
               ∙ f.so_far;
         }
 
-  pub widening_end : left ≤ 0 → FilledWider s from n w g v b to at out
+module _ {s : List ℕ} {from n w g : ℕ} {b : List ℕ} {to : ℕ} {out : List ℕ} {at next left : ℕ} (f : Widening s from n w g new_word b to out at next left) where
+  pub widening_end : left ≤ 0 → FilledWider s from n w g b to at out
   widening_end h =
       let z : left ≡ 0 = omega arith in
       let none : f.rest ≡ [] = empty f.rest (f.whole ∙ ap (λ (k : ℕ). w * k) z ∙ mul-zero w) in
       let last = subst (λ (x : List ℕ). Row s at x f.end) none f.to_come in
       let there : f.end ≡ at = omega (arith, last.ends, ap length file_none) in
-      let all_done : f.done ≡ wider w g v n f.all
-      = sym (append-nil f.done) ∙ ap (λ (x : List ℕ). f.done ++ x) (sym (ap (λ (k : ℕ). wider w g v k f.rest) z ∙ wider_none w g v f.rest)) ∙ f.so_far in
+      let all_done : f.done ≡ wider w g new_word n f.all
+      = sym (append-nil f.done) ∙ ap (λ (x : List ℕ). f.done ++ x) (sym (ap (λ (k : ℕ). wider w g new_word k f.rest) z ∙ wider_none w g new_word f.rest)) ∙ f.so_far in
       record { ws = f.all; count = f.count; row = subst (Row s from f.all) there f.row; after = f.out_is ∙ ap (overlaid b to) all_done }
     where
       empty : (us : List ℕ) → length us ≡ 0 → us ≡ []
@@ -226,7 +227,7 @@ module _ {e : Edition} {s : List ℕ} {N S G front : ℕ} {b : List ℕ} (o : Ol
     pub streams_numbers : AllNumbers s at1 (e.stream * S)
     streams_numbers = row_part (drop front c.table) (e.stream * S) q1.1 streams_inside
 
-    module _ {b2 : List ℕ} {at2 : ℕ} (f2 : FilledWider s at1 S e.stream stream_words new_word b1 front at2 b2) where
+    module _ {b2 : List ℕ} {at2 : ℕ} (f2 : FilledWider s at1 S e.stream stream_words b1 front at2 b2) where
       new_streams_is : List ℕ
       new_streams_is = wider e.stream stream_words new_word S f2.ws
 
@@ -244,7 +245,7 @@ module _ {e : Edition} {s : List ℕ} {N S G front : ℕ} {b : List ℕ} (o : Ol
       pub legs_numbers : AllNumbers s at2 (e.leg * G)
       legs_numbers = row_part (drop (e.stream * S) (drop front c.table)) (e.leg * G) q2.1 legs_inside
 
-      module _ {b3 : List ℕ} {after at3 : ℕ} (after_is : after ≡ front + stream_words * S) (f3 : FilledWider s at2 G e.leg leg_words new_word b2 after at3 b3) where
+      module _ {b3 : List ℕ} {after at3 : ℕ} (after_is : after ≡ front + stream_words * S) (f3 : FilledWider s at2 G e.leg leg_words b2 after at3 b3) where
         new_legs_is : List ℕ
         new_legs_is = wider e.leg leg_words new_word G f3.ws
 

@@ -4,7 +4,7 @@ use Rattle.numbers.specs.Series.{Row, overlaid}
 use Rattle.table.specs.Layout.{link_count, stream_count, leg_count, table_words, SizedIn}
 use Rattle.table.specs.declared.Edition.{Edition}
 use Rattle.files.specs.Reading.{IsFile}
-use Rattle.editions.specs.Converted.{wider, converted}
+use Rattle.editions.specs.Converted.{new_word, wider, converted}
 
 -- The n numbers that stand in s from at up to but without next were taken into the buffer b from position to on, which made it b'.
 pub record FilledOn (s : List ℕ) (at n : ℕ) (b : List ℕ) (to next : ℕ) (b' : List ℕ) : Type 0 where
@@ -14,11 +14,11 @@ pub record FilledOn (s : List ℕ) (at n : ℕ) (b : List ℕ) (to next : ℕ) (
   pub after : b' ≡ overlaid b to ws
 
 -- The same of n records of w numbers, each made g words long.
-pub record FilledWider (s : List ℕ) (at n w g v : ℕ) (b : List ℕ) (to next : ℕ) (b' : List ℕ) : Type 0 where
+pub record FilledWider (s : List ℕ) (at n w g : ℕ) (b : List ℕ) (to next : ℕ) (b' : List ℕ) : Type 0 where
   pub ws : List ℕ
   pub count : length ws ≡ w * n
   pub row : Row s at ws next
-  pub after : b' ≡ overlaid b to (wider w g v n ws)
+  pub after : b' ≡ overlaid b to (wider w g new_word n ws)
 
 -- s is the file of a table of the layout.
 abbrev pub OldFile : Edition → List ℕ → Type 0

@@ -53,6 +53,7 @@ fn convert(e: Edition, bytes: &[u8], words: &mut [u32]) -> Result<usize, Refusal
 }
 
 // Header and links as they are, then each stream and each leg made as wide as today's.
+// Kept: Counted says of each of the three counts what it is in the file's table; of `head` in their place it would owe what its words are as well.
 fn put_converted(e: Edition, bytes: &[u8], links: u32, streams: u32, legs: u32, out: &mut [u32])
     requires older { Older e }
     requires counted { Counted e bytes.now links streams legs out.old }
@@ -67,7 +68,6 @@ fn put_converted(e: Edition, bytes: &[u8], links: u32, streams: u32, legs: u32, 
         streams,
         e.stream,
         table::CURRENT.stream,
-        NEW_WORD,
         out,
         at_streams,
     );
@@ -77,27 +77,26 @@ fn put_converted(e: Edition, bytes: &[u8], links: u32, streams: u32, legs: u32, 
         legs,
         e.leg,
         table::CURRENT.leg,
-        NEW_WORD,
         out,
         at_legs,
     );
 }
 
-// Takes so many records of width numbers into a buffer from a position on, each made wide words long with one value, and returns the position after them.
+// Takes so many records of width numbers into a buffer from a position on, each made wide words long, and returns the position after them.
 // Kept: `FilledWider` says what all of the buffer is then; parts of it, by chunks_exact_mut, would owe that again for what lies before and after them.
+// Kept: the two calls differ in five of the parameters and share bytes and out alone, so a type for the others would be built for one call each.
 fn fill_wider(
     bytes: &[u8],
     from: usize,
     records: u32,
     width: u8,
     wide: u8,
-    value: u32,
     out: &mut [u32],
     to: usize,
 ) -> usize
     requires all_numbers { AllNumbers bytes.now from (width * records) }
     requires width_le_wide { (width ≤ wide) × (to + wide * records ≤ length out.old) }
-    ensures { FilledWider bytes.now from records width wide value out.old to result out.new }
+    ensures { FilledWider bytes.now from records width wide out.old to result out.new }
 {
     let own = width as usize;
     let all = wide as usize;
@@ -105,7 +104,7 @@ fn fill_wider(
     let mut next = to;
     for _ in 0..records {
         at = fill_on(bytes, at, own, out, next);
-        out[next + own..next + all].fill(value);
+        out[next + own..next + all].fill(NEW_WORD);
         next += all;
     }
     at

@@ -57,6 +57,7 @@ fn own(m: &TimedLeg) -> Result<usize, BrokenAfter>
 }
 
 /// Looks at the hop of a later leg, if that is the next leg of the stream of m.
+// Kept: it goes on to place 2 and `deadline` to own_places, each by a test of its own; one function would take test, place and bound of the clause.
 fn hop(m: &TimedLeg, leg: &TimedLeg, n: usize) -> Result<usize, BrokenAfter>
     requires later { Later m.now leg.now }
     requires looked_to { LookedTo leg.now.plan.now m.now.at leg.now.at 0 n }
@@ -90,6 +91,7 @@ fn pairs(m: &TimedLeg, leg: &TimedLeg, n: usize) -> Result<usize, BrokenAfter>
 }
 
 /// Looks at all places of a leg a of a later stream at which leg m can be read. The links are compared first, before more of leg a is read.
+// Kept: n goes on from leg to leg and LookedTo binds it to m and a; a type for a and n would be built anew at each a, here and in later and after_moved.
 fn beyond(m: &TimedLeg, a: usize, n: usize) -> Result<usize, BrokenAfter>
     requires end_value { end_of m.now.plan.now m.now.at ≤ a }
     requires above { (m.now.at < a) × (a < leg_count m.now.plan.now) }

@@ -4,8 +4,7 @@ ghost use Rattle.table.specs.Layout.{leg_count, Sized};
 ghost use Rattle.recheck.specs.Premise.{SameButLeg};
 
 /// Internal: whether u differs from a well-formed table t at most in the revision and in the offset and the period word of a leg.
-// Kept: it asks of t only that it is as long as its header says, which is less than a Plan guarantees, and no derived equality passes over one leg.
-// Kept: two words may differ by where they stand, so the loop goes by that and not over the words alone.
+// Kept: it asks of t only that it is as long as its header says, which is less than a Plan guarantees.
 pub fn same_but_leg(t: &[u32], u: &[u32], leg: u32) -> bool
     requires { Sized t.now × (leg < leg_count t.now) }
     ensures { IsTrue result ↔ SameButLeg t.now u.now leg }
@@ -14,10 +13,6 @@ pub fn same_but_leg(t: &[u32], u: &[u32], leg: u32) -> bool
         return false;
     }
     let offset = table::parts::offset_at(t, leg as usize);
-    for i in table::REVISION_AT + 1..t.len() {
-        if t[i] != u[i] && i != offset && i != offset + 1 {
-            return false;
-        }
-    }
-    true
+    t[table::REVISION_AT + 1..offset] == u[table::REVISION_AT + 1..offset]
+        && t[offset + 2..] == u[offset + 2..]
 }

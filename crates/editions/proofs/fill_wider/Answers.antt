@@ -2,6 +2,7 @@
 use Rattle.std.proofs.Common.{ℕ, ◌+◌, ◌-◌, ◌≡◌, ◌∙◌, ap, arith}
 use lib.ListN.{replicate}
 use Rattle.numbers.specs.Series.{overlaid}
+use Rattle.editions.specs.Converted.{new_word}
 use Rattle.editions.proofs.Filling.{widening_start, widening_numbers, widening_room, widening_filled, widening_next, widening_end, filled_with}
 use Rattle.editions.proofs.fill_wider.Goals as goal
 
@@ -20,8 +21,8 @@ loop-preserved c =
     let long = widening_filled f (omega arith) c.fill_on-at.ensures in
     let new : c.loop.next + c.args.wide - (c.loop.next + c.args.width) ≡ c.args.wide - c.args.width = omega (arith, f.grows) in
     let room = widening_room f (omega arith) in
-    let put = filled_with c.fill_on-at.new.out (c.loop.next + c.args.width) (c.loop.next + c.args.wide) c.args.value (omega (arith, f.grows)) (c.fill.ensures.after (λ y e. e)) (omega (arith, long, room)) in
-    rw (← left) (widening_next f (omega arith) c.fill_on-at.ensures (put ∙ ap (λ (n : ℕ). overlaid c.fill_on-at.new.out (c.loop.next + c.args.width) (replicate n c.args.value)) new))
+    let put = filled_with c.fill_on-at.new.out (c.loop.next + c.args.width) (c.loop.next + c.args.wide) new_word (omega (arith, f.grows)) (c.fill.ensures.after (λ y e. e)) (omega (arith, long, room)) in
+    rw (← left) (widening_next f (omega arith) c.fill_on-at.ensures (put ∙ ap (λ (n : ℕ). overlaid c.fill_on-at.new.out (c.loop.next + c.args.width) (replicate n new_word)) new))
 
 pub returns : goal.returns
 returns c = widening_end c.loop.invariant (omega arith)
