@@ -24,7 +24,7 @@ use Rattle.recheck.specs.declared.Place.{Place}
 use Rattle.recheck.specs.declared.Rechecked.TheVariants.{Violated, NothingViolated}
 use Rattle.recheck.specs.declared.look.BrokenAfter.{BrokenAfter}
 use Rattle.recheck.proofs.Listing.{to_start, to_more, to_next, to_short, to_begins}
-use Rattle.recheck.proofs.Stepping.{none_before_own, next_hop, none_before_hop, no_hop, last_deadline, no_deadline, with_moved, none_before_pair, none_past_pair}
+use Rattle.recheck.proofs.Stepping.{none_before_own, none_before_hop, no_hop, no_deadline, with_moved, none_before_pair, none_past_pair}
 
 pub all_and : (t : List ℕ) (l k : List Place) → AllHold t l → AllHold t k → AllHold t (l ++ k)
 all_and t [] k h i = i

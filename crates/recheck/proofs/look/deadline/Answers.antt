@@ -1,5 +1,5 @@
 -- `recheck::look::deadline` meets its contract. Assumes nothing.
-use Rattle.std.proofs.Common.{◌∙◌, sym, ap}
+use Rattle.std.proofs.Common.{◌∙◌, sym}
 use Rattle.recheck.proofs.Stepping.{last_deadline}
 use Rattle.recheck.proofs.Looking.{no_deadline_there, its_end}
 use Rattle.recheck.proofs.look.deadline.Goals as goal

@@ -1,5 +1,5 @@
 -- `recheck::look::look` meets its contract: one place more. Assumes nothing.
-use Rattle.recheck.proofs.Looking.{looked_more, looked_broken}
+use Rattle.recheck.proofs.Looking.{looked_more}
 use Rattle.recheck.proofs.look.look.Goals as goal
 
 pub returns-in-None : goal.returns-in-None
