@@ -10,6 +10,8 @@ pub(crate) const MOST_OF_TC: usize = 30;
 const NUMBER_BYTES: usize = 5;
 
 /// Where the base time is empty, lists are list files; else they are as tc takes them, as a whole command where there is a device.
+// Kept: both are as the arguments give them, where an empty one stands for none; an enum would forget a device beside an empty base, which refuses long lists.
+// Kept: nobody compares or prints it, and each derive more is a function more to prove.
 #[derive(Clone, Copy)]
 pub(crate) struct Form<'a> {
     pub(crate) base: &'a [u8],

@@ -33,6 +33,7 @@ const FILE_AT: usize = 5;
 const FOLDER_AT: usize = 3;
 
 /// What is asked for of the plan on standard input.
+// Kept: nobody compares or prints it, and each derive more is a function more to prove.
 #[derive(Clone, Copy)]
 enum OfPlan {
     Print(u32),
@@ -41,6 +42,8 @@ enum OfPlan {
 }
 
 /// What is asked for.
+// Kept: two kinds of orders and no Option, since reading a list is an order too; it is matched once, and no closure could take what each arm takes.
+// Kept: nobody compares or prints it, and each derive more is a function more to prove.
 #[derive(Clone, Copy)]
 enum Order {
     OfPlan(OfPlan),
@@ -48,6 +51,7 @@ enum Order {
 }
 
 // The link that is asked for, or nothing where there is no number of one, which is said.
+// Kept: std hands an argument out as bytes into a lent array alone; env::args gives none of them where one is no UTF-8.
 fn link_given<R: Env, E: Write>(rt: &R, err: &mut E) -> Option<u32> {
     let mut room = [0u8; 4096];
     let digits = input::argument_or_nothing(rt, LINK_AT, &mut room);
@@ -59,6 +63,7 @@ fn link_given<R: Env, E: Write>(rt: &R, err: &mut E) -> Option<u32> {
 }
 
 // What is asked for: the first letter tells a verb.
+// Kept: std hands an argument out as bytes into a lent array alone; env::args gives none of them where one is no UTF-8.
 fn order_given<R: Env, E: Write>(rt: &R, err: &mut E) -> Option<Order> {
     let mut room = [0u8; 4096];
     match input::argument_or_nothing(rt, VERB_AT, &mut room) {
@@ -73,6 +78,7 @@ fn order_given<R: Env, E: Write>(rt: &R, err: &mut E) -> Option<Order> {
     }
 }
 
+// Kept: std hands an argument out as bytes into a lent array alone; env::args gives none of them where one is no UTF-8.
 fn write_to_file<R: Env + Files, O: Write, E: Write>(
     rt: &R,
     alloc: Global,
@@ -89,6 +95,7 @@ fn write_to_file<R: Env + Files, O: Write, E: Write>(
     }
 }
 
+// Kept: std hands an argument out as bytes into a lent array alone; env::args gives none of them where one is no UTF-8.
 fn write_to_folder<R: Clock + Env + Files, O: Write, E: Write>(
     rt: &R,
     alloc: Global,
@@ -105,6 +112,7 @@ fn write_to_folder<R: Clock + Env + Files, O: Write, E: Write>(
     }
 }
 
+// Kept: std hands an argument out as bytes into a lent array alone; env::args gives none of them where one is no UTF-8.
 fn on_table<R: Clock + Env + Files, O: Write, E: Write>(
     rt: &R,
     alloc: Global,
@@ -126,6 +134,7 @@ fn on_table<R: Clock + Env + Files, O: Write, E: Write>(
     }
 }
 
+// Kept: the table is read into lent words, as files::read_plan takes them, and comes back as a slice.
 fn on_plan<R: Clock + Env + Files + Input, O: Write, E: Write>(
     rt: &R,
     alloc: Global,

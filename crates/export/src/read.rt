@@ -18,10 +18,10 @@ fn on_bytes<O: Write, E: Write>(
 ) -> io::Result<()> {
     let mut words = vec![in alloc; 0u32; MAX_BYTES]?;
     match gate_files::read_list(bytes, &mut words) {
-        Ok(n) => match words.get(..n) {
-            Some(list) => out::pairs(out, list),
-            None => Ok(()),
-        },
+        Ok(n) => {
+            words.truncate(n);
+            out::pairs(out, &words)
+        }
         Err(refusal) => {
             reasons::lists::why(err, bytes, refusal);
             answers::plan_refused(out, refusal)
@@ -30,6 +30,7 @@ fn on_bytes<O: Write, E: Write>(
 }
 
 /// Prints the pairs of a list file.
+// Kept: standard input is read into lent bytes, one more than a list may have, and what was read comes back as a slice.
 pub(crate) fn printed<R: Input, O: Write, E: Write>(
     rt: &R,
     alloc: Global,

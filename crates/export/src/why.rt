@@ -62,22 +62,23 @@ fn common(cycle: u64, period: u64) -> Option<u64>
     Some(all)
 }
 
-// The first leg with which the cycle of a link passes the limit, or how many legs there are.
-fn passing(t: &[u32], link: u32) -> u32 {
-    let legs = header_word(t, table::LEGS_AT);
+// The first leg with which the cycle of a link passes the limit, if any does.
+fn passing(t: &[u32], link: u32) -> Option<u32> {
     let mut cycle = 1;
-    for a in 0..legs {
+    for a in 0..header_word(t, table::LEGS_AT) {
         let period = period_on(t, link, records::leg_at(t, a));
         match common(cycle, u64::from(period)) {
             Some(all) => cycle = all,
-            None => return a,
+            None => return Some(a),
         }
     }
-    legs
+    None
 }
 
 fn long_cycle<E: Write>(err: &mut E, t: &[u32], link: u32) {
-    let a = passing(t, link);
+    let Some(a) = passing(t, link) else {
+        return;
+    };
     let period = records::stream_at(t, records::leg_at(t, a).stream).period;
     report(
         err,
