@@ -38,6 +38,7 @@ impl<'p> Model for Candidate<'p> {
 
 impl<'p> Candidate<'p> {
     // Writes the enlarged table for the first offset x, which is the least.
+    // Kept: from and until are here for the clauses alone: AdmitsBetween, which `looked` owes, names both.
     fn written(&self, from: u32, until: u32, x: u64, out: &mut [u32]) -> Admitted
         requires may_admit { MayAdmit self.now.table self.now.wanted self.now.route (length out.old) }
         requires least_from { LeastFrom (Fits self.now.table self.now.wanted self.now.route) self.now.wanted.period from x }
@@ -53,6 +54,7 @@ impl<'p> Candidate<'p> {
     }
 
     // Looks for the first offset, and writes the enlarged table where one is found.
+    // Kept: docs/CALLS.md names admit_between, which takes from and until as numbers, and AdmitsBetween names both.
     fn looked(&self, from: u32, until: u32, out: &mut [u32]) -> Result<Option<Admitted>, Refusal>
         requires { MayAdmit self.now.table self.now.wanted self.now.route (length out.old) }
         ensures { AdmitsBetween self.now.table self.now.wanted self.now.route from until out.old result out.new }

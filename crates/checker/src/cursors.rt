@@ -48,7 +48,7 @@ pub fn judged_cursor(t: &[u32], c: Cursor) -> Result<(), Refusal>
 }
 
 /// The refusals 10, 11 and 17 of a move, whose cursor is right.
-// Kept: CursorRight speaks of a cursor and of words that a move is to change, which a type that lends them would bar.
+// Kept: CursorRight is of a table and a cursor; a type of both would be built by judged_move alone, for this one call.
 fn allowed(t: &[u32], c: Cursor, mv: Move) -> Result<(), Refusal>
     requires { CursorRight t.now c }
     ensures { MoveTold t.now c mv result }

@@ -8,7 +8,7 @@ use places::chains::{Chains, NO_CHAIN};
 use shape::plan::Plan;
 
 /// Looks on leg by leg, with the chains of all legs: the slice stands at (a,p), and `left` is what is left of its budget.
-// Kept: a Cursor goes to callers and comes back from files and C, so it cannot hold a fact about one table.
+// Kept: a type of chains and cursor would be built by `looked` alone, for this one call; Slices speaks of the table and the cursor apart.
 fn look_on(chains: &Chains, cursor: Cursor, budget: u32) -> SliceAnswer
     requires { CursorRight chains.now.plan.now cursor }
     ensures { Slices chains.now.plan.now cursor budget result }
@@ -55,7 +55,8 @@ fn look_on(chains: &Chains, cursor: Cursor, budget: u32) -> SliceAnswer
 }
 
 /// Internal: a slice from a right cursor.
-// Kept: the library allocates nothing, so the chains lie in arrays of fixed size; a Cursor cannot hold a fact about one table.
+// Kept: the library allocates nothing, so the chains lie in arrays of fixed size.
+// Kept: slice, rules_told and survey's step each have a table and a cursor apart; a type of both would be built for this one call.
 pub fn looked(t: &[u32], cursor: Cursor, budget: u32) -> SliceAnswer
     requires { CursorRight t.now cursor }
     ensures { Slices t.now cursor budget result }

@@ -118,6 +118,7 @@ impl<'p> Request<'p> {
 
 // Lays words over a buffer from a position on, and returns the position after them.
 // Kept: copy_from_slice becomes memcpy, and the archive for C may need memset alone. LaidTo tells the position, so it goes in and out beside the buffer.
+// Kept: a zip over out[at..] would owe LaidTo of the words before and after that part as well.
 fn copied(from: &[u32], out: &mut [u32], at: usize) -> usize
     requires { at + length from.now ≤ length out.old }
     ensures { LaidTo out.old at from.now result out.new }

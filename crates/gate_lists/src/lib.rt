@@ -50,6 +50,7 @@ impl<'a> AskedLink<'a> {
     }
 
     // Adds the slot of leg a to those that were gathered of the legs below it, if it is on the link, and returns how many they are then.
+    // Kept: the library allocates nothing, so the slots lie in the first n places of what is lent, and `Gathered` names n.
     fn gather_leg(&self, a: usize, slots: &mut [StoredSlot], n: usize) -> usize
         requires leg { a < leg_count self.now.0 }
         requires slots_len { length slots.old ≡ max_legs }

@@ -5,6 +5,7 @@ ghost use Rattle.margins.specs.Asking.{ask_refusals};
 use basics::{Cause, Refusal};
 
 // The first of the refusals 1 to 7 and 9 that is due, or none.
+// Kept: ask_refusals takes leg and place apart, as margin_at and nearest_at are called with them; a type would be built for this one call.
 pub(crate) fn judged(t: &[u32], leg: u32, place: u32) -> Result<(), Refusal>
     ensures { Told (ask_refusals t.now leg place) result }
 {

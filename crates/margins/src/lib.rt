@@ -43,6 +43,7 @@ pub enum Margin {
 }
 
 /// By how much a rule is kept or missed: nothing is asked, so much is left, or so much is lacking.
+// Kept: no case is an error or a missing number, as in an Option of a Result; IsSpare names all three.
 #[derive(Clone, Copy, Debug, PartialEq, Eq)]
 pub enum Spare {
     Free,
@@ -58,6 +59,7 @@ pub struct At {
 }
 
 /// The numbers of the rule at a place of a table, and by how much it is kept or missed. Errors: 1 to 7 and 9.
+// Kept: docs/CALLS.md names this call, which takes plain words.
 pub fn margin_at(t: &[u32], leg: u32, place: u32) -> Result<At, Refusal>
     ensures { Margins t.now leg place result }
 {
@@ -85,6 +87,7 @@ pub struct Nearest {
 }
 
 /// The nearest offsets of a leg, below and above its own, with which it keeps its window and this place of it holds, its period word staying as it is. Errors: 1 to 7 and 9.
+// Kept: docs/CALLS.md names this call, which takes plain words.
 pub fn nearest_at(t: &[u32], leg: u32, place: u32) -> Result<Nearest, Refusal>
     ensures { Nears t.now leg place result }
 {

@@ -37,6 +37,7 @@ impl Turn {
     }
 
     // How far it is from x on to the next number that is allowed, where some are.
+    // Kept: no twin of Search::past (offsets), which tells a number, stops at a limit and spares divisions; here the distance alone is told.
     pub(crate) fn ahead(self, x: u64) -> u64
         requires after_bound { self.condition.before + self.condition.after ≤ self.condition.modulus }
         requires x_bound { x ≤ max_ready + max_word }

@@ -12,6 +12,7 @@ use overlap::Known;
 use rules::leg::TimedLeg;
 
 /// A leg of a plan, with the chains of its links.
+// Kept: Chains and the leg each have a plan; with a ghost that the two are one, each method would lead what is known of chains to the leg's plan.
 #[derive(Drop)]
 struct ChainedLeg<'c, 'a> {
     leg: TimedLeg<'c, 'a>,

@@ -105,6 +105,7 @@ fn beyond(m: &TimedLeg, a: usize, n: usize) -> Result<usize, BrokenAfter>
 }
 
 /// Looks at all places of a later leg a of the same stream at which leg m can be read.
+// Kept: a and n as in `beyond`: a type for both would be built anew at each a.
 fn later(m: &TimedLeg, a: usize, n: usize) -> Result<usize, BrokenAfter>
     requires above { (m.now.at < a) × (a < leg_count m.now.plan.now) }
     requires looked_to { LookedTo m.now.plan.now m.now.at a 0 n }
@@ -117,6 +118,7 @@ fn later(m: &TimedLeg, a: usize, n: usize) -> Result<usize, BrokenAfter>
 }
 
 /// Looks at all places of a later leg a at which leg m can be read.
+// Kept: a and n as in `beyond`: a type for both would be built anew at each a.
 fn after_moved(m: &TimedLeg, a: usize, n: usize) -> Result<usize, BrokenAfter>
     requires above { (m.now.at < a) × (a < leg_count m.now.plan.now) }
     requires looked_to { LookedTo m.now.plan.now m.now.at a 0 n }

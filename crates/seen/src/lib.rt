@@ -75,6 +75,7 @@ fn front_of(seen: &[u8]) -> Option<(u32, &[u8])>
 }
 
 // What was seen under an edition.
+// Kept: RestTold takes bytes and edition apart, and a caller has them apart; a struct of both would be built for one call.
 fn rest_under(seen: &[u8], edition: u32) -> Option<&[u8]>
     ensures { RestTold seen.now edition result }
 {
@@ -100,6 +101,7 @@ pub fn write_front(edition: u32, size: u32, out: &mut [u8]) -> Result<usize, Ref
 }
 
 /// Internal: whether a plan is one of those that were seen under an edition of the rules.
+// Kept: KnownUnder takes bytes and edition apart; a struct of both would be built by each caller for one call.
 pub fn known(seen: &[u8], edition: u32, plan: &[u8]) -> bool
     ensures { IsTrue result ↔ KnownUnder seen.now edition plan.now }
 {
@@ -110,6 +112,7 @@ pub fn known(seen: &[u8], edition: u32, plan: &[u8]) -> bool
 }
 
 /// Internal: whether bytes are such as are kept beside a cursor under an edition of the rules, and not those of some other file or edition.
+// Kept: CopyUnder takes bytes and edition apart; a struct of both would be built by each caller for one call.
 pub fn is_copy(seen: &[u8], edition: u32) -> bool
     ensures { IsTrue result ↔ CopyUnder seen.now edition }
 {
@@ -120,6 +123,7 @@ pub fn is_copy(seen: &[u8], edition: u32) -> bool
 }
 
 /// Internal: the plan that was kept alone under an edition of the rules: it is all that follows what stands in front.
+// Kept: OnlyTold takes bytes and edition apart; a struct of both would be built by the one caller for one call.
 pub fn only_plan(seen: &[u8], edition: u32) -> Option<&[u8]>
     ensures { OnlyTold seen.now edition result }
 {

@@ -20,7 +20,7 @@ pub enum Found {
 }
 
 /// Where a survey goes on after a violated place: at the next place, or at the end.
-// Kept: a Cursor goes to callers and comes back, so it cannot hold a fact about one table; RightAfter speaks of both.
+// Kept: the cursor changes here and the table stays, so a type of both would be taken apart and built anew; RightAfter speaks of both.
 fn place_after(t: &[u32], at: Cursor) -> Cursor
     requires cursor_right { CursorRight t.now at }
     requires place { IsPlace t.now at.leg at.place }
@@ -40,7 +40,7 @@ fn place_after(t: &[u32], at: Cursor) -> Cursor
 }
 
 /// Internal: the next step of a survey, which looks at as many places as the budget says.
-// Kept: a Cursor goes to callers and comes back, so it cannot hold a fact about one table; `Finds` speaks of both.
+// Kept: the caller goes on with the cursor that it is told, so a type of table and cursor would be built anew for each step.
 pub fn step(t: &[u32], from: Cursor, budget: u32) -> Found
     requires { CursorRight t.now from }
     ensures { Finds t.now from budget result }
