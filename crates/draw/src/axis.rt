@@ -21,8 +21,8 @@ const MOST_LINES: u64 = 12;
 
 const MOST_PERIODS: u64 = 10;
 
-/// The powers of ten that a step is made of.
-const POWERS: [u64; 11] = [
+/// The powers of ten that a step or a stretch is made of.
+pub(crate) const POWERS: [u64; 11] = [
     1,
     10,
     100,
@@ -37,7 +37,7 @@ const POWERS: [u64; 11] = [
 ];
 
 /// Numbers from one on, each the step after the one before it: those below an end, and so many at most.
-#[derive(Clone, Copy, Debug, Drop)]
+#[derive(Clone, Copy, Debug, PartialEq, Eq, Drop)]
 pub(crate) struct Steps {
     pub(crate) next: u64,
     pub(crate) step: u64,

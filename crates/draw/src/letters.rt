@@ -74,10 +74,7 @@ fn put_first<O: Write>(out: &mut O, name: &[u8], room: u64) -> io::Result<()> {
 
 /// Prints a name in so many columns.
 pub(crate) fn within<O: Write>(out: &mut O, name: &[u8], room: u64) -> io::Result<()> {
-    let mut all: u64 = 0;
-    for letter in Letters(name) {
-        all = all.saturating_add(columns(letter));
-    }
+    let all = Letters(name).fold(0, |all: u64, letter| all.saturating_add(columns(letter)));
     if all <= room {
         return put_first(out, name, room);
     }

@@ -38,13 +38,14 @@ fn put_stretch<O: Write>(out: &mut O, page: &Page) -> io::Result<()> {
     }
 }
 
-fn put_name<O: Write>(out: &mut O, plan: &Named, link: u32) -> io::Result<()> {
+fn put_name<O: Write>(out: &mut O, page: &Page) -> io::Result<()> {
+    let link = page.link;
     write!(out, "Link {link}: ")?;
-    plan.put_ends(out, link, NODE_ROOM)
+    page.plan.put_ends(out, link, NODE_ROOM)
 }
 
-fn put_about<O: Write>(out: &mut O, plan: &Named, page: &Page) -> io::Result<()> {
-    let link = plan.link(page.link);
+fn put_about<O: Write>(out: &mut O, page: &Page) -> io::Result<()> {
+    let link = page.plan.link(page.link);
     let rate = rate(link.rate);
     let propagation = link.propagation;
     let legs = page.legs;
@@ -57,19 +58,19 @@ fn put_about<O: Write>(out: &mut O, plan: &Named, page: &Page) -> io::Result<()>
     put_stretch(out, page)
 }
 
-fn head<O: Write>(out: &mut O, plan: &Named, page: &Page, height: u64) -> io::Result<()> {
+fn head<O: Write>(out: &mut O, page: &Page, height: u64) -> io::Result<()> {
     svg::begin(out, PAGE, height)?;
     write!(out, "<title>")?;
-    put_name(out, plan, page.link)?;
+    put_name(out, page)?;
     write!(out, "</title>\n<desc>When each leg holds the link: ")?;
-    put_about(out, plan, page)?;
+    put_about(out, page)?;
     writeln!(out, "</desc>")?;
     svg::style(out, PAGE, height)?;
     svg::begin_text(out, "title", 2000, 3000)?;
-    put_name(out, plan, page.link)?;
+    put_name(out, page)?;
     svg::end_text(out)?;
     svg::begin_text(out, "quiet", 2000, 5200)?;
-    put_about(out, plan, page)?;
+    put_about(out, page)?;
     svg::end_text(out)
 }
 
@@ -125,17 +126,17 @@ fn top_labels<O: Write>(out: &mut O, page: &Page) -> io::Result<()> {
 }
 
 /// The picture, with what is violated on the link.
-fn put<O: Write>(out: &mut O, plan: &Named, page: &Page, found: &Found) -> io::Result<()> {
+fn put<O: Write>(out: &mut O, page: &Page, found: &Found) -> io::Result<()> {
     let list = page.bottom().saturating_add(FOOT);
     let lines = found.first.len() as u64;
     let end = list.saturating_add(lines.saturating_mul(LINE));
-    head(out, plan, page, end.saturating_add(2000))?;
+    head(out, page, end.saturating_add(2000))?;
     rows::stripes(out, page)?;
     axis::grid(out, page.axis, page.top, page.bottom())?;
     top_labels(out, page)?;
-    rows::all(out, plan, page, &found.is_bad)?;
+    rows::all(out, page, &found.is_bad)?;
     foot(out, page, found.count)?;
-    pairs::list(out, plan, page, list, found)?;
+    pairs::list(out, page, list, found)?;
     list_foot(out, end, found.count)?;
     writeln!(out, "</svg>\nstatus 0")
 }
@@ -163,7 +164,7 @@ pub(crate) fn draw<O: Write, E: Write>(
     from: u64,
     to: u64,
 ) -> io::Result<()> {
-    let periods = stretch::periods_on(alloc, plan.words(), link)?;
+    let periods = stretch::periods_on(alloc, plan, link)?;
     let cycle = stretch::cycle(&periods);
     let end = if from < to {
         to
@@ -174,7 +175,8 @@ pub(crate) fn draw<O: Write, E: Write>(
     if stretch::MOST_HOLDS < holds {
         return too_many(out, err, holds);
     }
-    let page = Page::new(link, Axis { from, to: end }, cycle, periods.len() as u64);
+    let axis = Axis { from, to: end };
+    let page = Page::new(plan, link, axis, cycle, periods.len() as u64);
     let found = Found::on_link(alloc, plan, link)?;
-    put(out, plan, &page, &found)
+    put(out, &page, &found)
 }

@@ -43,15 +43,17 @@ const PATH_AT: usize = 5;
 const ROOM: usize = 4096;
 
 /// What is asked for.
+// Kept: it is read before the plan, so that what is wrong with an argument is said before what is wrong with the plan.
 #[derive(Clone, Copy, Debug, PartialEq, Eq)]
 enum Order {
     /// A link, and from when to when.
-    Link(u32, u32, u32),
+    Link { link: u32, from: u32, to: u32 },
     Stream(u32),
 }
 
 /// An argument that has to be a number: 0 where it is empty.
 fn number_at<R: Env, E: Write>(rt: &R, err: &mut E, i: usize) -> Option<u32> {
+    // Kept: the system puts an argument into lent bytes, and input gives back what came as a slice.
     let mut room = [0u8; ROOM];
     match decimal::read_decimal(input::argument_or_nothing(rt, i, &mut room)) {
         Ok(value) => Some(value),
@@ -65,13 +67,14 @@ fn number_at<R: Env, E: Write>(rt: &R, err: &mut E, i: usize) -> Option<u32> {
 
 /// The order that the arguments give. The first letter of a kind says it.
 fn order_given<R: Env, E: Write>(rt: &R, err: &mut E) -> Option<Order> {
+    // Kept: the system puts an argument into lent bytes, and input gives back what came as a slice.
     let mut room = [0u8; ROOM];
     match input::argument_or_nothing(rt, KIND_AT, &mut room).first() {
         Some(b'l') => {
             let link = number_at(rt, err, NUMBER_AT)?;
             let from = number_at(rt, err, FROM_AT)?;
             let to = number_at(rt, err, TO_AT)?;
-            Some(Order::Link(link, from, to))
+            Some(Order::Link { link, from, to })
         }
         Some(b's') => Some(Order::Stream(number_at(rt, err, NUMBER_AT)?)),
         _ => {
@@ -81,18 +84,23 @@ fn order_given<R: Env, E: Write>(rt: &R, err: &mut E) -> Option<Order> {
     }
 }
 
-/// A link that the plan does not have.
-fn no_link<O: Write, E: Write>(out: &mut O, err: &mut E, link: u32, links: u32) -> io::Result<()> {
-    match links.checked_sub(1) {
+/// Says that the plan has no such link or stream, and which it has.
+fn not_there<E: Write>(err: &mut E, record: &str, n: u32, count: u32) {
+    match count.checked_sub(1) {
         None => report(
             err,
-            format_args!("there is no link {link}: the plan has no links"),
+            format_args!("there is no {record} {n}: the plan has no {record}s"),
         ),
         Some(last) => report(
             err,
-            format_args!("there is no link {link}: links are 0 to {last}"),
+            format_args!("there is no {record} {n}: {record}s are 0 to {last}"),
         ),
     }
+}
+
+/// A link that the plan does not have.
+fn no_link<O: Write, E: Write>(out: &mut O, err: &mut E, link: u32, links: u32) -> io::Result<()> {
+    not_there(err, "link", link, links);
     answers::plan_refused(out, Cause::NoLink.at(0))
 }
 
@@ -103,16 +111,7 @@ fn no_stream<O: Write, E: Write>(
     stream: u32,
     streams: u32,
 ) -> io::Result<()> {
-    match streams.checked_sub(1) {
-        None => report(
-            err,
-            format_args!("there is no stream {stream}: the plan has no streams"),
-        ),
-        Some(last) => report(
-            err,
-            format_args!("there is no stream {stream}: streams are 0 to {last}"),
-        ),
-    }
+    not_there(err, "stream", stream, streams);
     writeln!(out, "refused stream\nstatus 2")
 }
 
@@ -128,8 +127,8 @@ fn draw<O: Write, E: Write>(
     let streams = records::header_word(plan.words(), table::STREAMS_AT);
     let plan = Named { plan, names };
     match order {
-        Order::Link(link, _, _) if links <= link => no_link(out, err, link, links),
-        Order::Link(link, from, to) => {
+        Order::Link { link, .. } if links <= link => no_link(out, err, link, links),
+        Order::Link { link, from, to } => {
             link::draw(alloc, out, err, &plan, link, u64::from(from), u64::from(to))
         }
         Order::Stream(stream) if streams <= stream => no_stream(out, err, stream, streams),
@@ -139,6 +138,7 @@ fn draw<O: Write, E: Write>(
 
 /// The names beside the plan whose path is given, if there are some.
 fn read_names<R: Env + Files, E: Write>(alloc: Global, rt: &R, err: &mut E) -> io::Result<Names> {
+    // Kept: the system puts an argument into lent bytes, and input gives back what came as a slice.
     let mut room = [0u8; ROOM];
     let path = input::argument_or_nothing(rt, PATH_AT, &mut room);
     if path.is_empty() {
@@ -170,6 +170,7 @@ fn run<R: Env + Files + Input, O: Write, E: Write>(
     let Some(order) = order_given(rt, err) else {
         return Ok(());
     };
+    // Kept: input::given_plan reads into lent words and gives back the table as a slice; a Vec would be one allocation more that can fail.
     let mut words = [0u32; table::MAX_TABLE_WORDS];
     let t = match input::given_plan(rt, err, &mut words)? {
         Ok(t) => t,

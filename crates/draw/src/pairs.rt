@@ -40,10 +40,8 @@ impl Found {
             first: Vec::new(alloc),
             is_bad: vec![in alloc; false; plan.legs()]?,
         };
-        for a in 0..plan.legs() {
-            if plan.leg(a).link == link {
-                found.judge_leg(plan, a)?;
-            }
+        for a in (0..plan.legs()).filter(|a| plan.is_on(*a, link)) {
+            found.judge_leg(plan, a)?;
         }
         Ok(found)
     }
@@ -82,36 +80,24 @@ impl Found {
 }
 
 /// Where the middle of the row of leg a is.
-fn middle_of(plan: &Named, page: &Page, a: usize) -> u64 {
-    let mut above: u64 = 0;
-    for b in 0..a {
-        if plan.leg(b).link == page.link {
-            above = above.saturating_add(1);
-        }
-    }
-    page.row(above).saturating_add(page.tall / 2)
+fn middle_of(page: &Page, a: usize) -> u64 {
+    let above = (0..a).filter(|b| page.plan.is_on(*b, page.link)).count();
+    page.row(above as u64).saturating_add(page.tall / 2)
 }
 
 /// Marks an instant in the rows of two legs.
-fn mark<O: Write>(
-    out: &mut O,
-    plan: &Named,
-    page: &Page,
-    a: usize,
-    b: usize,
-    instant: u64,
-) -> io::Result<()> {
+fn mark<O: Write>(out: &mut O, page: &Page, a: usize, b: usize, instant: u64) -> io::Result<()> {
     let x = page.axis.place(instant);
-    let upper = middle_of(plan, page, b);
-    let lower = middle_of(plan, page, a);
+    let upper = middle_of(page, b);
+    let lower = middle_of(page, a);
     svg::line(out, "meet", x, upper, x, lower)?;
     svg::ring(out, "meets", x, upper, RING)?;
     svg::ring(out, "meets", x, lower, RING)
 }
 
 /// The line of a leg that leaves its window.
-fn window_line<O: Write>(out: &mut O, plan: &Named, a: usize, y: u64) -> io::Result<()> {
-    let Some(leg) = plan.timed(a) else {
+fn window_line<O: Write>(out: &mut O, page: &Page, a: usize, y: u64) -> io::Result<()> {
+    let Some(leg) = page.plan.timed(a) else {
         return Ok(());
     };
     let f = leg.frame;
@@ -121,40 +107,27 @@ fn window_line<O: Write>(out: &mut O, plan: &Named, a: usize, y: u64) -> io::Res
 }
 
 /// The line of a pair that meets, and where it first does.
-fn pair_line<O: Write>(
-    out: &mut O,
-    plan: &Named,
-    page: &Page,
-    a: usize,
-    b: usize,
-    y: u64,
-) -> io::Result<()> {
-    let Ok(Some(met)) = meeting::meeting(plan.words(), small(a), small(b)) else {
+fn pair_line<O: Write>(out: &mut O, page: &Page, a: usize, b: usize, y: u64) -> io::Result<()> {
+    let Ok(Some(met)) = meeting::meeting(page.plan.words(), small(a), small(b)) else {
         return svg::text(out, "fault", LEFT, y, format_args!("leg {a} meets leg {b}"));
     };
     let instant = met.instant;
     let line = format_args!("leg {a} meets leg {b} first at {instant} ns");
     if (page.axis.from..page.axis.to).contains(&instant) {
         svg::text(out, "fault", LEFT, y, line)?;
-        return mark(out, plan, page, a, b, instant);
+        return mark(out, page, a, b, instant);
     }
     let further = format_args!("{line}, which is not drawn here");
     svg::text(out, "fault", LEFT, y, further)
 }
 
 /// Lists the first violated places of a link, from a height on.
-pub(crate) fn list<O: Write>(
-    out: &mut O,
-    plan: &Named,
-    page: &Page,
-    from: u64,
-    found: &Found,
-) -> io::Result<()> {
+pub(crate) fn list<O: Write>(out: &mut O, page: &Page, from: u64, found: &Found) -> io::Result<()> {
     let mut y = from;
     for place in &found.first {
         match *place {
-            Violated::Window(a) => window_line(out, plan, a, y)?,
-            Violated::Pair(a, b) => pair_line(out, plan, page, a, b, y)?,
+            Violated::Window(a) => window_line(out, page, a, y)?,
+            Violated::Pair(a, b) => pair_line(out, page, a, b, y)?,
         }
         y = y.saturating_add(LINE);
     }

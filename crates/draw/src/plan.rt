@@ -9,6 +9,7 @@ use std::io::Write;
 use table::{Leg, Link, Stream};
 
 /// A plan, and its names.
+// Kept: nobody compares or prints it, and Draft, which it lends, has no equality.
 #[derive(Clone, Copy)]
 pub(crate) struct Named<'p> {
     pub(crate) plan: &'p Plan<'p>,
@@ -46,6 +47,21 @@ impl<'p> Named<'p> {
             return None;
         }
         Some(TimedLeg::of(self.plan, a))
+    }
+
+    /// Whether leg a lies on a link.
+    pub(crate) fn is_on(&self, a: usize, link: u32) -> bool {
+        self.leg(a).link == link
+    }
+
+    /// When leg a starts, and 0 where there is none.
+    pub(crate) fn start_at(&self, a: usize) -> u64 {
+        self.timed(a).map_or(0, |leg| leg.frame.start)
+    }
+
+    /// When the frame of leg a is at the next node, and 0 where there is none.
+    pub(crate) fn ready_at(&self, a: usize) -> u64 {
+        self.timed(a).map_or(0, |leg| leg.ready())
     }
 
     /// Prints the two nodes of a link, in so many columns each.

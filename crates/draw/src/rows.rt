@@ -1,7 +1,6 @@
 //! The rows of a link's picture: the holds of each leg within the stretch.
 use crate::axis::{LEFT, Steps, WIDTH};
 use crate::page::Page;
-use crate::plan::Named;
 use crate::{names, svg};
 use rules::Frame;
 use std::io;
@@ -21,7 +20,7 @@ const THINNEST: u64 = 200;
 const SEEN: u64 = 100;
 
 /// A part of a row, from its upper edge on.
-#[derive(Clone, Copy, Debug)]
+#[derive(Clone, Copy, Debug, PartialEq, Eq)]
 struct Bars {
     y: u64,
     height: u64,
@@ -87,27 +86,21 @@ fn is_gap_seen(page: &Page, f: Frame) -> bool {
     SEEN <= end.saturating_sub(sent)
 }
 
-fn label<O: Write>(out: &mut O, plan: &Named, a: usize, y: u64) -> io::Result<()> {
+fn label<O: Write>(out: &mut O, page: &Page, a: usize, y: u64) -> io::Result<()> {
     svg::text(out, "leg-name", 2000, y, format_args!("leg {a}"))?;
     svg::begin_text(out, "stream-name", 9200, y)?;
+    let plan = page.plan;
     names::stream(out, plan.names, plan.leg(a).stream, STREAM_ROOM)?;
     svg::end_text(out)
 }
 
-fn row<O: Write>(
-    out: &mut O,
-    plan: &Named,
-    page: &Page,
-    a: usize,
-    y: u64,
-    is_bad: bool,
-) -> io::Result<()> {
-    let Some(leg) = plan.timed(a) else {
+fn row<O: Write>(out: &mut O, page: &Page, a: usize, y: u64, is_bad: bool) -> io::Result<()> {
+    let Some(leg) = page.plan.timed(a) else {
         return Ok(());
     };
     let f = leg.frame;
     let middle = y.saturating_add(page.tall / 2);
-    label(out, plan, a, middle.saturating_add(430))?;
+    label(out, page, a, middle.saturating_add(430))?;
     let class = if is_bad { "leg bad" } else { "leg" };
     writeln!(out, "<g class=\"{class}\">")?;
     let offset = f.offset;
@@ -128,19 +121,11 @@ fn row<O: Write>(
 }
 
 /// The rows of all legs on the link. Those that are in a violated place are marked.
-pub(crate) fn all<O: Write>(
-    out: &mut O,
-    plan: &Named,
-    page: &Page,
-    is_bad: &[bool],
-) -> io::Result<()> {
-    let mut i: u64 = 0;
-    for a in 0..plan.legs() {
-        if plan.leg(a).link == page.link {
-            let bad = is_bad.get(a).copied().unwrap_or(false);
-            row(out, plan, page, a, page.row(i), bad)?;
-            i = i.saturating_add(1);
-        }
+pub(crate) fn all<O: Write>(out: &mut O, page: &Page, is_bad: &[bool]) -> io::Result<()> {
+    let on_link = (0..page.plan.legs()).filter(|a| page.plan.is_on(*a, page.link));
+    for (i, a) in on_link.enumerate() {
+        let bad = is_bad.get(a).copied().unwrap_or(false);
+        row(out, page, a, page.row(i as u64), bad)?;
     }
     Ok(())
 }

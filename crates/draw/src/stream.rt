@@ -27,9 +27,11 @@ const ROW_NODE_ROOM: u64 = 14;
 
 const THINNEST: u64 = 200;
 
-/// What is drawn: the stretch of time, the legs from the first to before the end, and when the deadline is.
-#[derive(Clone, Copy, Debug)]
-struct Route {
+/// What is drawn: a stream of a plan, the stretch of time, the legs from the first to before the end, and when the deadline is.
+// Kept: nobody compares or prints it, and Named, which it lends, has no equality.
+#[derive(Clone, Copy)]
+struct Route<'p> {
+    plan: &'p Named<'p>,
     stream: u32,
     axis: Axis,
     first: usize,
@@ -60,26 +62,12 @@ fn framed(from: u64, to: u64) -> Axis {
     }
 }
 
-fn start_at(plan: &Named, a: usize) -> u64 {
-    match plan.timed(a) {
-        Some(leg) => leg.frame.start,
-        None => 0,
-    }
-}
-
-fn ready_at(plan: &Named, a: usize) -> u64 {
-    match plan.timed(a) {
-        Some(leg) => leg.ready(),
-        None => 0,
-    }
-}
-
-impl Route {
-    fn of(plan: &Named, stream: u32) -> Route {
+impl<'p> Route<'p> {
+    fn of(plan: &'p Named<'p>, stream: u32) -> Route<'p> {
         let s = plan.stream(stream);
         let first = s.first as usize;
         let end = first.saturating_add(s.count as usize);
-        let mut from = start_at(plan, first);
+        let mut from = plan.start_at(first);
         let mut over = 0;
         for a in first..end {
             if let Some(leg) = plan.timed(a) {
@@ -89,8 +77,9 @@ impl Route {
                 over = over.max(f.start.saturating_add(f.hold)).max(leg.ready());
             }
         }
-        let due = start_at(plan, first).saturating_add(u64::from(s.deadline));
+        let due = plan.start_at(first).saturating_add(u64::from(s.deadline));
         Route {
+            plan,
             stream,
             axis: framed(from, end_of(from, over, due)),
             first,
@@ -104,6 +93,16 @@ impl Route {
         self.end.saturating_sub(1)
     }
 
+    /// When the last leg is ready, and when it is due.
+    fn deadline(&self) -> Compared {
+        let last = self.plan.timed(self.last());
+        Compared {
+            kept: last.is_none_or(|leg| leg.keeps_deadline()),
+            from: last.map_or(0, |leg| leg.ready()),
+            to: self.due,
+        }
+    }
+
     /// Where the last row ends.
     fn bottom(&self) -> u64 {
         row_at(self.end.saturating_sub(self.first))
@@ -112,45 +111,41 @@ impl Route {
 
 // ---- What is told of a rule
 
-/// Prints how much time is left, or lacking.
-fn put_spare<O: Write>(out: &mut O, kept: bool, from: u64, to: u64) -> io::Result<()> {
-    if kept {
-        return write!(out, "{} ns left", to.saturating_sub(from));
-    }
-    write!(out, "lacks {} ns", from.saturating_sub(to))
-}
-
-fn put_rule<O: Write>(
-    out: &mut O,
-    rule: &str,
+/// Two instants or lengths that a rule compares, and whether it is kept by them.
+#[derive(Clone, Copy, Debug, PartialEq, Eq)]
+struct Compared {
     kept: bool,
     from: u64,
     to: u64,
-    y: u64,
-) -> io::Result<()> {
-    let class = if kept { "small" } else { "small fault" };
-    svg::begin_text(out, class, TOLD, y)?;
-    write!(out, "{rule}: ")?;
-    put_spare(out, kept, from, to)?;
-    svg::end_text(out)
 }
 
-/// The time between two instants as a line, by whether the first is the earlier.
-fn between<O: Write>(
-    out: &mut O,
-    axis: Axis,
-    kept: bool,
-    from: u64,
-    to: u64,
-    y: u64,
-) -> io::Result<()> {
-    let (from, to) = (axis.place(from), axis.place(to));
-    if kept {
-        let y = y.saturating_add(2200);
-        return svg::line(out, "spare", from, y, to, y);
+impl Compared {
+    /// Prints how much time is left, or lacking.
+    fn put_spare<O: Write>(self, out: &mut O) -> io::Result<()> {
+        if self.kept {
+            return write!(out, "{} ns left", self.to.saturating_sub(self.from));
+        }
+        write!(out, "lacks {} ns", self.from.saturating_sub(self.to))
     }
-    let y = y.saturating_add(3700);
-    svg::line(out, "lack", to, y, from, y)
+
+    fn put_rule<O: Write>(self, out: &mut O, rule: &str, y: u64) -> io::Result<()> {
+        let class = if self.kept { "small" } else { "small fault" };
+        svg::begin_text(out, class, TOLD, y)?;
+        write!(out, "{rule}: ")?;
+        self.put_spare(out)?;
+        svg::end_text(out)
+    }
+
+    /// The time between the two as a line, by whether the rule is kept.
+    fn draw<O: Write>(self, out: &mut O, axis: Axis, y: u64) -> io::Result<()> {
+        let (from, to) = (axis.place(self.from), axis.place(self.to));
+        if self.kept {
+            let y = y.saturating_add(2200);
+            return svg::line(out, "spare", from, y, to, y);
+        }
+        let y = y.saturating_add(3700);
+        svg::line(out, "lack", to, y, from, y)
+    }
 }
 
 // ---- A leg
@@ -205,14 +200,7 @@ fn label<O: Write>(out: &mut O, plan: &Named, a: usize, link: u32, y: u64) -> io
 }
 
 /// From when the leg before it is ready to when a leg starts.
-fn hop<O: Write>(
-    out: &mut O,
-    plan: &Named,
-    r: &Route,
-    leg: &TimedLeg,
-    y: u64,
-    kept: bool,
-) -> io::Result<()> {
+fn hop<O: Write>(out: &mut O, r: &Route, leg: &TimedLeg, y: u64, kept: bool) -> io::Result<()> {
     let a = leg.at;
     let start = leg.frame.start;
     let told = y.saturating_add(2100);
@@ -220,32 +208,40 @@ fn hop<O: Write>(
         let starts = format_args!("starts at {start} ns");
         return svg::text(out, "small", TOLD, told, starts);
     }
-    let at = ready_at(plan, a.saturating_sub(1));
+    let at = r.plan.ready_at(a.saturating_sub(1));
     let x = r.axis.place(at);
     let (upper, lower) = (y.saturating_sub(2300), y.saturating_add(2200));
     svg::line(out, "hop", x, upper, x, lower)?;
-    between(out, r.axis, kept, at, start, y)?;
-    put_rule(out, "hop", kept, at, start, told)
+    let compared = Compared {
+        kept,
+        from: at,
+        to: start,
+    };
+    compared.draw(out, r.axis, y)?;
+    compared.put_rule(out, "hop", told)
 }
 
-fn leg<O: Write>(out: &mut O, plan: &Named, r: &Route, a: usize, y: u64) -> io::Result<()> {
-    let Some(leg) = plan.timed(a) else {
+fn leg<O: Write>(out: &mut O, r: &Route, a: usize, y: u64) -> io::Result<()> {
+    let Some(leg) = r.plan.timed(a) else {
         return Ok(());
     };
     let f = leg.frame;
     let in_window = leg.keeps_window();
     let in_hop = leg.keeps_hop();
     let in_time = leg.keeps_deadline();
-    label(out, plan, a, f.link, y)?;
-    hop(out, plan, r, &leg, y, in_hop)?;
+    label(out, r.plan, a, f.link, y)?;
+    hop(out, r, &leg, y, in_hop)?;
     if a == r.last() {
-        between(out, r.axis, in_time, leg.ready(), r.due, y)?;
+        r.deadline().draw(out, r.axis, y)?;
     }
     let kept = in_window && in_hop && in_time;
     frame(out, r.axis, &leg, y, kept)?;
-    let over = f.offset.saturating_add(f.hold);
-    let below = y.saturating_add(3800);
-    put_rule(out, "window", in_window, over, f.period, below)
+    let window = Compared {
+        kept: in_window,
+        from: f.offset.saturating_add(f.hold),
+        to: f.period,
+    };
+    window.put_rule(out, "window", y.saturating_add(3800))
 }
 
 /// The grounds of every other row.
@@ -258,9 +254,9 @@ fn stripes<O: Write>(out: &mut O, r: &Route) -> io::Result<()> {
     Ok(())
 }
 
-fn rows<O: Write>(out: &mut O, plan: &Named, r: &Route) -> io::Result<()> {
+fn rows<O: Write>(out: &mut O, r: &Route) -> io::Result<()> {
     for a in r.first..r.end {
-        leg(out, plan, r, a, row_at(a.saturating_sub(r.first)))?;
+        leg(out, r, a, row_at(a.saturating_sub(r.first)))?;
     }
     Ok(())
 }
@@ -268,16 +264,13 @@ fn rows<O: Write>(out: &mut O, plan: &Named, r: &Route) -> io::Result<()> {
 // ---- The whole
 
 /// The deadline, or that it lies further on.
-fn due<O: Write>(out: &mut O, plan: &Named, r: &Route) -> io::Result<()> {
-    let kept = match plan.timed(r.last()) {
-        Some(leg) => leg.keeps_deadline(),
-        None => true,
-    };
+fn due<O: Write>(out: &mut O, r: &Route) -> io::Result<()> {
+    let deadline = r.deadline();
     let x = r.axis.place(r.due);
     let y = TOP - 600;
     // The text has its room on the longer side.
     let is_left = x < LEFT + WIDTH / 2;
-    let class = match (is_left, kept) {
+    let class = match (is_left, deadline.kept) {
         (true, true) => "small due-text",
         (true, false) => "small due-text fault",
         (false, true) => "small due-text end",
@@ -290,7 +283,7 @@ fn due<O: Write>(out: &mut O, plan: &Named, r: &Route) -> io::Result<()> {
     };
     svg::begin_text(out, class, beside, y)?;
     write!(out, "deadline at {} ns: ", r.due)?;
-    put_spare(out, kept, ready_at(plan, r.last()), r.due)?;
+    deadline.put_spare(out)?;
     if r.axis.to < r.due {
         write!(out, ", further on \u{2192}")?;
         return svg::end_text(out);
@@ -299,7 +292,8 @@ fn due<O: Write>(out: &mut O, plan: &Named, r: &Route) -> io::Result<()> {
     svg::line(out, "due", x, TOP - 1700, x, r.bottom())
 }
 
-fn put_name<O: Write>(out: &mut O, plan: &Named, r: &Route) -> io::Result<()> {
+fn put_name<O: Write>(out: &mut O, r: &Route) -> io::Result<()> {
+    let plan = r.plan;
     names::stream_title(out, plan.names, r.stream, STREAM_ROOM)?;
     write!(out, ": ")?;
     let from = plan.link(plan.leg(r.first).link).from;
@@ -307,14 +301,14 @@ fn put_name<O: Write>(out: &mut O, plan: &Named, r: &Route) -> io::Result<()> {
     names::nodes(out, plan.names, from, to, NODE_ROOM)
 }
 
-fn put_about<O: Write>(out: &mut O, plan: &Named, stream: u32) -> io::Result<()> {
-    let s = plan.stream(stream);
+fn put_about<O: Write>(out: &mut O, r: &Route) -> io::Result<()> {
+    let s = r.plan.stream(r.stream);
     let period = Lasting(u64::from(s.period));
     let deadline = Lasting(u64::from(s.deadline));
     let octets = s.octets;
     let legs = s.count;
     let word = if legs == 1 { "leg" } else { "legs" };
-    let precision = plan.plan.precision();
+    let precision = r.plan.plan.precision();
     write!(out, "period T = {period}, deadline {deadline}, ")?;
     write!(
         out,
@@ -322,22 +316,22 @@ fn put_about<O: Write>(out: &mut O, plan: &Named, stream: u32) -> io::Result<()>
     )
 }
 
-fn head<O: Write>(out: &mut O, plan: &Named, r: &Route, height: u64) -> io::Result<()> {
+fn head<O: Write>(out: &mut O, r: &Route, height: u64) -> io::Result<()> {
     svg::begin(out, PAGE, height)?;
     write!(out, "<title>")?;
-    put_name(out, plan, r)?;
+    put_name(out, r)?;
     write!(
         out,
         "</title>\n<desc>The way of the frame of period 0 over its links: "
     )?;
-    put_about(out, plan, r.stream)?;
+    put_about(out, r)?;
     writeln!(out, "</desc>")?;
     svg::style(out, PAGE, height)?;
     svg::begin_text(out, "title", 2000, 3000)?;
-    put_name(out, plan, r)?;
+    put_name(out, r)?;
     svg::end_text(out)?;
     svg::begin_text(out, "quiet", 2000, 5200)?;
-    put_about(out, plan, r.stream)?;
+    put_about(out, r)?;
     svg::end_text(out)
 }
 
@@ -372,12 +366,12 @@ pub(crate) fn draw<O: Write>(out: &mut O, plan: &Named, stream: u32) -> io::Resu
     let r = Route::of(plan, stream);
     let bottom = r.bottom();
     let period = u64::from(plan.stream(stream).period);
-    head(out, plan, &r, bottom.saturating_add(FOOT))?;
+    head(out, &r, bottom.saturating_add(FOOT))?;
     stripes(out, &r)?;
     axis::grid(out, r.axis, TOP, bottom)?;
     axis::periods(out, r.axis, period, TOP, bottom)?;
-    due(out, plan, &r)?;
-    rows(out, plan, &r)?;
+    due(out, &r)?;
+    rows(out, &r)?;
     foot(out, &r)?;
     writeln!(out, "</svg>\nstatus 0")
 }

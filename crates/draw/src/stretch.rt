@@ -1,5 +1,6 @@
 //! The stretch of time that a picture of a link shows: its cycle, or as much of that as has few enough holds.
-use reasons::records;
+use crate::axis::POWERS;
+use crate::plan::Named;
 use std::alloc::{AllocError, Global};
 
 /// A picture has about so many holds at most where the stretch is not asked for.
@@ -14,30 +15,12 @@ pub(crate) const MOST_HOLDS: u64 = 20000;
 /// What is drawn of a link that has no legs.
 const NOTHING_LASTS: u64 = 1000;
 
-/// The powers of ten that a round stretch is made of.
-const POWERS: [u64; 10] = [
-    1_000_000_000,
-    100_000_000,
-    10_000_000,
-    1_000_000,
-    100_000,
-    10_000,
-    1000,
-    100,
-    10,
-    1,
-];
-
 /// The periods of the legs on a link.
-pub(crate) fn periods_on(alloc: Global, t: &[u32], link: u32) -> Result<Vec<u64>, AllocError> {
-    let mut periods = Vec::new(alloc);
-    for a in 0..records::header_word(t, table::LEGS_AT) {
-        let leg = records::leg_at(t, a);
-        if leg.link == link {
-            periods.push(u64::from(records::stream_at(t, leg.stream).period))?;
-        }
-    }
-    Ok(periods)
+pub(crate) fn periods_on(alloc: Global, plan: &Named, link: u32) -> Result<Vec<u64>, AllocError> {
+    (0..plan.legs())
+        .filter(|a| plan.is_on(*a, link))
+        .map(|a| u64::from(plan.stream(plan.leg(a).stream).period))
+        .collect(alloc)
 }
 
 /// The least common multiple of a cycle and a period, unless it passes the limit.
@@ -61,11 +44,9 @@ pub(crate) fn cycle(periods: &[u64]) -> Option<u64> {
 
 /// About how many holds a stretch of that length has.
 pub(crate) fn holds(periods: &[u64], long: u64) -> u64 {
-    let mut holds: u64 = 0;
-    for period in periods {
-        holds = holds.saturating_add(long.checked_div(*period).unwrap_or(0));
-    }
-    holds
+    periods.iter().fold(0, |holds: u64, period| {
+        holds.saturating_add(long.checked_div(*period).unwrap_or(0))
+    })
 }
 
 /// Whether a stretch of that length can be read.
@@ -74,9 +55,9 @@ fn fits(periods: &[u64], long: u64) -> bool {
         && holds(periods, long) <= FEW_HOLDS
 }
 
-/// The longest of five, two and one times a power of ten that fits.
+/// The longest of five, two and one times a power of ten up to 1 s that fits.
 fn fitting(periods: &[u64]) -> u64 {
-    for power in POWERS {
+    for power in POWERS.iter().rev().skip(1) {
         for times in [5, 2, 1] {
             let long = power.saturating_mul(times);
             if fits(periods, long) {

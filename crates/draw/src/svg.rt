@@ -46,6 +46,7 @@ impl fmt::Display for Lasting {
 }
 
 /// The coarsest unit in which a time is whole, in ns, and its name.
+// Kept: units::largest takes a u32, past which a stretch may end, and its micro is printed us, where a picture has the sign.
 pub(crate) fn coarsest_unit(ns: u64) -> (u64, &'static str) {
     if ns % 1_000_000_000 == 0 {
         return (1_000_000_000, "s");
@@ -93,6 +94,7 @@ pub(crate) fn style<O: Write>(out: &mut O, width: u64, height: u64) -> io::Resul
 }
 
 /// A rectangle.
+// Kept: x, y, width and height are the element's four attributes; callers reckon each apart and keep no two together.
 pub(crate) fn rect<O: Write>(
     out: &mut O,
     class: &str,
@@ -110,6 +112,7 @@ pub(crate) fn rect<O: Write>(
 }
 
 /// A line from one point to another.
+// Kept: the four numbers are the element's attributes; most lines are level or upright, and share a number between their ends.
 pub(crate) fn line<O: Write>(
     out: &mut O,
     class: &str,
