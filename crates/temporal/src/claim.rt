@@ -9,6 +9,7 @@ use wishes::forms::Claim;
 use wishes::reading::{Wishes, WrongLine};
 
 // The time that a claim gives to an event.
+// Kept: nobody compares or prints it, and each further derive is one more function to prove.
 #[derive(Clone, Copy)]
 pub(crate) struct Timed {
     pub(crate) event: usize,
@@ -43,13 +44,16 @@ fn in_line(wishes: &Wishes, line: u32) -> Option<usize> {
 
 impl Claimed {
     // The place of an event's time among the times, if it has one.
+    // Kept: one function alone; no map, since a network's events are renumbered in the order of the times.
     pub(crate) fn place_of(&self, event: usize) -> Option<usize> {
         self.times.iter().position(|timed| timed.event == event)
     }
 
     pub(crate) fn time_of(&self, event: usize) -> Option<i64> {
-        let timed = self.times.iter().find(|timed| timed.event == event)?;
-        Some(timed.time)
+        self.times
+            .iter()
+            .find(|timed| timed.event == event)
+            .map(|timed| timed.time)
     }
 
     // The times alone, in their order.

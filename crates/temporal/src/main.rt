@@ -44,6 +44,7 @@ fn answered<O: Write, E: Write>(
 }
 
 // The same for the claim in a file.
+// Kept: `durable::file` reads into lent bytes, and one byte past the longest text tells a longer one.
 fn on_claim<R: Files, O: Write, E: Write>(
     rt: &R,
     alloc: Global,
@@ -68,6 +69,7 @@ fn on_claim<R: Files, O: Write, E: Write>(
     }
 }
 
+// Kept: `input::standard` and `input::argument` read into lent bytes, and one byte past the longest text tells a longer one.
 fn run<R: Env + Files + Input, O: Write, E: Write>(
     rt: &R,
     alloc: Global,

@@ -27,13 +27,7 @@ pub(crate) fn named<'w, 'a>(wishes: &'w Wishes<'a>, k: u32) -> Option<&'w Constr
 
 // The sum of the constraints of a chain.
 pub(crate) fn sum_of(wishes: &Wishes, chain: &[u32]) -> i64 {
-    let mut sum = 0;
-    for k in chain {
-        if let Some(c) = named(wishes, *k) {
-            sum = plus(sum, c);
-        }
-    }
-    sum
+    chain.iter().filter_map(|k| named(wishes, *k)).fold(0, plus)
 }
 
 fn links<O: Write>(out: &mut O, wishes: &Wishes, chain: &[u32]) -> io::Result<()> {
@@ -41,17 +35,16 @@ fn links<O: Write>(out: &mut O, wishes: &Wishes, chain: &[u32]) -> io::Result<()
     let whole = sum_of(wishes, chain);
     writeln!(out, "chain {count} sum {whole}")?;
     let mut sum = 0;
-    for k in chain {
-        if let Some(c) = named(wishes, *k) {
-            sum = plus(sum, c);
-            out::constraint(out, wishes, c)?;
-            writeln!(out, ", sum {sum}")?;
-        }
+    for c in chain.iter().filter_map(|k| named(wishes, *k)) {
+        sum = plus(sum, c);
+        out::constraint(out, wishes, c)?;
+        writeln!(out, ", sum {sum}")?;
     }
     writeln!(out, "status 1")
 }
 
 // Solves a network, and prints its times or a chain.
+// Kept: `solver::solve` writes a chain into lent words, and a chain has no more than this array.
 pub(crate) fn solved<O: Write, E: Write>(
     out: &mut O,
     err: &mut E,

@@ -67,7 +67,8 @@ fn on_times<O: Write, E: Write>(
 
 // ---- Chains
 
-// The first constraint of a chain that does not end where the next one begins, and that next one: after the last comes the first.
+// The first constraint of a chain that does not end where the next one begins, and that next one.
+// Kept: after the last comes the first, which `windows` does not give.
 fn unlinked<'w, 'a>(
     links: &[&'w Constraint<'a>],
 ) -> Option<(&'w Constraint<'a>, &'w Constraint<'a>)> {
@@ -125,12 +126,10 @@ fn say_why<E: Write>(
         );
         return Ok(());
     }
-    let mut links = Vec::new(alloc);
-    for k in chain {
-        if let Some(c) = named(wishes, *k) {
-            links.push(c)?;
-        }
-    }
+    let links: Vec<&Constraint> = chain
+        .iter()
+        .filter_map(|k| named(wishes, *k))
+        .collect(alloc)?;
     if let Some((link, next)) = unlinked(&links) {
         say_unlinked(err, wishes, link, next);
         return Ok(());
