@@ -8,6 +8,7 @@ use std::fmt;
 pub(crate) const MAX_BYTES: usize = 262144;
 
 // What the first number of a line says of its way.
+// Kept: these are numbers of what the command hands over; Way::of makes a Way of them, and nothing else reads them.
 const BY_LINKS: u32 = 0;
 
 const BY_NODES: u32 = 1;
@@ -30,11 +31,18 @@ pub(crate) struct Request<'a> {
     pub(crate) way: Way,
 }
 
-/// What is wrong with the lines: one of them, counted from 1, or that there is none.
-#[derive(Clone, Copy)]
+/// Why no streams are wanted: one of the lines is wrong, counted from 1, or there is none, or there is no memory for them.
+#[derive(Clone, Copy, Debug, PartialEq, Eq)]
 pub(crate) enum LinesError {
     NotAStream(usize),
     NoStream,
+    NoMemory(AllocError),
+}
+
+impl From<AllocError> for LinesError {
+    fn from(error: AllocError) -> LinesError {
+        LinesError::NoMemory(error)
+    }
 }
 
 impl fmt::Display for LinesError {
@@ -45,21 +53,20 @@ impl fmt::Display for LinesError {
                 "line {n} of what is wanted is not a label, a tab and at least four numbers from 0 to 4294967295 with a blank between them"
             ),
             LinesError::NoStream => f.write_str("no stream is wanted"),
+            LinesError::NoMemory(error) => write!(f, "{error}"),
         }
     }
 }
 
-// The numbers of a text with a blank after each but the last, or nothing where something in it is no number.
-fn numbers(alloc: Global, text: &[u8]) -> Result<Option<Vec<u32>>, AllocError> {
+// The numbers of a text with a blank after each but the last, which is in the n-th line.
+fn numbers(alloc: Global, n: usize, text: &[u8]) -> Result<Vec<u32>, LinesError> {
     let mut numbers = Vec::new(alloc);
     for word in text.split_inclusive(|byte| *byte == b' ') {
         let digits = word.strip_suffix(b" ").unwrap_or(word);
-        let Ok(n) = decimal::read_decimal(digits) else {
-            return Ok(None);
-        };
-        numbers.push(n)?;
+        let number = decimal::read_decimal(digits).map_err(|_| LinesError::NotAStream(n))?;
+        numbers.push(number).map_err(AllocError::from)?;
     }
-    Ok(Some(numbers))
+    Ok(numbers)
 }
 
 impl Way {
@@ -78,17 +85,15 @@ impl Way {
 }
 
 impl<'a> Request<'a> {
-    // The stream of a line, or nothing where the line is not as it must be.
-    fn parse(alloc: Global, line: &'a [u8]) -> Result<Option<Request<'a>>, AllocError> {
+    // The stream of the n-th line.
+    fn parse(alloc: Global, n: usize, line: &'a [u8]) -> Result<Request<'a>, LinesError> {
         let mut parts = line.splitn(2, |byte| *byte == b'\t');
         let (Some(label), Some(text)) = (parts.next(), parts.next()) else {
-            return Ok(None);
+            return Err(LinesError::NotAStream(n));
         };
-        let Some(all) = numbers(alloc, text)? else {
-            return Ok(None);
-        };
+        let all = numbers(alloc, n, text)?;
         let [kind, period, deadline, octets, of_way @ ..] = all.as_slice() else {
-            return Ok(None);
+            return Err(LinesError::NotAStream(n));
         };
         let want = Wanted {
             period: *period,
@@ -96,25 +101,20 @@ impl<'a> Request<'a> {
             octets: *octets,
         };
         let way = Way::of(*kind, of_way.to_vec(alloc)?);
-        Ok(Some(Request { label, want, way }))
+        Ok(Request { label, want, way })
     }
 }
 
-/// The streams that are wanted, or what is wrong with the lines.
-pub(crate) fn requests<'a>(
-    alloc: Global,
-    text: &'a [u8],
-) -> Result<Result<Vec<Request<'a>>, LinesError>, AllocError> {
+/// The streams that are wanted.
+pub(crate) fn requests<'a>(alloc: Global, text: &'a [u8]) -> Result<Vec<Request<'a>>, LinesError> {
     let mut requests = Vec::new(alloc);
     for (i, line) in text.split_inclusive(|byte| *byte == b'\n').enumerate() {
         let line = line.strip_suffix(b"\n").unwrap_or(line);
-        let Some(request) = Request::parse(alloc, line)? else {
-            return Ok(Err(LinesError::NotAStream(i + 1)));
-        };
-        requests.push(request)?;
+        let request = Request::parse(alloc, i + 1, line)?;
+        requests.push(request).map_err(AllocError::from)?;
     }
     if requests.is_empty() {
-        return Ok(Err(LinesError::NoStream));
+        return Err(LinesError::NoStream);
     }
-    Ok(Ok(requests))
+    Ok(requests)
 }

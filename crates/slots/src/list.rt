@@ -1,5 +1,6 @@
 // The streams that are wanted, one after the other: each is admitted to the table that the one before it left, or left out.
 use crate::lines::Request;
+use crate::route::Asked;
 use crate::{judge, out, route, search, why};
 use admission::Admitted;
 use basics::{Cause, Refusal};
@@ -10,28 +11,41 @@ use std::io::Write;
 use std::rt::{Clock, Files};
 
 // How many streams are admitted and left out.
-#[derive(Clone, Copy)]
+#[derive(Clone, Copy, Debug, PartialEq, Eq)]
 struct Tally {
     admitted: u32,
     left_out: u32,
 }
 
+impl Tally {
+    fn all(self) -> u32 {
+        self.admitted.saturating_add(self.left_out)
+    }
+}
+
+// Kept: tried to hand over one Asked, and the borrow checker covers none that is made in the loop of list::take_all, which changes the plan.
 fn refused<O: Write, E: Write>(
     out: &mut O,
     err: &mut E,
-    t: &[u32],
+    plan: &[u32],
     request: &Request<'_>,
     links: &[u32],
     refusal: Refusal,
 ) -> io::Result<()> {
     if refusal.cause == Cause::NotAccepted {
-        judge::is_accepted(out, err, t)?;
+        judge::is_accepted(out, err, plan)?;
         return Ok(());
     }
-    why::refused(err, t, request, links, refusal.cause);
+    let asked = Asked {
+        plan,
+        request,
+        links,
+    };
+    asked.refused(err, refusal.cause);
     out::refused(out, request.label, refusal)
 }
 
+// Kept: rt, out and err are lent apart, as in main.
 // Takes the streams in, where they fit. The plan is that with all that are admitted then. Returns nothing where a search did not end.
 fn take_all<R: Clock, O: Write, E: Write>(
     rt: &R,
@@ -84,6 +98,7 @@ fn write_new<R: Files, O: Write, E: Write>(
     t: &[u32],
     tally: Tally,
 ) -> io::Result<()> {
+    // Kept: files::write_plan writes into lent bytes, and what it wrote goes on as a slice; a Vec would be one allocation more that can fail.
     let mut buffer = [0u8; files::MAX_FILE_BYTES];
     let Ok(n) = files::write_plan(t, &mut buffer) else {
         return Ok(());
@@ -94,8 +109,7 @@ fn write_new<R: Files, O: Write, E: Write>(
     if durable::write_beside(rt, err, new_path, &[file])
         && durable::put_under_new_name(rt, err, new_path)
     {
-        let all = tally.admitted.saturating_add(tally.left_out);
-        out::written(out, t, n, tally.left_out, all)?;
+        out::written(out, t, file.len(), tally.left_out, tally.all())?;
     }
     Ok(())
 }

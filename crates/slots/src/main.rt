@@ -3,7 +3,7 @@
 // written it writes no such line, and says so on standard error. NEW is written once, at the end.
 #![tactic(auto)]
 
-use crate::lines::Request;
+use crate::lines::{LinesError, Request};
 use durable::FileRead;
 use reasons::report;
 use show::answers;
@@ -26,12 +26,16 @@ const PLAN_AT: usize = 1;
 
 const NEW_AT: usize = 2;
 
+// How long an argument may be.
+const ROOM: usize = 4096;
+
 // One byte more than the largest plan file, so that a byte left over is seen.
 const PLAN_ROOM: usize = files::MAX_FILE_BYTES + 1;
 
 // One byte more than what is wanted may have.
 const TEXT_ROOM: usize = lines::MAX_BYTES + 1;
 
+// Kept: rt, out and err are lent apart, each to what reads, prints or explains; a struct of them would put its three type parameters on all of those.
 fn on_plan<R: Clock + Files, O: Write, E: Write>(
     rt: &R,
     alloc: Global,
@@ -41,6 +45,7 @@ fn on_plan<R: Clock + Files, O: Write, E: Write>(
     new_path: &[u8],
     plan: &[u8],
 ) -> io::Result<()> {
+    // Kept: files::read_plan reads into lent words, and what it read goes on as a slice; a Vec would be one allocation more that can fail.
     let mut words = [0u32; table::MAX_TABLE_WORDS];
     match files::read_plan(plan, &mut words) {
         Err(refusal) => {
@@ -66,6 +71,7 @@ fn on_paths<R: Clock + Files, O: Write, E: Write>(
     plan_path: &[u8],
     new_path: &[u8],
 ) -> io::Result<()> {
+    // Kept: durable::file reads into lent bytes and gives back what it read as a slice, and a byte past the largest file is seen.
     let mut bytes = [0u8; PLAN_ROOM];
     match durable::file(rt, err, plan_path, &mut bytes) {
         FileRead::Bytes(plan) => {
@@ -84,18 +90,21 @@ fn on_text<R: Clock + Env + Files, O: Write, E: Write>(
     err: &mut E,
     text: &[u8],
 ) -> io::Result<()> {
-    let requests = match lines::requests(alloc, text)? {
+    let requests = match lines::requests(alloc, text) {
         Ok(requests) => requests,
+        Err(LinesError::NoMemory(e)) => return Err(e.into()),
         Err(e) => {
             report(err, e);
             return Ok(());
         }
     };
-    let mut room = [0u8; 4096];
+    // Kept: the system puts an argument into lent bytes, and input gives back what came as a slice.
+    let mut room = [0u8; ROOM];
     let Some(plan) = input::argument(rt, err, PLAN_AT, &mut room, b"the path of the plan") else {
         return Ok(());
     };
-    let mut room_of_new = [0u8; 4096];
+    // Kept: as the room of the plan's path.
+    let mut room_of_new = [0u8; ROOM];
     let what = b"the path of the new file";
     let Some(new) = input::argument(rt, err, NEW_AT, &mut room_of_new, what) else {
         return Ok(());
@@ -109,6 +118,7 @@ fn run<R: Clock + Env + Files + Input, O: Write, E: Write>(
     out: &mut O,
     err: &mut E,
 ) -> io::Result<()> {
+    // Kept: input::standard reads into lent bytes and gives back what it read as a slice, and a byte past the most is seen.
     let mut room = [0u8; TEXT_ROOM];
     match input::standard(rt, &mut room) {
         Ok(text) if text.len() == TEXT_ROOM => {

@@ -1,12 +1,13 @@
 // The answers on standard output. The numbers of an admitted stream are those of the enlarged table.
-use crate::times;
 use basics::{Cause, Refusal};
 use files::Cursor;
 use reasons::records;
 use rules::Rule;
+use rules::leg::TimedLeg;
+use shape::plan::Plan;
 use std::io;
 use std::io::Write;
-use table::Link;
+use table::{Leg, Link};
 
 // What is in front of the answer about a stream that has a label.
 fn begin<O: Write>(out: &mut O, label: &[u8]) -> io::Result<()> {
@@ -30,27 +31,28 @@ pub(crate) fn not_accepted<O: Write>(out: &mut O, at: Cursor, rule: Rule) -> io:
     writeln!(out)
 }
 
-fn leg<O: Write>(out: &mut O, u: &[u32], a: u32) -> io::Result<()> {
-    let leg = records::leg_at(u, a);
-    let l = records::link_at(u, leg.link);
-    let s = records::stream_at(u, leg.stream);
-    let precision = records::header_word(u, table::PRECISION_AT);
-    let start = times::start(leg.offset, leg.periods, s.period);
-    let arrival = times::arrival(start, s.octets, l, precision);
-    let Link { from, to, .. } = l;
+fn leg<O: Write>(out: &mut O, leg: &TimedLeg) -> io::Result<()> {
+    let a = leg.at;
+    let start = leg.frame.start;
+    let arrival = leg.ready();
+    let Leg {
+        link,
+        offset,
+        periods,
+        ..
+    } = leg.plan.leg(a);
+    let Link { from, to, .. } = leg.plan.link(link as usize);
     write!(
         out,
-        "leg {a} on link {} from node {from} to node {to}: ",
-        leg.link
+        "leg {a} on link {link} from node {from} to node {to}: "
     )?;
     writeln!(
         out,
-        "starts at {start} ns (offset {}, period word {}), arrives by {arrival} ns",
-        leg.offset, leg.periods
+        "starts at {start} ns (offset {offset}, period word {periods}), arrives by {arrival} ns"
     )
 }
 
-/// A stream that is admitted, the last one of the enlarged table, and each of its legs.
+/// A stream that is admitted, the last one of the enlarged table, which is a plan, and each of its legs.
 pub(crate) fn admitted<O: Write>(
     out: &mut O,
     label: &[u8],
@@ -60,8 +62,11 @@ pub(crate) fn admitted<O: Write>(
     let last = records::header_word(u, table::STREAMS_AT).wrapping_sub(1);
     begin(out, label)?;
     writeln!(out, "admitted stream {last} offset {offset}")?;
-    for a in records::stream_at(u, last).first..records::header_word(u, table::LEGS_AT) {
-        leg(out, u, a)?;
+    let first = records::stream_at(u, last).first as usize;
+    if let Ok(plan) = Plan::judge(u) {
+        for a in first..plan.legs() {
+            leg(out, &TimedLeg::of(&plan, a))?;
+        }
     }
     Ok(())
 }

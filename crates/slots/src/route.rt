@@ -1,12 +1,22 @@
 // The route of a new stream, as links: as they are given, along given nodes, or the shortest way between two nodes. Where there is no such link or way, the route has
 // NO_LINK in its place, which no plan has, so that the admission refuses it.
-use crate::lines::Way;
+use crate::lines::{Request, Way};
 use reasons::records;
 use std::alloc::{AllocError, Global};
 use std::collections::{BTreeMap, VecDeque};
 use table::Link;
 
-pub(crate) const NO_LINK: u32 = u32::MAX;
+// Kept: admission::admit takes a route as numbers of links, and refuses one that no plan has.
+const NO_LINK: u32 = u32::MAX;
+
+/// A stream that is asked for: the plan that is to take it, what is wanted, and the links of its way.
+// Kept: nobody compares or prints it, and Request, which it lends, has no equality.
+#[derive(Clone, Copy)]
+pub(crate) struct Asked<'a> {
+    pub(crate) plan: &'a [u32],
+    pub(crate) request: &'a Request<'a>,
+    pub(crate) links: &'a [u32],
+}
 
 // The links of a plan.
 fn links_of(alloc: Global, t: &[u32]) -> Result<Vec<Link>, AllocError> {
@@ -19,10 +29,8 @@ fn links_of(alloc: Global, t: &[u32]) -> Result<Vec<Link>, AllocError> {
 
 // The link from a node to another.
 fn link_between(links: &[Link], from: u32, to: u32) -> u32 {
-    match links.iter().position(|l| l.from == from && l.to == to) {
-        Some(i) => reasons::small(i),
-        None => NO_LINK,
-    }
+    let i = links.iter().position(|l| l.from == from && l.to == to);
+    i.map_or(NO_LINK, |i| reasons::small(i))
 }
 
 // Along given nodes. No nodes make no route.

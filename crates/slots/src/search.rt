@@ -32,12 +32,13 @@ fn next_size(size: u32, seconds: i64) -> u32 {
 
 /// Looks for the least first offset that fits, and notes when something was said of it. Where one is found, the enlarged table is in the lent words.
 /// No search ends with none.
+// Kept: tried to hand over one Asked, and the borrow checker covers none that is made in the loop of list::take_all, which changes the plan.
 pub(crate) fn look<R: Clock, E: Write>(
     rt: &R,
     err: &mut E,
-    t: &[u32],
+    plan: &[u32],
     request: &Request<'_>,
-    route: &[u32],
+    links: &[u32],
     said: &mut Said,
     out: &mut [u32],
 ) -> Result<Option<Admitted>, Refusal> {
@@ -46,7 +47,7 @@ pub(crate) fn look<R: Clock, E: Write>(
     let mut until = LEAST_PIECE;
     let mut began = input::seconds(rt);
     for _ in 0..MOST_PIECES {
-        let found = admission::admit_between(t, want, route, from, until, out)?;
+        let found = admission::admit_between(plan, want, links, from, until, out)?;
         if found.is_some() {
             return Ok(found);
         }

@@ -1,5 +1,6 @@
 // Why a stream is not admitted: one sentence on standard error. Of several causes one is said.
-use crate::lines::{Request, Way};
+use crate::lines::Way;
+use crate::route::Asked;
 use crate::times;
 use basics::Cause;
 use checker::cursors::MAX_REVISION;
@@ -73,7 +74,7 @@ pub(crate) fn not_accepted<E: Write>(err: &mut E, at: Cursor) {
 // ---- 18: no first offset fits
 
 // The links of a route, as the command takes them: with a comma between them.
-#[derive(Clone, Copy)]
+#[derive(Clone, Copy, Debug)]
 struct Links<'a>(&'a [u32]);
 
 impl fmt::Display for Links<'_> {
@@ -90,47 +91,32 @@ impl fmt::Display for Links<'_> {
 }
 
 // Why no first offset fits on a route, and what may help.
-#[derive(Clone, Copy)]
+#[derive(Clone, Copy, Debug, PartialEq, Eq)]
 enum NoOffset {
-    TooSlow { time: u32, deadline: u32 },
-    HeldTooLong { link: u32, hold: u32 },
+    TooSlow { time: u64, deadline: u32 },
+    HeldTooLong { link: u32, hold: u64 },
     AllMeet { may_be_late: bool },
 }
 
-// A time that fits into a word, as all do that are printed.
-fn short(time: u64) -> u32 {
-    u32::try_from(time).unwrap_or(u32::MAX)
-}
-
-// Whether the last leg may lie more periods late than a leg may lie, at the latest first offset.
-fn may_be_late(t: &[u32], links: &[u32], want: Wanted) -> bool {
-    let Some((_, before)) = links.split_last() else {
-        return false;
-    };
-    u64::from(MAX_PERIODS) * u64::from(want.period) < times::along(t, want.octets, before)
-}
-
 impl NoOffset {
-    fn of(t: &[u32], links: &[u32], want: Wanted) -> NoOffset {
-        let time = times::along(t, want.octets, links);
-        let deadline = want.deadline;
+    fn of(asked: Asked) -> NoOffset {
+        let Wanted {
+            period,
+            deadline,
+            octets,
+        } = asked.request.want;
+        let time = times::along(asked.plan, octets, asked.links);
         if u64::from(deadline) < time {
-            return NoOffset::TooSlow {
-                time: short(time),
-                deadline,
-            };
+            return NoOffset::TooSlow { time, deadline };
         }
-        for link in links {
-            let hold = times::hold(want.octets, records::link_at(t, *link));
-            if u64::from(want.period) < hold {
-                return NoOffset::HeldTooLong {
-                    link: *link,
-                    hold: short(hold),
-                };
+        for link in asked.links {
+            let hold = times::hold(octets, records::link_at(asked.plan, *link));
+            if u64::from(period) < hold {
+                return NoOffset::HeldTooLong { link: *link, hold };
             }
         }
         NoOffset::AllMeet {
-            may_be_late: may_be_late(t, links, want),
+            may_be_late: asked.may_be_late(),
         }
     }
 }
@@ -157,24 +143,34 @@ impl fmt::Display for NoOffset {
     }
 }
 
-fn no_offset<E: Write>(err: &mut E, t: &[u32], request: &Request<'_>, links: &[u32]) {
-    let want = request.want;
-    let period = want.period;
-    let why = NoOffset::of(t, links, want);
-    let links = Links(links);
-    explain(
-        err,
-        request.label,
-        format_args!("no first offset below {period} ns fits on the route {links}: {why}"),
-    );
+impl Asked<'_> {
+    // Whether the last leg may lie more periods late than a leg may lie, at the latest first offset.
+    fn may_be_late(self) -> bool {
+        let Some((_, before)) = self.links.split_last() else {
+            return false;
+        };
+        let want = self.request.want;
+        let most = u64::from(MAX_PERIODS) * u64::from(want.period);
+        most < times::along(self.plan, want.octets, before)
+    }
+
+    fn no_offset<E: Write>(self, err: &mut E) {
+        let period = self.request.want.period;
+        let why = NoOffset::of(self);
+        let links = Links(self.links);
+        self.explain(
+            err,
+            format_args!("no first offset below {period} ns fits on the route {links}: {why}"),
+        );
+    }
 }
 
 // ---- 20: the stream would break a limit or the shape
 
 // What is wrong with a route: its i-th link is not there, or a link does not go on from the node that the route has reached, or comes back to a node.
-#[derive(Clone, Copy)]
+#[derive(Clone, Copy, Debug, PartialEq, Eq)]
 enum RouteFault {
-    NoLink(usize, u32),
+    NoLink { i: usize, link: u32 },
     Gap { link: u32, from: u32, reached: u32 },
     Back { link: u32, to: u32 },
 }
@@ -186,7 +182,7 @@ fn route_fault(t: &[u32], links: &[u32]) -> Option<RouteFault> {
     for (i, link) in links.iter().enumerate() {
         let link = *link;
         if count <= link {
-            return Some(RouteFault::NoLink(i, link));
+            return Some(RouteFault::NoLink { i, link });
         }
         let Link { from, to, .. } = records::link_at(t, link);
         if let Some(reached) = reached {
@@ -207,187 +203,178 @@ fn route_fault(t: &[u32], links: &[u32]) -> Option<RouteFault> {
     None
 }
 
-fn no_link<E: Write>(err: &mut E, t: &[u32], request: &Request<'_>, i: usize, link: u32) {
-    let label = request.label;
-    match &request.way {
-        Way::Shortest(from, to) => explain(
-            err,
-            label,
-            format_args!("no links lead from node {from} to node {to}: give nodes that links join"),
-        ),
-        Way::Nodes(nodes) => {
-            let (from, to) = match nodes.get(i..) {
-                Some([from, to, ..]) => (*from, *to),
-                _ => (0, 0),
-            };
-            explain(
+impl Asked<'_> {
+    // A route whose i-th link is not there.
+    // Kept: of links by number it says what draw and export say of an argument; reasons, which all three see, explains refused files and tables alone.
+    fn no_link<E: Write>(self, err: &mut E, i: usize, link: u32) {
+        match &self.request.way {
+            Way::Shortest(from, to) => self.explain(
                 err,
-                label,
-                format_args!("there is no link from node {from} to node {to}"),
+                format_args!(
+                    "no links lead from node {from} to node {to}: give nodes that links join"
+                ),
+            ),
+            Way::Nodes(nodes) => {
+                let (from, to) = match nodes.get(i..) {
+                    Some([from, to, ..]) => (*from, *to),
+                    _ => (0, 0),
+                };
+                self.explain(
+                    err,
+                    format_args!("there is no link from node {from} to node {to}"),
+                );
+            }
+            Way::Links(_) => match header_word(self.plan, table::LINKS_AT).checked_sub(1) {
+                None => self.explain(
+                    err,
+                    format_args!("there is no link {link}: the plan has no links"),
+                ),
+                Some(last) => self.explain(
+                    err,
+                    format_args!("there is no link {link}: links are 0 to {last}"),
+                ),
+            },
+        }
+    }
+
+    fn bad_link<E: Write>(self, err: &mut E, fault: RouteFault) {
+        match fault {
+            RouteFault::NoLink { i, link } => self.no_link(err, i, link),
+            RouteFault::Gap {
+                link,
+                from,
+                reached,
+            } => self.explain(
+                err,
+                format_args!(
+                    "link {link} begins at node {from}, but the route has reached node {reached}"
+                ),
+            ),
+            RouteFault::Back { link, to } => self.explain(
+                err,
+                format_args!("link {link} leads to node {to}, where the route was before"),
+            ),
+        }
+    }
+
+    // A route without links.
+    fn no_way<E: Write>(self, err: &mut E) {
+        let node = match &self.request.way {
+            Way::Links(_) => {
+                return self.explain(
+                    err,
+                    format_args!("the route has no link, but a route has 1 to {MAX_ROUTE}"),
+                );
+            }
+            Way::Nodes(nodes) => nodes.first().copied().unwrap_or(0),
+            Way::Shortest(from, _) => *from,
+        };
+        self.explain(
+            err,
+            format_args!(
+                "the route begins and ends at node {node}, but a route leads to another node"
+            ),
+        );
+    }
+
+    fn too_many<E: Write>(self, err: &mut E, count: u32) {
+        if let Way::Shortest(from, to) = &self.request.way {
+            return self.explain(
+                err,
+                format_args!(
+                    "the shortest way from node {from} to node {to} has {count} links, but a route has at most {MAX_ROUTE}"
+                ),
             );
         }
-        Way::Links(_) => match header_word(t, table::LINKS_AT).checked_sub(1) {
-            None => explain(
-                err,
-                label,
-                format_args!("there is no link {link}: the plan has no links"),
-            ),
-            Some(last) => explain(
-                err,
-                label,
-                format_args!("there is no link {link}: links are 0 to {last}"),
-            ),
-        },
-    }
-}
-
-fn bad_link<E: Write>(err: &mut E, t: &[u32], request: &Request<'_>, fault: RouteFault) {
-    match fault {
-        RouteFault::NoLink(i, link) => no_link(err, t, request, i, link),
-        RouteFault::Gap {
-            link,
-            from,
-            reached,
-        } => explain(
+        self.explain(
             err,
-            request.label,
-            format_args!(
-                "link {link} begins at node {from}, but the route has reached node {reached}"
-            ),
-        ),
-        RouteFault::Back { link, to } => explain(
-            err,
-            request.label,
-            format_args!("link {link} leads to node {to}, where the route was before"),
-        ),
+            format_args!("the route has {count} links, but a route has at most {MAX_ROUTE}"),
+        );
     }
-}
 
-// A route without links.
-fn no_way<E: Write>(err: &mut E, request: &Request<'_>) {
-    let node = match &request.way {
-        Way::Links(_) => {
-            return explain(
+    // What is left where the stream itself is right: the plan has no place for it.
+    fn no_place<E: Write>(self, err: &mut E, count: u32) {
+        let streams = header_word(self.plan, table::STREAMS_AT);
+        if table::MAX_STREAMS <= streams as usize {
+            return self.explain(
                 err,
-                request.label,
-                format_args!("the route has no link, but a route has 1 to {MAX_ROUTE}"),
+                format_args!("the plan has {streams} streams, and no plan has more"),
             );
         }
-        Way::Nodes(nodes) => nodes.first().copied().unwrap_or(0),
-        Way::Shortest(from, _) => *from,
-    };
-    explain(
-        err,
-        request.label,
-        format_args!("the route begins and ends at node {node}, but a route leads to another node"),
-    );
-}
-
-fn too_many<E: Write>(err: &mut E, request: &Request<'_>, count: u32) {
-    if let Way::Shortest(from, to) = &request.way {
-        return explain(
+        let legs = header_word(self.plan, table::LEGS_AT);
+        let most = table::MAX_LEGS;
+        self.explain(
             err,
-            request.label,
             format_args!(
-                "the shortest way from node {from} to node {to} has {count} links, but a route has at most {MAX_ROUTE}"
+                "the plan has {legs} legs, and with {count} more it would have more than {most}"
             ),
         );
     }
-    explain(
-        err,
-        request.label,
-        format_args!("the route has {count} links, but a route has at most {MAX_ROUTE}"),
-    );
-}
 
-// What is left where the stream itself is right: the plan has no place for it.
-fn no_place<E: Write>(err: &mut E, label: &[u8], t: &[u32], count: u32) {
-    let streams = header_word(t, table::STREAMS_AT);
-    if table::MAX_STREAMS <= streams as usize {
-        return explain(
-            err,
-            label,
-            format_args!("the plan has {streams} streams, and no plan has more"),
-        );
+    // How many links the route is said to have: one along no nodes too many.
+    fn count(self) -> u32 {
+        match &self.request.way {
+            Way::Nodes(nodes) if nodes.is_empty() => u32::MAX,
+            _ => small(self.links.len()),
+        }
     }
-    let legs = header_word(t, table::LEGS_AT);
-    let most = table::MAX_LEGS;
-    explain(
-        err,
-        label,
-        format_args!(
-            "the plan has {legs} legs, and with {count} more it would have more than {most}"
-        ),
-    );
-}
 
-// How many links a route is said to have: one along no nodes too many.
-fn count_of(request: &Request<'_>, links: &[u32]) -> u32 {
-    match &request.way {
-        Way::Nodes(nodes) if nodes.is_empty() => u32::MAX,
-        _ => small(links.len()),
+    fn bad_route<E: Write>(self, err: &mut E) {
+        let count = self.count();
+        if count == 0 {
+            return self.no_way(err);
+        }
+        if MAX_ROUTE < count {
+            return self.too_many(err, count);
+        }
+        match route_fault(self.plan, self.links) {
+            Some(fault) => self.bad_link(err, fault),
+            None => self.no_place(err, count),
+        }
     }
-}
 
-fn bad_route<E: Write>(err: &mut E, t: &[u32], request: &Request<'_>, links: &[u32]) {
-    let count = count_of(request, links);
-    if count == 0 {
-        return no_way(err, request);
+    fn cannot_add<E: Write>(self, err: &mut E) {
+        let Wanted {
+            period,
+            deadline,
+            octets,
+        } = self.request.want;
+        if !(1..=MAX_PERIOD).contains(&period) {
+            return self.explain(
+                err,
+                format_args!("the period is {period} ns, but periods are 1 to {MAX_PERIOD} ns"),
+            );
+        }
+        let latest = records::latest_deadline(period);
+        if !(1..=latest).contains(&deadline) {
+            return self.explain(
+                err,
+                format_args!(
+                    "the deadline is {deadline} ns, but the period allows 1 to {latest} ns"
+                ),
+            );
+        }
+        if !(MIN_OCTETS..=MAX_OCTETS).contains(&octets) {
+            return self.explain(
+                err,
+                format_args!(
+                    "the frame has {octets} octets, but frames have {MIN_OCTETS} to {MAX_OCTETS}"
+                ),
+            );
+        }
+        self.bad_route(err);
     }
-    if MAX_ROUTE < count {
-        return too_many(err, request, count);
-    }
-    match route_fault(t, links) {
-        Some(fault) => bad_link(err, t, request, fault),
-        None => no_place(err, request.label, t, count),
-    }
-}
 
-fn cannot_add<E: Write>(err: &mut E, t: &[u32], request: &Request<'_>, links: &[u32]) {
-    let label = request.label;
-    let Wanted {
-        period,
-        deadline,
-        octets,
-    } = request.want;
-    if !(1..=MAX_PERIOD).contains(&period) {
-        return explain(
-            err,
-            label,
-            format_args!("the period is {period} ns, but periods are 1 to {MAX_PERIOD} ns"),
-        );
+    /// Says why it is refused for a cause.
+    pub(crate) fn refused<E: Write>(self, err: &mut E, cause: Cause) {
+        match cause {
+            Cause::CannotRise => cannot_rise(err, self.request.label),
+            Cause::NoOffset => self.no_offset(err),
+            _ => self.cannot_add(err),
+        }
     }
-    let latest = records::latest_deadline(period);
-    if !(1..=latest).contains(&deadline) {
-        return explain(
-            err,
-            label,
-            format_args!("the deadline is {deadline} ns, but the period allows 1 to {latest} ns"),
-        );
-    }
-    if !(MIN_OCTETS..=MAX_OCTETS).contains(&octets) {
-        return explain(
-            err,
-            label,
-            format_args!(
-                "the frame has {octets} octets, but frames have {MIN_OCTETS} to {MAX_OCTETS}"
-            ),
-        );
-    }
-    bad_route(err, t, request, links);
-}
 
-/// Why a stream is refused for a cause.
-pub(crate) fn refused<E: Write>(
-    err: &mut E,
-    t: &[u32],
-    request: &Request<'_>,
-    links: &[u32],
-    cause: Cause,
-) {
-    match cause {
-        Cause::CannotRise => cannot_rise(err, request.label),
-        Cause::NoOffset => no_offset(err, t, request, links),
-        _ => cannot_add(err, t, request, links),
+    fn explain<E: Write, S: fmt::Display + Drop>(self, err: &mut E, sentence: S) {
+        explain(err, self.request.label, sentence);
     }
 }
