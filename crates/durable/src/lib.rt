@@ -93,6 +93,7 @@ fn said<E: Write>(err: &mut E, path: &[u8], done: io::Result<()>) -> bool {
 }
 
 /// Puts a path and its ending into a buffer and returns them, or nothing where there is no room for them.
+// Kept: an empty path is no file's, so the next call fails and its sentence is said; an Option would have the same sentence at each caller.
 pub fn ended<'a>(path: &[u8], ending: &[u8], out: &'a mut [u8]) -> &'a [u8]
     ensures { length result.now ≤ length out.old }
 {

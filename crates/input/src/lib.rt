@@ -116,6 +116,7 @@ pub fn argument<'a, R: Env, E: Write>(
 }
 
 /// The same, and nothing where it is missing or too long.
+// Kept: its callers, which the shell calls with all arguments, take a missing one as an empty one; an Option would be unwrapped to that at each.
 pub fn argument_or_nothing<'a, R: Env>(rt: &R, i: usize, room: &'a mut [u8]) -> &'a [u8]
     ensures { length result.now ≤ length room.old }
 {
