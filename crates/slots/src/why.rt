@@ -150,7 +150,7 @@ impl Asked<'_> {
             return false;
         };
         let want = self.request.want;
-        let most = u64::from(MAX_PERIODS) * u64::from(want.period);
+        let most = u64::from(MAX_PERIODS).saturating_mul(u64::from(want.period));
         most < times::along(self.plan, want.octets, before)
     }
 
