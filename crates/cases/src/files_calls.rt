@@ -3,7 +3,7 @@ use crate::{Call, Given, table_calls, text};
 use basics::Refusal;
 use files::{Cursor, Returned};
 use numbers::Number;
-use std::alloc::Global;
+use std::alloc::{AllocError, Global};
 use std::io;
 use std::io::Write;
 
@@ -12,7 +12,19 @@ pub(crate) const MARK: u8 = 0xEE;
 
 pub(crate) const WORD_MARK: u32 = 7777;
 
-pub(crate) const MAX_ROOM: usize = 64;
+const MAX_ROOM: usize = 64;
+
+/// Lent bytes or words, all with their mark, or None where a line asks for more than it may.
+pub(crate) fn lent<T: Copy>(
+    alloc: Global,
+    mark: T,
+    room: usize,
+) -> Result<Option<Vec<T>>, AllocError> {
+    if MAX_ROOM < room {
+        return Ok(None);
+    }
+    Ok(Some(vec![in alloc; mark; room]?))
+}
 
 fn read_number<O: Write>(out: &mut O, bytes: &[u8], at: usize) -> io::Result<()> {
     match numbers::read_number(bytes, at) {
@@ -21,12 +33,8 @@ fn read_number<O: Write>(out: &mut O, bytes: &[u8], at: usize) -> io::Result<()>
     }
 }
 
-/// Prints how many bytes were written, and all that were lent.
-pub(crate) fn written<O: Write>(
-    out: &mut O,
-    answer: Result<usize, Refusal>,
-    bytes: &[u8],
-) -> io::Result<()> {
+// Prints how many bytes were written, and all that were lent.
+fn written<O: Write>(out: &mut O, answer: Result<usize, Refusal>, bytes: &[u8]) -> io::Result<()> {
     match answer {
         Ok(n) => write!(out, "bytes {n}: ")?,
         Err(refusal) => {
@@ -37,6 +45,24 @@ pub(crate) fn written<O: Write>(
     show::bytes(out, bytes)
 }
 
+/// A call that writes into lent bytes, of which a line asks for so many.
+pub(crate) fn write<O: Write, F: FnOnce(&mut [u8]) -> Result<usize, Refusal>>(
+    out: &mut O,
+    alloc: Global,
+    room: usize,
+    call: F,
+) -> io::Result<()>
+    requires { F.IsAlwaysCallable call }
+{
+    match lent(alloc, MARK, room)? {
+        Some(mut bytes) => {
+            let answer = call(&mut bytes);
+            written(out, answer, &bytes)
+        }
+        None => Ok(()),
+    }
+}
+
 fn write_number<O: Write>(
     out: &mut O,
     alloc: Global,
@@ -44,12 +70,12 @@ fn write_number<O: Write>(
     at: usize,
     room: usize,
 ) -> io::Result<()> {
-    if MAX_ROOM < room {
-        return Ok(());
-    }
-    let mut bytes = vec![in alloc; MARK; room]?;
-    let answer = numbers::write_number(x, &mut bytes, at);
-    written(out, answer, &bytes)
+    write(
+        out,
+        alloc,
+        room,
+        |bytes| numbers::write_number(x, bytes, at),
+    )
 }
 
 fn read_cursor<O: Write>(out: &mut O, bytes: &[u8]) -> io::Result<()> {
@@ -68,10 +94,9 @@ fn write_cursor<O: Write>(
     cursor: Cursor,
     room: usize,
 ) -> io::Result<()> {
-    if MAX_ROOM < room {
+    let Some(mut bytes) = lent(alloc, MARK, room)? else {
         return Ok(());
-    }
-    let mut bytes = vec![in alloc; MARK; room]?;
+    };
     match files::write_cursor(cursor, &mut bytes) {
         Ok(n) => written(out, Ok(n), &bytes),
         Err(Returned { refusal, cursor }) => {
@@ -101,35 +126,25 @@ fn plan_read<O: Write>(
     show::rest_words(out, words, n)
 }
 
-fn read_plan<O: Write>(out: &mut O, alloc: Global, bytes: &[u8], room: usize) -> io::Result<()> {
-    if MAX_ROOM < room {
-        return Ok(());
+// A plan that a reader puts into lent words, of which a line asks for so many.
+fn read_plan<O: Write, F: FnOnce(&mut [u32]) -> Result<usize, Refusal>>(
+    out: &mut O,
+    alloc: Global,
+    room: usize,
+    read: F,
+) -> io::Result<()>
+    requires { F.IsAlwaysCallable read }
+{
+    match lent(alloc, WORD_MARK, room)? {
+        Some(mut words) => {
+            let answer = read(&mut words);
+            plan_read(out, answer, &words)
+        }
+        None => Ok(()),
     }
-    let mut words = vec![in alloc; WORD_MARK; room]?;
-    let answer = files::read_plan(bytes, &mut words);
-    plan_read(out, answer, &words)
 }
 
-// The same by the reader of the first layout.
-fn read_first<O: Write>(out: &mut O, alloc: Global, bytes: &[u8], room: usize) -> io::Result<()> {
-    if MAX_ROOM < room {
-        return Ok(());
-    }
-    let mut words = vec![in alloc; WORD_MARK; room]?;
-    let answer = editions::read_first(bytes, &mut words);
-    plan_read(out, answer, &words)
-}
-
-fn write_plan<O: Write>(out: &mut O, alloc: Global, table: &[u32], room: usize) -> io::Result<()> {
-    if MAX_ROOM < room {
-        return Ok(());
-    }
-    let mut bytes = vec![in alloc; MARK; room]?;
-    let answer = files::write_plan(table, &mut bytes);
-    written(out, answer, &bytes)
-}
-
-fn same<O: Write>(out: &mut O, a: &[u32], b: &[u32]) -> io::Result<()> {
+fn compared<O: Write>(out: &mut O, a: &[u32], b: &[u32]) -> io::Result<()> {
     let word = if a == b { "same" } else { "DIFFERENT" };
     writeln!(out, "{word}")
 }
@@ -150,11 +165,11 @@ fn read_largest<O: Write>(
 ) -> io::Result<()> {
     let mut words = vec![in alloc; 0u32; table::MAX_TABLE_WORDS]?;
     count(out, files::read_plan(bytes, &mut words))?;
-    same(out, table, &words)?;
+    compared(out, table, &words)?;
     let marked = vec![in alloc; WORD_MARK; table::MAX_TABLE_WORDS - 1]?;
     let mut short = vec![in alloc; WORD_MARK; table::MAX_TABLE_WORDS - 1]?;
     count(out, files::read_plan(bytes, &mut short))?;
-    same(out, &marked, &short)
+    compared(out, &marked, &short)
 }
 
 // A table as long as any, with the words of a text in front and all else at the largest word: written, read back, and read into one word too few.
@@ -180,9 +195,24 @@ pub(crate) fn asked<O: Write>(out: &mut O, call: &Call<'_>, given: &Given) -> io
     let alloc = given.alloc;
     let numbers = &call.numbers;
     match call.verb {
-        b"read-plan" => read_plan(out, alloc, &given.plan, numbers.size(0))?,
-        b"read-first" => read_first(out, alloc, &given.plan, numbers.size(0))?,
-        b"write-plan" => write_plan(out, alloc, &given.table, numbers.size(0))?,
+        b"read-plan" => read_plan(
+            out,
+            alloc,
+            numbers.size(0),
+            |words| files::read_plan(&given.plan, words),
+        )?,
+        b"read-first" => read_plan(
+            out,
+            alloc,
+            numbers.size(0),
+            |words| editions::read_first(&given.plan, words),
+        )?,
+        b"write-plan" => write(
+            out,
+            alloc,
+            numbers.size(0),
+            |bytes| files::write_plan(&given.table, bytes),
+        )?,
         b"largest" => largest(out, alloc, call.rest)?,
         b"read-number" => read_number(out, &given.plan, numbers.size(0))?,
         b"write-number" => write_number(

@@ -1,6 +1,6 @@
 // The calls on gate lists and on their files, each with its answer and what became of the lent buffer printed. The list of a link is read from the file that was written,
 // and printed in words: a mask and a duration in turn.
-use crate::files_calls::{MARK, MAX_ROOM, WORD_MARK};
+use crate::files_calls::{MARK, WORD_MARK};
 use crate::{Call, Given, files_calls};
 use std::alloc::Global;
 use std::io;
@@ -22,21 +22,13 @@ fn unchanged<O: Write>(out: &mut O, bytes: &[u8], n: usize) -> io::Result<()> {
     }
 }
 
-// The first n words on one line.
-fn first<O: Write>(out: &mut O, words: &[u32], n: usize) -> io::Result<()> {
-    match words.get(..n) {
-        Some(words) => show::rest_words(out, words, 0),
-        None => Ok(()),
-    }
-}
-
 // The list of a link, in a file.
 fn list<O: Write>(out: &mut O, alloc: Global, file: &[u8]) -> io::Result<()> {
     let bytes = file.len();
     write!(out, "bytes {bytes}: ")?;
     let mut words = vec![in alloc; WORD_MARK; gates::MAX_LIST_WORDS]?;
     match gate_files::read_list(file, &mut words) {
-        Ok(n) => first(out, &words, n),
+        Ok(n) => show::rest_words(out, words.get(..n).unwrap_or(&[]), 0),
         Err(refusal) => show::refused(out, refusal),
     }
 }
@@ -66,24 +58,14 @@ fn gate_list<O: Write>(
     }
 }
 
-fn write_list<O: Write>(out: &mut O, alloc: Global, words: &[u32], room: usize) -> io::Result<()> {
-    if MAX_ROOM < room {
-        return Ok(());
-    }
-    let mut bytes = vec![in alloc; MARK; room]?;
-    let answer = gate_files::write_list(words, &mut bytes);
-    files_calls::written(out, answer, &bytes)
-}
-
 fn read_list<O: Write>(out: &mut O, alloc: Global, bytes: &[u8], room: usize) -> io::Result<()> {
-    if MAX_ROOM < room {
+    let Some(mut words) = files_calls::lent(alloc, WORD_MARK, room)? else {
         return Ok(());
-    }
-    let mut words = vec![in alloc; WORD_MARK; room]?;
+    };
     let n = match gate_files::read_list(bytes, &mut words) {
         Ok(n) => {
             write!(out, "words {n}: ")?;
-            first(out, &words, n)?;
+            show::rest_words(out, words.get(..n).unwrap_or(&[]), 0)?;
             n
         }
         Err(refusal) => {
@@ -100,7 +82,12 @@ pub(crate) fn asked<O: Write>(out: &mut O, call: &Call<'_>, given: &Given) -> io
     let numbers = &call.numbers;
     match call.verb {
         b"gate-list" => gate_list(out, alloc, &given.table, numbers.at(0), numbers.size(1))?,
-        b"write-list" => write_list(out, alloc, &given.table, numbers.size(0))?,
+        b"write-list" => files_calls::write(
+            out,
+            alloc,
+            numbers.size(0),
+            |bytes| gate_files::write_list(&given.table, bytes),
+        )?,
         b"read-list" => read_list(out, alloc, &given.plan, numbers.size(0))?,
         _ => return Ok(false),
     }

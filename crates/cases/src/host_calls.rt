@@ -1,5 +1,5 @@
 // The calls for C, each with the result, the number beside it, and the whole lent buffers.
-use crate::files_calls::{MARK, MAX_ROOM};
+use crate::files_calls::{MARK, lent};
 use crate::text::Numbers;
 use crate::{Call, Given};
 use host::Answer;
@@ -12,26 +12,35 @@ fn told<O: Write>(out: &mut O, verb: &str, answer: Answer) -> io::Result<()> {
     writeln!(out, "{verb} {result} {beside}")
 }
 
-fn start<O: Write>(out: &mut O, given: &Given, room: usize) -> io::Result<()> {
-    if MAX_ROOM < room {
+// A call with one lent buffer, of which a line asks for so many bytes.
+fn with_one<O: Write, F: FnOnce(&mut [u8]) -> Answer>(
+    out: &mut O,
+    alloc: Global,
+    verb: &str,
+    room: usize,
+    call: F,
+) -> io::Result<()>
+    requires { F.IsAlwaysCallable call }
+{
+    let Some(mut bytes) = lent(alloc, MARK, room)? else {
         return Ok(());
-    }
-    let mut lent = vec![in given.alloc; MARK; room]?;
-    let answer = host::conepalhui_start_3(&given.plan, &mut lent);
-    told(out, "start", answer)?;
-    show::bytes(out, &lent)
+    };
+    let answer = call(&mut bytes);
+    told(out, verb, answer)?;
+    show::bytes(out, &bytes)
 }
 
 // The slice in full, and its result alone.
 fn slice<O: Write>(out: &mut O, given: &Given, budget: u32, room: usize) -> io::Result<()> {
-    if MAX_ROOM < room {
+    let (Some(mut bytes), Some(mut again)) = (
+        lent(given.alloc, MARK, room)?,
+        lent(given.alloc, MARK, room)?,
+    ) else {
         return Ok(());
-    }
-    let mut lent = vec![in given.alloc; MARK; room]?;
-    let answer = host::conepalhui_slice_full(&given.plan, &given.saved, budget, &mut lent);
+    };
+    let answer = host::conepalhui_slice_full(&given.plan, &given.saved, budget, &mut bytes);
     told(out, "slice", answer)?;
-    show::bytes(out, &lent)?;
-    let mut again = vec![in given.alloc; MARK; room]?;
+    show::bytes(out, &bytes)?;
     let result = host::conepalhui_slice(&given.plan, &given.saved, budget, &mut again);
     writeln!(out, "alone {result}")?;
     show::bytes(out, &again)
@@ -39,13 +48,12 @@ fn slice<O: Write>(out: &mut O, given: &Given, budget: u32, room: usize) -> io::
 
 // A move: the leg, the offset, the period word, and the room for the new file and for the cursor.
 fn move_leg<O: Write>(out: &mut O, given: &Given, numbers: &Numbers) -> io::Result<()> {
-    let file_room = numbers.size(3);
-    let room = numbers.size(4);
-    if MAX_ROOM < file_room || MAX_ROOM < room {
+    let (Some(mut file), Some(mut cursor)) = (
+        lent(given.alloc, MARK, numbers.size(3))?,
+        lent(given.alloc, MARK, numbers.size(4))?,
+    ) else {
         return Ok(());
-    }
-    let mut file = vec![in given.alloc; MARK; file_room]?;
-    let mut lent = vec![in given.alloc; MARK; room]?;
+    };
     let answer = host::conepalhui_move_3(
         &given.plan,
         &given.saved,
@@ -53,30 +61,32 @@ fn move_leg<O: Write>(out: &mut O, given: &Given, numbers: &Numbers) -> io::Resu
         numbers.at(1),
         numbers.at(2),
         &mut file,
-        &mut lent,
+        &mut cursor,
     );
     told(out, "move", answer)?;
     show::bytes(out, &file)?;
-    show::bytes(out, &lent)
-}
-
-fn convert<O: Write>(out: &mut O, alloc: Global, old: &[u8], room: usize) -> io::Result<()> {
-    if MAX_ROOM < room {
-        return Ok(());
-    }
-    let mut file = vec![in alloc; MARK; room]?;
-    let answer = host::conepalhui_convert_first(old, &mut file);
-    told(out, "convert", answer)?;
-    show::bytes(out, &file)
+    show::bytes(out, &cursor)
 }
 
 pub(crate) fn asked<O: Write>(out: &mut O, call: &Call<'_>, given: &Given) -> io::Result<bool> {
     let numbers = &call.numbers;
     match call.verb {
-        b"host-start" => start(out, given, numbers.size(0))?,
+        b"host-start" => with_one(
+            out,
+            given.alloc,
+            "start",
+            numbers.size(0),
+            |bytes| host::conepalhui_start_3(&given.plan, bytes),
+        )?,
         b"host-slice" => slice(out, given, numbers.at(0), numbers.size(1))?,
         b"host-move" => move_leg(out, given, numbers)?,
-        b"host-convert" => convert(out, given.alloc, &given.plan, numbers.size(0))?,
+        b"host-convert" => with_one(
+            out,
+            given.alloc,
+            "convert",
+            numbers.size(0),
+            |bytes| host::conepalhui_convert_first(&given.plan, bytes),
+        )?,
         _ => return Ok(false),
     }
     Ok(true)

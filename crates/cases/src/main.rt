@@ -123,6 +123,7 @@ impl Given {
 }
 
 fn run<R: Input, O: Write>(rt: &R, alloc: Global, out: &mut O) -> io::Result<()> {
+    // Kept: input::standard_part reads into lent bytes and gives back what it read as a slice, no more than a list may have.
     let mut room = [0u8; MAX_LIST];
     let list = input::standard_part(rt, &mut room);
     let mut given = Given {

@@ -17,6 +17,7 @@ const MAX_LENT: usize = 160;
 const BEFORE: usize = 2;
 
 // A network as a line gives it.
+// Kept: nobody compares or prints it, and Global, where memory comes from, has no equality.
 #[derive(Clone, Copy)]
 struct Given<'a> {
     alloc: Global,
@@ -76,6 +77,7 @@ impl Given<'_> {
         let answer = network_host::conepalhui_network(self.events, self.constraints, &mut chain);
         writeln!(out, "result {} number {}", answer.result, answer.number)?;
         // How many words of the chain the answer says: 1 is a chain.
+        // Kept: results are numbers of the C interface, which this call returns.
         let n = match answer.result {
             1 => answer.number as usize,
             _ => 0,

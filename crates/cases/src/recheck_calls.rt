@@ -1,9 +1,7 @@
 // The calls on a table of which one leg was moved, each with its answer printed. A line that asks whether two tables are the same but for a leg has after a
 // colon the words of the other one.
-ghost use Rattle.table.specs.Layout.{Sized};
-
 use crate::text::Numbers;
-use crate::{Call, Given, text};
+use crate::{Call, Given, text, tool_calls};
 use basics::Cause;
 use recheck::{Place, Rechecked};
 use show::told;
@@ -28,18 +26,7 @@ fn recheck<O: Write>(out: &mut O, t: &[u32], leg: u32) -> io::Result<()> {
 }
 
 // A leg that is not there is refused as a recheck refuses it.
-fn sized_same<O: Write>(out: &mut O, t: &[u32], u: &[u32], leg: u32) -> io::Result<()>
-    requires { Sized t.now }
-{
-    if t[table::LEGS_AT] <= leg {
-        return show::refused(out, Cause::NoLeg.at(0));
-    }
-    let same = recheck::same::same_but_leg(t, u, leg);
-    let word = if same { "yes" } else { "no" };
-    writeln!(out, "{word}")
-}
-
-fn same_but<O: Write>(out: &mut O, call: &Call<'_>, given: &Given) -> io::Result<()> {
+fn compared<O: Write>(out: &mut O, call: &Call<'_>, given: &Given) -> io::Result<()> {
     let Some((front, words)) = text::split_once(call.rest, b':') else {
         return Ok(());
     };
@@ -48,8 +35,11 @@ fn same_but<O: Write>(out: &mut O, call: &Call<'_>, given: &Given) -> io::Result
     if MAX_OTHER < other.len() {
         return Ok(());
     }
-    match table::judged_size(&given.table) {
-        Ok(()) => sized_same(out, &given.table, &other, numbers.at(0)),
+    let t = given.table.as_slice();
+    let leg = numbers.at(0);
+    match table::judged_size(t) {
+        Ok(()) if t[table::LEGS_AT] <= leg => show::refused(out, Cause::NoLeg.at(0)),
+        Ok(()) => tool_calls::holds(out, recheck::same::same_but_leg(t, &other, leg)),
         Err(refusal) => show::refused(out, refusal),
     }
 }
@@ -57,7 +47,7 @@ fn same_but<O: Write>(out: &mut O, call: &Call<'_>, given: &Given) -> io::Result
 pub(crate) fn asked<O: Write>(out: &mut O, call: &Call<'_>, given: &Given) -> io::Result<bool> {
     match call.verb {
         b"recheck" => recheck(out, &given.table, call.numbers.at(0))?,
-        b"same-but" => same_but(out, call, given)?,
+        b"same-but" => compared(out, call, given)?,
         _ => return Ok(false),
     }
     Ok(true)

@@ -48,16 +48,11 @@ pub(crate) fn words_of<'t>(alloc: Global, text: &'t [u8]) -> Result<Vec<&'t [u8]
     }
 }
 
-// A number in decimal. What is no number is 0.
-fn number(word: &[u8]) -> u32 {
-    decimal::read_decimal(word).unwrap_or(0)
-}
-
-/// The words of a text as numbers.
+/// The words of a text as decimal numbers. What is no number is 0.
 pub(crate) fn words(alloc: Global, text: &[u8]) -> Result<Vec<u32>, AllocError> {
     words_of(alloc, text)?
         .iter()
-        .map(|word| number(word))
+        .map(|word| decimal::read_decimal(word).unwrap_or(0))
         .collect(alloc)
 }
 
@@ -73,6 +68,7 @@ pub(crate) fn digit(byte: u8) -> u8
 }
 
 // A byte of two digits in hexadecimal.
+// Kept: a byte that is no digit counts as 0, where from_str_radix refuses the word; what the program takes stays.
 fn octet(word: &[u8]) -> u8 {
     match word {
         [high, low, ..] => 16 * digit(*high) + digit(*low),

@@ -22,7 +22,8 @@ fn time<O: Write>(out: &mut O, read: Result<u32, TimeError>) -> io::Result<()> {
     }
 }
 
-fn holds<O: Write>(out: &mut O, it: bool) -> io::Result<()> {
+/// Prints whether something holds.
+pub(crate) fn holds<O: Write>(out: &mut O, it: bool) -> io::Result<()> {
     let word = if it { "yes" } else { "no" };
     writeln!(out, "{word}")
 }
