@@ -30,6 +30,7 @@ pub(crate) fn number_at<R: Env, E: Write>(
     i: usize,
     what: &str,
 ) -> Option<u32> {
+    // Kept: the system puts an argument into lent bytes, and input gives back what came as a slice.
     let mut room = [0u8; ROOM];
     match decimal::read_decimal(input::argument_or_nothing(rt, i, &mut room)) {
         Ok(n) => Some(n),

@@ -1,37 +1,16 @@
 //! Why a place holds or not: its rule with the plan's own numbers put in. The numbers are those of margins::margin_at, meeting::meeting and margins::nearest_at, and of
 //! rules::times::frame; how they are put into sentences is tested, not proved.
-use crate::legs::NamedTable;
+use crate::legs::{NamedLeg, NamedTable};
+use crate::whole;
 use basics::{Cause, Refusal};
 use checker::SliceAnswer;
 use margins::{Margin, Nearest, Sides, Spare, Turns};
-use reasons::{records, report};
+use reasons::{records, report, small};
 use repeats::Meeting;
-use rules::Frame;
-use show::answers;
+use rules::{Asked, Frame, Rule};
+use show::{answers, told};
 use std::io::Write;
 use std::{fmt, io};
-
-/// More than any table has places.
-const ENOUGH: u32 = u32::MAX;
-
-const WINDOW: u32 = 0;
-
-const HOP: u32 = 1;
-
-const DEADLINE: u32 = 2;
-
-/// How many places a leg has before those with lower legs.
-const OWN: u32 = 3;
-
-/// The word of a place's rule.
-fn rule_word(place: u32) -> &'static str {
-    match place {
-        WINDOW => "window",
-        HOP => "hop",
-        DEADLINE => "deadline",
-        _ => "overlap",
-    }
-}
 
 /// The first line: the place, and whether its rule is kept there.
 fn verdict<O: Write>(out: &mut O, leg: u32, place: u32, spare: Spare) -> io::Result<()> {
@@ -39,7 +18,7 @@ fn verdict<O: Write>(out: &mut O, leg: u32, place: u32, spare: Spare) -> io::Res
         Spare::Free | Spare::Left(_) => "holds",
         Spare::Lacks(_) => "violated",
     };
-    let rule = rule_word(place);
+    let rule = told::rule_word(Rule::from(rules::place::asked_at(place as usize)));
     writeln!(out, "{verdict} {leg} {place} {rule}")
 }
 
@@ -52,89 +31,55 @@ fn window<O: Write>(out: &mut O, f: Frame, s: Sides) -> io::Result<()> {
 }
 
 /// The hop needs the leg before.
-fn hop<O: Write>(
-    out: &mut O,
-    plan: NamedTable,
-    leg: u32,
-    f: Frame,
-    before: Frame,
-    s: Sides,
-) -> io::Result<()> {
-    let previous = leg.wrapping_sub(1);
-    let began = plan.start(previous, before);
-    let ready = plan.ready(before, s.needs);
-    let start = plan.start(leg, f);
+fn hop<O: Write>(out: &mut O, leg: NamedLeg, s: Sides) -> io::Result<()> {
+    let Some(before) = leg.before() else {
+        return Ok(());
+    };
+    let (previous, at) = (before.at, leg.at);
+    let began = before.start();
+    let ready = before.ready(s.needs);
+    let start = leg.start();
     writeln!(
         out,
-        "hop: leg {previous}, which starts at {began} ns, has arrived at {ready}, and leg {leg} starts at {start} ns"
+        "hop: leg {previous}, which starts at {began} ns, has arrived at {ready}, and leg {at} starts at {start} ns"
     )
 }
 
 /// The deadline needs the first leg.
-fn deadline<O: Write>(
-    out: &mut O,
-    plan: NamedTable,
-    leg: u32,
-    f: Frame,
-    first: Frame,
-    s: Sides,
-) -> io::Result<()> {
-    let start = plan.start(leg, f);
-    let ready = plan.ready(f, s.needs);
+fn deadline<O: Write>(out: &mut O, leg: NamedLeg, s: Sides) -> io::Result<()> {
+    let Some(first) = leg.first() else {
+        return Ok(());
+    };
+    let at = leg.at;
+    let start = leg.start();
+    let ready = leg.ready(s.needs);
     write!(
         out,
-        "deadline: leg {leg}, which starts at {start} ns, has arrived at {ready}, and is due at "
+        "deadline: leg {at}, which starts at {start} ns, has arrived at {ready}, and is due at "
     )?;
     writeln!(
         out,
         "{} + {} = {} ns (first leg's start, deadline)",
-        first.start, f.deadline, s.has
+        first.frame.start, leg.frame.deadline, s.has
     )
 }
 
-fn sides<O: Write>(
-    out: &mut O,
-    plan: NamedTable,
-    leg: u32,
-    place: u32,
-    f: Frame,
-    s: Sides,
-) -> io::Result<()> {
-    match place {
-        WINDOW => window(out, f, s),
-        HOP => match plan.frame(leg.wrapping_sub(1)) {
-            Some(before) => hop(out, plan, leg, f, before, s),
-            None => Ok(()),
-        },
-        _ => match plan.frame(plan.first_of(leg)) {
-            Some(first) => deadline(out, plan, leg, f, first, s),
-            None => Ok(()),
-        },
-    }
-}
-
 /// How far two legs lie apart, going round by the divisor of their periods.
-fn turns<O: Write>(
-    out: &mut O,
-    leg: u32,
-    other: u32,
-    f: Frame,
-    g: Frame,
-    s: Turns,
-) -> io::Result<()> {
+fn turns<O: Write>(out: &mut O, leg: NamedLeg, other: NamedLeg, s: Turns) -> io::Result<()> {
+    let (a, b) = (leg.at, other.at);
     write!(
         out,
         "overlap: the periods {} and {} ns have the greatest common divisor {} ns. ",
-        f.period, g.period, s.divisor
+        leg.frame.period, other.frame.period, s.divisor
     )?;
     write!(
         out,
-        "By it leg {other} begins {} ns after leg {leg}, which holds the link for {} ns, ",
+        "By it leg {b} begins {} ns after leg {a}, which holds the link for {} ns, ",
         s.after, s.hold
     )?;
     writeln!(
         out,
-        "and leg {leg} begins {} ns after leg {other}, which holds it for {} ns",
+        "and leg {a} begins {} ns after leg {b}, which holds it for {} ns",
         s.divisor.wrapping_sub(s.after),
         s.other
     )
@@ -147,11 +92,13 @@ fn begun_at(f: Frame, instant: u64) -> u64 {
 }
 
 /// One leg at a meeting: its repeat, when that begins, and when it ends.
-fn repeat<O: Write>(out: &mut O, leg: u32, f: Frame, k: u64, instant: u64) -> io::Result<()> {
+fn repeat<O: Write>(out: &mut O, leg: NamedLeg, k: u64, instant: u64) -> io::Result<()> {
+    let f = leg.frame;
     let begun = begun_at(f, instant);
     write!(
         out,
-        "leg {leg} in its repeat {k}, from {} + {k} x {} = {begun} up to {} ns",
+        "leg {} in its repeat {k}, from {} + {k} x {} = {begun} up to {} ns",
+        leg.at,
         f.offset,
         f.period,
         begun.wrapping_add(f.hold)
@@ -161,10 +108,8 @@ fn repeat<O: Write>(out: &mut O, leg: u32, f: Frame, k: u64, instant: u64) -> io
 /// Where two legs meet first.
 fn meeting_line<O: Write>(
     out: &mut O,
-    leg: u32,
-    other: u32,
-    f: Frame,
-    g: Frame,
+    leg: NamedLeg,
+    other: NamedLeg,
     met: Meeting,
 ) -> io::Result<()> {
     let instant = met.instant;
@@ -172,57 +117,48 @@ fn meeting_line<O: Write>(
         out,
         "both hold the link at {instant} ns, and at no earlier instant: "
     )?;
-    repeat(out, leg, f, met.first, instant)?;
+    repeat(out, leg, met.first, instant)?;
     write!(out, "; ")?;
-    repeat(out, other, g, met.second, instant)?;
+    repeat(out, other, met.second, instant)?;
     writeln!(out)
 }
 
-/// An overlap: the other leg's line, how far they lie apart, and where they meet first.
-fn overlap<O: Write>(
-    out: &mut O,
-    plan: NamedTable,
-    leg: u32,
-    place: u32,
-    f: Frame,
-    s: Turns,
-) -> io::Result<()> {
-    let other = place.wrapping_sub(OWN);
-    let Some(g) = plan.frame(other) else {
+/// An overlap with leg b: that leg's line, how far they lie apart, and where they meet first.
+fn overlap<O: Write>(out: &mut O, leg: NamedLeg, b: u32, s: Turns) -> io::Result<()> {
+    let Some(other) = leg.plan.leg(b) else {
         return Ok(());
     };
-    plan.put_leg(out, other, g)?;
-    turns(out, leg, other, f, g, s)?;
-    match meeting::meeting(plan.t, leg, other) {
-        Ok(Some(met)) => meeting_line(out, leg, other, f, g, met),
+    other.put(out)?;
+    turns(out, leg, other, s)?;
+    match meeting::meeting(leg.plan.t, leg.at, b) {
+        Ok(Some(met)) => meeting_line(out, leg, other, met),
         Ok(None) | Err(_) => Ok(()),
     }
 }
 
 /// Nothing is asked: of which leg that is, the rule says.
-fn nothing_asked<O: Write>(out: &mut O, place: u32) -> io::Result<()> {
-    match place {
-        HOP => writeln!(out, "hop: nothing is asked of the first leg of a route"),
-        DEADLINE => writeln!(
+fn nothing_asked<O: Write>(out: &mut O, asked: Asked) -> io::Result<()> {
+    match asked {
+        Asked::Hop => writeln!(out, "hop: nothing is asked of the first leg of a route"),
+        Asked::Deadline => writeln!(
             out,
             "deadline: nothing is asked but of the last leg of a route"
         ),
-        _ => writeln!(out, "overlap: nothing is asked of legs on different links"),
+        Asked::Window | Asked::Overlap(_) => {
+            writeln!(out, "overlap: nothing is asked of legs on different links")
+        }
     }
 }
 
-fn rule<O: Write>(
-    out: &mut O,
-    plan: NamedTable,
-    leg: u32,
-    place: u32,
-    f: Frame,
-    margin: Margin,
-) -> io::Result<()> {
-    match margin {
-        Margin::Free => nothing_asked(out, place),
-        Margin::Sides(s) => sides(out, plan, leg, place, f, s),
-        Margin::Turns(s) => overlap(out, plan, leg, place, f, s),
+/// What is asked of a leg, with the numbers by which that is kept or not. Turns are asked of two legs alone.
+fn told_by<O: Write>(out: &mut O, leg: NamedLeg, asked: Asked, margin: Margin) -> io::Result<()> {
+    match (margin, asked) {
+        (Margin::Free, _) => nothing_asked(out, asked),
+        (Margin::Sides(s), Asked::Window) => window(out, leg.frame, s),
+        (Margin::Sides(s), Asked::Hop) => hop(out, leg, s),
+        (Margin::Sides(s), _) => deadline(out, leg, s),
+        (Margin::Turns(s), Asked::Overlap(b)) => overlap(out, leg, small(b), s),
+        (Margin::Turns(_), _) => Ok(()),
     }
 }
 
@@ -295,9 +231,9 @@ pub(crate) fn place<O: Write, E: Write>(
     match margins::margin_at(plan.t, leg, place) {
         Ok(at) => {
             verdict(out, leg, place, at.spare)?;
-            if let Some(f) = plan.frame(leg) {
-                plan.put_leg(out, leg, f)?;
-                rule(out, plan, leg, place, f, at.margin)?;
+            if let Some(leg) = plan.leg(leg) {
+                leg.put(out)?;
+                told_by(out, leg, rules::place::asked_at(place as usize), at.margin)?;
             }
             ended(out, plan.t, leg, place, at.spare)
         }
@@ -314,15 +250,10 @@ pub(crate) fn first<O: Write, E: Write>(
     err: &mut E,
     plan: NamedTable,
 ) -> io::Result<()> {
-    match checker::start(plan.t) {
-        Ok(cursor) => match checker::slice(plan.t, cursor, ENOUGH) {
-            SliceAnswer::Violated(at, _, _) => place(out, err, plan, at.leg, at.place),
-            SliceAnswer::NothingViolated(_, _) => answers::accepted(out),
-            SliceAnswer::Paused(_, _) | SliceAnswer::Refused(_, _) => Ok(()),
-        },
-        Err(returned) => {
-            records::why(err, plan.t, returned.refusal);
-            answers::plan_refused(out, returned.refusal)
-        }
+    match whole::checked(plan.t) {
+        Ok(SliceAnswer::Violated(at, _, _)) => place(out, err, plan, at.leg, at.place),
+        Ok(SliceAnswer::NothingViolated(_, _)) => answers::accepted(out),
+        Ok(SliceAnswer::Paused(_, _) | SliceAnswer::Refused(_, _)) => Ok(()),
+        Err(refusal) => whole::refused(out, err, plan.t, refusal),
     }
 }

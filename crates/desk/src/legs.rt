@@ -3,14 +3,25 @@ use plan_text::Draft;
 use reasons::records;
 use rules::Frame;
 use rules::leg::TimedLeg;
+use shape::plan::Plan;
 use std::io::Write;
 use std::{fmt, io};
 
 /// A table, and the names of its nodes and streams.
+// Kept: nobody compares or prints it, and Draft, which it lends, has no equality.
 #[derive(Clone, Copy)]
 pub(crate) struct NamedTable<'a> {
     pub(crate) t: &'a [u32],
     pub(crate) names: &'a Draft<'a>,
+}
+
+/// A leg of it with what its stream and its link say of it.
+// Kept: nobody compares or prints it, and NamedTable has no equality.
+#[derive(Clone, Copy)]
+pub(crate) struct NamedLeg<'a> {
+    pub(crate) plan: NamedTable<'a>,
+    pub(crate) at: u32,
+    pub(crate) frame: Frame,
 }
 
 /// Prints a name in brackets, if there is one.
@@ -23,21 +34,20 @@ fn in_brackets<O: Write>(out: &mut O, name: Option<&[u8]>) -> io::Result<()> {
     Ok(())
 }
 
-impl NamedTable<'_> {
-    /// Leg a with what its stream and its link say of it, if the plan has it.
-    pub(crate) fn frame(&self, a: u32) -> Option<Frame> {
-        let plan = shape::plan::Plan::judge(self.t).ok()?;
+impl<'a> NamedTable<'a> {
+    /// Leg a, if the plan has it.
+    pub(crate) fn leg(self, a: u32) -> Option<NamedLeg<'a>> {
+        let plan = Plan::judge(self.t).ok()?;
         let at = a as usize;
         if plan.legs() <= at {
             return None;
         }
-        Some(TimedLeg::of(&plan, at).frame)
-    }
-
-    /// The first leg of the stream of leg a.
-    pub(crate) fn first_of(&self, a: u32) -> u32 {
-        let leg = records::leg_at(self.t, a);
-        records::stream_at(self.t, leg.stream).first
+        let frame = TimedLeg::of(&plan, at).frame;
+        Some(NamedLeg {
+            plan: self,
+            at: a,
+            frame,
+        })
     }
 
     fn put_node<O: Write>(&self, out: &mut O, n: u32) -> io::Result<()> {
@@ -56,14 +66,28 @@ impl NamedTable<'_> {
         out.write_all(b" to ")?;
         self.put_node(out, link.to)
     }
+}
 
-    /// Prints a leg's line: where it belongs, and the numbers that all rules use.
-    pub(crate) fn put_leg<O: Write>(&self, out: &mut O, a: u32, f: Frame) -> io::Result<()> {
-        let leg = records::leg_at(self.t, a);
-        let octets = records::stream_at(self.t, leg.stream).octets;
-        let rate = records::link_at(self.t, leg.link).rate;
-        write!(out, "leg {a}: ")?;
-        self.put_place_of(out, a)?;
+impl<'a> NamedLeg<'a> {
+    /// The leg before it, if the plan has one.
+    pub(crate) fn before(self) -> Option<NamedLeg<'a>> {
+        self.plan.leg(self.at.checked_sub(1)?)
+    }
+
+    /// The first leg of its stream.
+    pub(crate) fn first(self) -> Option<NamedLeg<'a>> {
+        let stream = records::leg_at(self.plan.t, self.at).stream;
+        self.plan.leg(records::stream_at(self.plan.t, stream).first)
+    }
+
+    /// Prints its line: where it belongs, and the numbers that all rules use.
+    pub(crate) fn put<O: Write>(self, out: &mut O) -> io::Result<()> {
+        let leg = records::leg_at(self.plan.t, self.at);
+        let octets = records::stream_at(self.plan.t, leg.stream).octets;
+        let rate = records::link_at(self.plan.t, leg.link).rate;
+        let f = self.frame;
+        write!(out, "leg {}: ", self.at)?;
+        self.plan.put_place_of(out, self.at)?;
         write!(
             out,
             "; offset {} ns, period word {}, period {} ns; ",
@@ -76,26 +100,26 @@ impl NamedTable<'_> {
         )
     }
 
-    /// When a leg starts.
-    pub(crate) fn start(&self, a: u32, f: Frame) -> Start {
+    /// When it starts.
+    pub(crate) fn start(self) -> Start {
         Start {
-            periods: records::leg_at(self.t, a).periods,
-            frame: f,
+            periods: records::leg_at(self.plan.t, self.at).periods,
+            frame: self.frame,
         }
     }
 
-    /// When a leg's frame is at the next node.
-    pub(crate) fn ready(&self, f: Frame, at: u64) -> Ready {
+    /// When its frame is at the next node.
+    pub(crate) fn ready(self, at: u64) -> Ready {
         Ready {
-            frame: f,
-            precision: records::header_word(self.t, table::PRECISION_AT),
+            frame: self.frame,
+            precision: records::header_word(self.plan.t, table::PRECISION_AT),
             at,
         }
     }
 }
 
 /// When a leg starts: offset + period word x period = start.
-#[derive(Clone, Copy)]
+#[derive(Clone, Copy, Debug, PartialEq, Eq)]
 pub(crate) struct Start {
     periods: u32,
     frame: Frame,
@@ -113,7 +137,7 @@ impl fmt::Display for Start {
 }
 
 /// When a leg's frame is at the next node: start + wire + propagation + precision = ready.
-#[derive(Clone, Copy)]
+#[derive(Clone, Copy, Debug, PartialEq, Eq)]
 pub(crate) struct Ready {
     frame: Frame,
     precision: u32,

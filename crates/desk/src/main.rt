@@ -19,6 +19,7 @@ mod legs;
 mod saved;
 mod slack;
 mod tour;
+mod whole;
 
 /// What is asked for.
 #[derive(Clone, Copy, Debug, PartialEq, Eq)]
@@ -39,6 +40,7 @@ enum Question {
 
 /// The verb that the first argument gives. Its first letter says it.
 fn verb_given<R: Env, E: Write>(rt: &R, err: &mut E) -> Option<Verb> {
+    // Kept: the system puts an argument into lent bytes, and input gives back what came as a slice.
     let mut room = [0u8; args::ROOM];
     match input::argument_or_nothing(rt, args::VERB_AT, &mut room).first() {
         Some(b'a') => Some(Verb::All),
@@ -57,19 +59,23 @@ fn verb_given<R: Env, E: Write>(rt: &R, err: &mut E) -> Option<Verb> {
     }
 }
 
+/// The leg and the place that the arguments ask for.
+fn place_given<R: Env, E: Write>(rt: &R, err: &mut E) -> Option<(u32, u32)> {
+    let leg = args::number_at(rt, err, args::GIVEN_LEG_AT, "the leg")?;
+    let place = args::number_at(rt, err, args::GIVEN_PLACE_AT, "the place")?;
+    Some((leg, place))
+}
+
 fn given_place<R: Env, O: Write, E: Write>(
     rt: &R,
     out: &mut O,
     err: &mut E,
     plan: NamedTable,
 ) -> io::Result<()> {
-    let Some(leg) = args::number_at(rt, err, args::GIVEN_LEG_AT, "the leg") else {
-        return Ok(());
-    };
-    let Some(place) = args::number_at(rt, err, args::GIVEN_PLACE_AT, "the place") else {
-        return Ok(());
-    };
-    explain::place(out, err, plan, leg, place)
+    match place_given(rt, err) {
+        Some((leg, place)) => explain::place(out, err, plan, leg, place),
+        None => Ok(()),
+    }
 }
 
 fn cursor_place<R: Env + Files, O: Write, E: Write>(
@@ -78,6 +84,7 @@ fn cursor_place<R: Env + Files, O: Write, E: Write>(
     err: &mut E,
     plan: NamedTable,
 ) -> io::Result<()> {
+    // Kept: the system puts an argument into lent bytes, and input gives back what came as a slice.
     let mut room = [0u8; args::ROOM];
     let what = b"the path of the cursor";
     match input::argument(rt, err, args::CURSOR_AT, &mut room, what) {
@@ -95,6 +102,7 @@ fn named<R: Env + Files, O: Write, E: Write>(
     t: &[u32],
     question: Question,
 ) -> io::Result<()> {
+    // Kept: the system puts an argument into lent bytes, and input gives back what came as a slice.
     let mut room = [0u8; args::ROOM];
     let path = input::argument_or_nothing(rt, args::PLAN_AT, &mut room);
     let names = Names::beside(alloc, rt, err, path)?;
@@ -126,6 +134,7 @@ fn run<R: Env + Files + Input, O: Write, E: Write>(
     out: &mut O,
     err: &mut E,
 ) -> io::Result<()> {
+    // Kept: input::given_plan reads into lent words and gives back the table as a slice; a Vec would be one allocation more that can fail.
     let mut words = [0u32; table::MAX_TABLE_WORDS];
     let t = match input::given_plan(rt, err, &mut words)? {
         Ok(t) => t,

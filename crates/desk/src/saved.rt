@@ -1,6 +1,6 @@
 //! The place at which a saved cursor stands.
-use crate::explain;
 use crate::legs::NamedTable;
+use crate::{explain, whole};
 use basics::{Cause, Refusal};
 use durable::FileRead;
 use files::Cursor;
@@ -53,10 +53,7 @@ fn not_standing<O: Write, E: Write>(
                 at.leg, at.place
             ),
         ),
-        _ => {
-            records::why(err, t, refusal);
-            return answers::plan_refused(out, refusal);
-        }
+        _ => return whole::refused(out, err, t, refusal),
     }
     answers::judged(out, refusal, revision, Part::Cursor)
 }
@@ -91,6 +88,7 @@ pub(crate) fn place<R: Files, O: Write, E: Write>(
     plan: NamedTable,
     path: &[u8],
 ) -> io::Result<()> {
+    // Kept: durable::file reads into lent bytes and gives back what it read as a slice, and no cursor is longer.
     let mut room = [0u8; CURSOR_ROOM];
     match durable::file(rt, err, path, &mut room) {
         FileRead::Bytes(bytes) => read(out, err, plan, bytes),

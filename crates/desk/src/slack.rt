@@ -1,16 +1,15 @@
 //! Where an accepted plan is thin: of the windows, hops and deadlines those with the fewest nanoseconds left. What is left at a place is told by
 //! margins::margin_at; which of them are the least is tested, not proved.
 use crate::legs::NamedTable;
+use crate::whole;
 use checker::SliceAnswer;
 use margins::Spare;
 use reasons::records;
-use show::answers;
+use rules::{Rule, place};
+use show::{answers, told};
 use std::alloc::{AllocError, Global};
 use std::io;
 use std::io::Write;
-
-/// More than any table has places.
-const ENOUGH: u32 = u32::MAX;
 
 /// How many places of a rule are told.
 const TOLD: usize = 10;
@@ -36,15 +35,10 @@ fn rows_at(alloc: Global, t: &[u32], place: u32) -> Result<Vec<Row>, AllocError>
     Ok(rows)
 }
 
-/// The legs with the least left by one rule, and how many it asks something of.
-fn by_rule<O: Write>(
-    alloc: Global,
-    out: &mut O,
-    plan: NamedTable,
-    rule: &str,
-    place: u32,
-) -> io::Result<()> {
-    let rows = rows_at(alloc, plan.t, place)?;
+/// The legs with the least left at one place of their own, and how many are asked something there.
+fn by_rule<O: Write>(alloc: Global, out: &mut O, plan: NamedTable, place: usize) -> io::Result<()> {
+    let rows = rows_at(alloc, plan.t, reasons::small(place))?;
+    let rule = told::rule_word(Rule::from(place::asked_at(place)));
     writeln!(out, "least by {rule}, of {}", rows.len())?;
     for row in rows.iter().take(TOLD) {
         write!(out, "leg {} {} ns left: ", row.leg, row.left)?;
@@ -56,9 +50,9 @@ fn by_rule<O: Write>(
 
 fn thin<O: Write>(alloc: Global, out: &mut O, plan: NamedTable) -> io::Result<()> {
     writeln!(out, "accepted")?;
-    by_rule(alloc, out, plan, "window", 0)?;
-    by_rule(alloc, out, plan, "hop", 1)?;
-    by_rule(alloc, out, plan, "deadline", 2)?;
+    for place in 0..place::OWN_PLACES {
+        by_rule(alloc, out, plan, place)?;
+    }
     writeln!(out, "status 0")
 }
 
@@ -69,15 +63,10 @@ pub(crate) fn of<O: Write, E: Write>(
     err: &mut E,
     plan: NamedTable,
 ) -> io::Result<()> {
-    match checker::start(plan.t) {
-        Ok(cursor) => match checker::slice(plan.t, cursor, ENOUGH) {
-            SliceAnswer::Violated(at, _, rule) => answers::first_violated(out, at, rule),
-            SliceAnswer::NothingViolated(_, _) => thin(alloc, out, plan),
-            SliceAnswer::Paused(_, _) | SliceAnswer::Refused(_, _) => Ok(()),
-        },
-        Err(returned) => {
-            records::why(err, plan.t, returned.refusal);
-            answers::plan_refused(out, returned.refusal)
-        }
+    match whole::checked(plan.t) {
+        Ok(SliceAnswer::Violated(at, _, rule)) => answers::first_violated(out, at, rule),
+        Ok(SliceAnswer::NothingViolated(_, _)) => thin(alloc, out, plan),
+        Ok(SliceAnswer::Paused(_, _) | SliceAnswer::Refused(_, _)) => Ok(()),
+        Err(refusal) => whole::refused(out, err, plan.t, refusal),
     }
 }

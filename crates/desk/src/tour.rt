@@ -1,7 +1,8 @@
 //! A survey: every violated place, each on a line as a check tells its first.
 ghost use Rattle.checker.specs.Cursors.{CursorRight};
 
-use crate::args;
+use crate::whole::ENOUGH;
+use crate::{args, whole};
 use files::Cursor;
 use reasons::records;
 use show::{answers, told};
@@ -10,23 +11,22 @@ use std::io;
 use std::io::Write;
 use survey::Found;
 
-/// More than any table has places.
-const ENOUGH: u32 = u32::MAX;
-
 /// How a survey ended: with so many violated places, and nothing violated after them up to the end; or paused, with where it stands.
-#[derive(Clone, Copy)]
+#[derive(Clone, Copy, Debug, PartialEq, Eq)]
 enum Ended {
     Over(u32, Cursor),
     Stands(u32, Cursor),
 }
 
 /// Looks at the next places, as many as the budget says, and notes each violated one.
+// Kept: survey::step asks it of each cursor, and no other function here does.
 fn surveyed<O: Write>(out: &mut O, t: &[u32], from: Cursor, budget: u32) -> io::Result<Ended>
     requires { CursorRight t.now from }
 {
     let mut c = from;
     let mut left = budget;
     let mut count: u32 = 0;
+    // Kept: nothing is counted; each step takes from the budget as many places as it looked at.
     while 0 < left {
         let found = survey::step(t, c, left);
         match found {
@@ -61,10 +61,7 @@ pub(crate) fn all<O: Write, E: Write>(out: &mut O, err: &mut E, t: &[u32]) -> io
                 Ended::Stands(_, _) => Ok(()),
             }
         }
-        Err(returned) => {
-            records::why(err, t, returned.refusal);
-            answers::plan_refused(out, returned.refusal)
-        }
+        Err(returned) => whole::refused(out, err, t, returned.refusal),
     }
 }
 
@@ -89,11 +86,21 @@ fn part_from<O: Write, E: Write>(
                 }
             }
         }
-        Err(refusal) => {
-            records::why(err, t, refusal);
-            answers::plan_refused(out, refusal)
-        }
+        Err(refusal) => whole::refused(out, err, t, refusal),
     }
+}
+
+/// Where the part of a survey begins that the arguments ask for, and its budget.
+fn part_given<R: Env, E: Write>(rt: &R, err: &mut E, t: &[u32]) -> Option<(Cursor, u32)> {
+    let leg = args::number_at(rt, err, args::LEG_AT, "the leg")?;
+    let place = args::number_at(rt, err, args::PLACE_AT, "the place")?;
+    let budget = args::number_at(rt, err, args::BUDGET_AT, "the budget")?;
+    let from = Cursor {
+        revision: records::header_word(t, table::REVISION_AT),
+        leg,
+        place,
+    };
+    Some((from, budget))
 }
 
 /// The part of a survey that the arguments ask for.
@@ -103,19 +110,8 @@ pub(crate) fn part<R: Env, O: Write, E: Write>(
     err: &mut E,
     t: &[u32],
 ) -> io::Result<()> {
-    let Some(leg) = args::number_at(rt, err, args::LEG_AT, "the leg") else {
-        return Ok(());
-    };
-    let Some(place) = args::number_at(rt, err, args::PLACE_AT, "the place") else {
-        return Ok(());
-    };
-    let Some(budget) = args::number_at(rt, err, args::BUDGET_AT, "the budget") else {
-        return Ok(());
-    };
-    let from = Cursor {
-        revision: records::header_word(t, table::REVISION_AT),
-        leg,
-        place,
-    };
-    part_from(out, err, t, from, budget)
+    match part_given(rt, err, t) {
+        Some((from, budget)) => part_from(out, err, t, from, budget),
+        None => Ok(()),
+    }
 }
