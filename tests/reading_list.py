@@ -227,8 +227,8 @@ class Source:
         start = n
         while start and re.match(r"\s*(//|#\[)", self.lines[start - 1]):
             start -= 1
-        # Why a form is kept says nothing of what a call promises.
-        return [it for it in range(start, n) if not self.lines[it].lstrip().startswith("// Kept: ")]
+        # Why a form is kept, and how a call is proved, say nothing of what it promises.
+        return [it for it in range(start, n) if not self.lines[it].lstrip().startswith(("// Kept: ", "#[tactic("))]
 
     def comment(self, name):
         said = [self.lines[n].strip().lstrip("/").strip() for n in self.above(self.functions[name]) if self.lines[n].strip().startswith("//")]

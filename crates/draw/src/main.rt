@@ -85,6 +85,7 @@ fn order_given<R: Env, E: Write>(rt: &R, err: &mut E) -> Option<Order> {
 }
 
 /// Says that the plan has no such link or stream, and which it has.
+// Kept: export says this of links alone, and slots with a request in front; one function for all would stand in reasons and take how it is printed.
 fn not_there<E: Write>(err: &mut E, record: &str, n: u32, count: u32) {
     match count.checked_sub(1) {
         None => report(

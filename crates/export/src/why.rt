@@ -23,6 +23,7 @@ pub(crate) fn not_accepted<E: Write>(err: &mut E, at: Cursor) {
 }
 
 /// A link that the plan does not have.
+// Kept: draw says this of streams too, and slots with a request in front; one function for all would take the word, the count and how it is printed.
 pub(crate) fn no_link<E: Write>(err: &mut E, t: &[u32], link: u32) {
     match header_word(t, table::LINKS_AT).checked_sub(1) {
         None => report(
