@@ -1,28 +1,23 @@
 //! The names of a plan's nodes and streams, which stand in a text beside the plan file: PLAN.names.
-ghost use Rattle.std.specs.Prelude.{◌≤◌, length, IfOk};
+ghost use Rattle.std.specs.Prelude.{◌≤◌, length};
 
 use crate::{Draft, read};
 use durable::FileRead;
-use std::alloc::{AllocError, Global};
+use std::alloc::Global;
 use std::io;
 use std::io::Write;
 use std::rt::Files;
 
 /// How long a path may be.
-const MAX_PATH: usize = 4096;
+pub const MAX_PATH: usize = 4096;
 
 const ENDING: &[u8] = b".names";
 
 /// The path of the file of names beside a plan file, or nothing where it is longer than a path may be.
-pub fn path_of(alloc: Global, plan: &[u8]) -> Result<Vec<u8>, AllocError>
-    ensures { IfOk result (λ path. length path.items ≤ 4096) }
+pub fn path_of<'a>(plan: &[u8], room: &'a mut [u8]) -> &'a [u8]
+    ensures { length result.now ≤ length room.old }
 {
-    let mut path = Vec::new(alloc);
-    if plan.len() <= MAX_PATH - ENDING.len() {
-        path.extend_from_slice(plan)?;
-        path.extend_from_slice(ENDING)?;
-    }
-    Ok(path)
+    durable::ended(plan, ENDING, room)
 }
 
 /// A file of names that was read.
@@ -58,7 +53,9 @@ impl Names {
         err: &mut E,
         plan: &[u8],
     ) -> io::Result<Names> {
-        let path = path_of(alloc, plan)?;
+        let mut room = [0u8; MAX_PATH];
+        let mut path = Vec::new(alloc);
+        path.extend_from_slice(path_of(plan, &mut room))?;
         let mut text = vec![in alloc; 0u8; crate::TEXT_ROOM]?;
         let n = match durable::file(rt, err, &path, &mut text) {
             FileRead::Bytes(bytes) => bytes.len(),

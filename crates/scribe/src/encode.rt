@@ -58,11 +58,9 @@ fn write<R: Files, O: Write, E: Write>(
         return Ok(());
     };
     file.truncate(bytes);
-    let path = names::path_of(alloc, target.path)?;
-    let beside = Target {
-        path: &path,
-        ..target
-    };
+    let mut room = [0u8; names::MAX_PATH];
+    let path = names::path_of(target.path, &mut room);
+    let beside = Target { path, ..target };
     if !beside.put_names(rt, err, text, draft) {
         return Ok(());
     }
@@ -71,7 +69,7 @@ fn write<R: Files, O: Write, E: Write>(
     }
     // A new plan file that could not be put in its place has no names: those that were put go again.
     if !target.is_replacing {
-        durable::dropped(rt, &path);
+        durable::dropped(rt, path);
     }
     Ok(())
 }

@@ -135,13 +135,12 @@ impl Claimed {
 
     fn take_line<E: Write>(
         &mut self,
-        alloc: Global,
         err: &mut E,
         wishes: &Wishes,
         content: &[u8],
         line: usize,
     ) -> Result<(), AllocError> {
-        match forms::claim_in(alloc, content)? {
+        match forms::claim_in(content) {
             Claim::Nothing => return Ok(()),
             // The first line of an answer may be in front of the others.
             Claim::Head if !self.begun => {}
@@ -178,7 +177,7 @@ pub(crate) fn read<E: Write>(
         begun: false,
     };
     for (i, line) in claim.split(|byte| *byte == b'\n').enumerate() {
-        got.take_line(alloc, err, wishes, lines::content(line), i + 1)?;
+        got.take_line(err, wishes, lines::content(line), i + 1)?;
     }
     Ok(got)
 }

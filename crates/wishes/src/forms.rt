@@ -2,8 +2,7 @@
 use crate::number;
 use crate::number::NumberError;
 use decimal::DecimalError;
-use lines::words::{has_control, words};
-use std::alloc::{AllocError, Global};
+use lines::words::has_control;
 
 /// Internal: what a line of a network says: nothing; the name of an event; a constraint between two; or what is none of these.
 // Kept: nobody compares or prints what a line says, and each further derive is one more function to prove.
@@ -74,22 +73,39 @@ fn constraint<'a>(first: &'a [u8], second: &'a [u8], sign: &'a [u8], number: &'a
     })
 }
 
-fn wish_of<'a>(words: &[&'a [u8]]) -> Wish<'a> {
-    match words {
-        [] => Wish::Nothing,
-        [b"event", name] => Wish::Event(name),
-        [first, b"-", second, sign, number] => constraint(first, second, sign, number),
-        _ => Wish::Wrong,
-    }
+// The first words of a line: one more than the longest form has, by which a longer line is known.
+fn first_words<'a>(line: &'a [u8]) -> [Option<&'a [u8]>; 6] {
+    let mut words = line
+        .split(|byte| *byte == b' ' || *byte == b'\t')
+        .filter(|word| !word.is_empty());
+    [
+        words.next(),
+        words.next(),
+        words.next(),
+        words.next(),
+        words.next(),
+        words.next(),
+    ]
 }
 
 /// Internal: what a line of a network says.
-pub fn wish_in<'a>(alloc: Global, line: &'a [u8]) -> Result<Wish<'a>, AllocError> {
+pub fn wish_in<'a>(line: &'a [u8]) -> Wish<'a> {
     if has_control(line) {
-        return Ok(Wish::Wrong);
+        return Wish::Wrong;
     }
-    let words = words(alloc, line)?;
-    Ok(wish_of(&words))
+    match first_words(line) {
+        [None, ..] => Wish::Nothing,
+        [Some(b"event"), Some(name), None, ..] => Wish::Event(name),
+        [
+            Some(first),
+            Some(b"-"),
+            Some(second),
+            Some(sign),
+            Some(number),
+            None,
+        ] => { constraint(first, second, sign, number) }
+        _ => Wish::Wrong,
+    }
 }
 
 fn is_number(word: &[u8]) -> bool {
@@ -119,23 +135,25 @@ fn numbered<'a>(word: &[u8]) -> Claim<'a> {
     }
 }
 
-// The first line of an answer is times N, or chain L sum S.
-fn claim_of<'a>(words: &[&'a [u8]]) -> Claim<'a> {
-    match words {
-        [] => Claim::Nothing,
-        [b"line", number, ..] => numbered(number),
-        [b"times", count] if is_number(count) => Claim::Head,
-        [b"chain", length, b"sum", sum] if is_number(length) && is_number(sum) => Claim::Head,
-        [b"time", event, number] => time(event, number),
+/// Internal: what a line of a claim says.
+pub fn claim_in<'a>(line: &'a [u8]) -> Claim<'a> {
+    if has_control(line) {
+        return Claim::Wrong;
+    }
+    // The first line of an answer is times N, or chain L sum S.
+    match first_words(line) {
+        [None, ..] => Claim::Nothing,
+        [Some(b"line"), Some(number), ..] => numbered(number),
+        [Some(b"times"), Some(count), None, ..] if is_number(count) => Claim::Head,
+        [
+            Some(b"chain"),
+            Some(length),
+            Some(b"sum"),
+            Some(sum),
+            None,
+            ..
+        ] if is_number(length) && is_number(sum) => { Claim::Head }
+        [Some(b"time"), Some(event), Some(number), None, ..] => time(event, number),
         _ => Claim::Wrong,
     }
-}
-
-/// Internal: what a line of a claim says.
-pub fn claim_in<'a>(alloc: Global, line: &'a [u8]) -> Result<Claim<'a>, AllocError> {
-    if has_control(line) {
-        return Ok(Claim::Wrong);
-    }
-    let words = words(alloc, line)?;
-    Ok(claim_of(&words))
 }

@@ -80,13 +80,8 @@ impl<'a> Wishes<'a> {
         Ok(())
     }
 
-    fn take_line(
-        &mut self,
-        alloc: Global,
-        content: &'a [u8],
-        line: usize,
-    ) -> Result<(), AllocError> {
-        match forms::wish_in(alloc, content)? {
+    fn take_line(&mut self, content: &'a [u8], line: usize) -> Result<(), AllocError> {
+        match forms::wish_in(content) {
             Wish::Nothing => {}
             Wish::Event(name) => {
                 self.named(name)?;
@@ -123,7 +118,7 @@ pub fn read<'a>(alloc: Global, text: &'a [u8]) -> Result<Wishes<'a>, AllocError>
         wrong: Vec::new(alloc),
     };
     for (i, line) in text.split(|byte| *byte == b'\n').enumerate() {
-        wishes.take_line(alloc, lines::content(line), i + 1)?;
+        wishes.take_line(lines::content(line), i + 1)?;
     }
     Ok(wishes)
 }
