@@ -46,6 +46,7 @@ fn written<O: Write>(out: &mut O, answer: Result<usize, Refusal>, bytes: &[u8]) 
 }
 
 /// A call that writes into lent bytes, of which a line asks for so many.
+// Kept: write, read_plan and with_one lend once; one for all would take type, mark, call and what prints the answer, and be no shorter.
 pub(crate) fn write<O: Write, F: FnOnce(&mut [u8]) -> Result<usize, Refusal>>(
     out: &mut O,
     alloc: Global,

@@ -10,6 +10,7 @@ use std::io::Write;
 const MAX_LENT: usize = 10240;
 
 // Whether the lent bytes from the n-th on have their mark.
+// Kept: n is what the call says it wrote; at a slice each caller would have to take the case apart in which n is too large.
 fn unchanged<O: Write>(out: &mut O, bytes: &[u8], n: usize) -> io::Result<()> {
     let Some(rest) = bytes.get(n..) else {
         return Ok(());

@@ -47,8 +47,8 @@ fn minus(size: u64) -> i64 {
     }
 }
 
-// A number in decimal, with a minus in front where it is negative. What is too large is 0.
-// Kept: a byte that is no digit counts as a digit, where parse refuses the word; what the program takes stays.
+// A number in decimal, with a minus in front where it is negative.
+// Kept: a byte that is no digit counts as 0, and a to f as 10 to 15, where parse refuses the word; what the program takes stays.
 fn number(word: &[u8]) -> i64 {
     match word.strip_prefix(b"-") {
         Some(digits) => minus(worth(digits)),

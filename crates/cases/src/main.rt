@@ -49,6 +49,7 @@ pub(crate) struct Given {
 
 impl Given {
     // A call that changes neither table nor cursor.
+    // Kept: a verb is a word of a line and is matched where its call is made; an enum of all of them would say each a second time.
     fn asked<O: Write>(&self, out: &mut O, call: &Call<'_>) -> io::Result<bool> {
         Ok(
             table_calls::asked(out, call, &self.table)?

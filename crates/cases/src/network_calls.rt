@@ -42,6 +42,7 @@ impl Given<'_> {
     }
 
     // Prints what a chain is worth: which one was given is not told.
+    // Kept: n is what the call says of the words that were lent, and may pass them; that is told here, where a slice could not be.
     fn chain<O: Write>(self, out: &mut O, lent: &[u32], n: usize) -> io::Result<()> {
         let Some(chain) = lent.get(..n) else {
             return writeln!(out, "longer than what was lent");

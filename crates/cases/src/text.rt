@@ -57,6 +57,7 @@ pub(crate) fn words(alloc: Global, text: &[u8]) -> Result<Vec<u32>, AllocError> 
 }
 
 /// The value of a digit in hexadecimal. What is no digit is 0.
+// Kept: char::to_digit takes capital letters too, which count as 0 here; what the program takes stays.
 pub(crate) fn digit(byte: u8) -> u8
     ensures { result ≤ 15 }
 {

@@ -24,6 +24,7 @@ pub(crate) const GIVEN_PLACE_AT: usize = 4;
 pub(crate) const ROOM: usize = 4096;
 
 /// An argument that has to be a number. What is said where it is none names it.
+// Kept: desk, draw, export and operator each say another sentence of an argument that is no number, and draw takes an empty one as 0.
 pub(crate) fn number_at<R: Env, E: Write>(
     rt: &R,
     err: &mut E,

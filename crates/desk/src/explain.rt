@@ -13,7 +13,7 @@ use std::io::Write;
 use std::{fmt, io};
 
 /// The first line: the place, and whether its rule is kept there.
-// Kept: leg and place are the two numbers that a person typed, and margins::margin_at takes them so.
+// Kept: leg and place come from arguments, a check or a saved cursor, and go to margins::margin_at, which takes the two apart.
 fn verdict<O: Write>(out: &mut O, leg: u32, place: u32, spare: Spare) -> io::Result<()> {
     let verdict = match spare {
         Spare::Free | Spare::Left(_) => "holds",
@@ -187,7 +187,7 @@ fn mends<O: Write>(out: &mut O, leg: u32, near: Nearest) -> io::Result<()> {
 }
 
 /// The last lines: by how much, and where a place is violated what mends it.
-// Kept: leg and place are the two numbers that a person typed, and margins::margin_at takes them so.
+// Kept: leg and place come from arguments, a check or a saved cursor, and go to margins::margin_at, which takes the two apart.
 fn ended<O: Write>(out: &mut O, t: &[u32], leg: u32, place: u32, spare: Spare) -> io::Result<()> {
     match spare {
         Spare::Free => writeln!(out, "status 0"),
@@ -203,7 +203,7 @@ fn ended<O: Write>(out: &mut O, t: &[u32], leg: u32, place: u32, spare: Spare) -
 }
 
 /// Says why a place cannot be explained: the plan is refused, or it has no such place.
-// Kept: leg and place are the two numbers that a person typed, and margins::margin_at takes them so.
+// Kept: leg and place come from arguments, a check or a saved cursor, and go to margins::margin_at, which takes the two apart.
 fn no_place<E: Write>(err: &mut E, t: &[u32], refusal: Refusal, leg: u32, place: u32) {
     if !matches!(refusal.cause, Cause::NoPlace | Cause::NoLeg) {
         return records::why(err, t, refusal);
@@ -224,7 +224,7 @@ fn no_place<E: Write>(err: &mut E, t: &[u32], refusal: Refusal, leg: u32, place:
 }
 
 /// Explains a place of a plan.
-// Kept: leg and place are the two numbers that a person typed, and margins::margin_at takes them so.
+// Kept: leg and place come from arguments, a check or a saved cursor, and go to margins::margin_at, which takes the two apart.
 pub(crate) fn place<O: Write, E: Write>(
     out: &mut O,
     err: &mut E,

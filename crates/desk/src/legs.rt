@@ -9,6 +9,7 @@ use std::{fmt, io};
 
 /// A table, and the names of its nodes and streams.
 // Kept: nobody compares or prints it, and Draft, which it lends, has no equality.
+// Kept: margin_at, judged_cursor and start take words and refuse what is no plan, each in its order; a Plan is judged only to print a leg.
 #[derive(Clone, Copy)]
 pub(crate) struct NamedTable<'a> {
     pub(crate) t: &'a [u32],

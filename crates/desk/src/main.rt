@@ -22,6 +22,7 @@ mod tour;
 mod whole;
 
 /// What is asked for.
+// Kept: it is matched once, and no closure could take what each arm takes: all take out and err, some rt too, and others alloc and names.
 #[derive(Clone, Copy, Debug, PartialEq, Eq)]
 enum Verb {
     All,
@@ -30,6 +31,7 @@ enum Verb {
 }
 
 /// What is answered with the names of nodes and streams.
+// Kept: it is matched once, and no closure could take what each arm takes: all take out and err, some rt too, and others alloc and names.
 #[derive(Clone, Copy, Debug, PartialEq, Eq)]
 enum Question {
     First,

@@ -26,7 +26,7 @@ fn surveyed<O: Write>(out: &mut O, t: &[u32], from: Cursor, budget: u32) -> io::
     let mut c = from;
     let mut left = budget;
     let mut count: u32 = 0;
-    // Kept: nothing is counted; each step takes from the budget as many places as it looked at.
+    // Kept: no index is counted (count is of violated places); each step takes from the budget as many places as it looked at.
     while 0 < left {
         let found = survey::step(t, c, left);
         match found {

@@ -37,6 +37,7 @@ pub(crate) const POWERS: [u64; 11] = [
 ];
 
 /// Numbers from one on, each the step after the one before it: those below an end, and so many at most.
+// Kept: step_by takes a usize above 0, and nothing here shows that of a step or period; at a step of 0 this ends after most.
 #[derive(Clone, Copy, Debug, PartialEq, Eq, Drop)]
 pub(crate) struct Steps {
     pub(crate) next: u64,

@@ -58,6 +58,7 @@ fn put_about<O: Write>(out: &mut O, page: &Page) -> io::Result<()> {
     put_stretch(out, page)
 }
 
+// Kept: the stream's picture differs in width, a sentence, name and about; one function would take these four, two of them as closures.
 fn head<O: Write>(out: &mut O, page: &Page, height: u64) -> io::Result<()> {
     svg::begin(out, PAGE, height)?;
     write!(out, "<title>")?;

@@ -47,11 +47,13 @@ const ROOM: usize = 4096;
 #[derive(Clone, Copy, Debug, PartialEq, Eq)]
 enum Order {
     /// A link, and from when to when.
+    // Kept: a TO that is not past FROM counts as none, given or not; an Option of it would be asked the same again in link::draw.
     Link { link: u32, from: u32, to: u32 },
     Stream(u32),
 }
 
 /// An argument that has to be a number: 0 where it is empty.
+// Kept: desk, draw, export and operator each say another sentence of an argument that is no number, and draw takes an empty one as 0.
 fn number_at<R: Env, E: Write>(rt: &R, err: &mut E, i: usize) -> Option<u32> {
     // Kept: the system puts an argument into lent bytes, and input gives back what came as a slice.
     let mut room = [0u8; ROOM];
@@ -85,7 +87,7 @@ fn order_given<R: Env, E: Write>(rt: &R, err: &mut E) -> Option<Order> {
 }
 
 /// Says that the plan has no such link or stream, and which it has.
-// Kept: export says this of links alone, and slots with a request in front; one function for all would stand in reasons and take how it is printed.
+// Kept: export says this of links alone, and slots with a label in front; all three see only reasons, which explains refused files and tables.
 fn not_there<E: Write>(err: &mut E, record: &str, n: u32, count: u32) {
     match count.checked_sub(1) {
         None => report(

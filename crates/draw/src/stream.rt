@@ -150,6 +150,7 @@ impl Compared {
 
 // ---- A leg
 
+// Kept: rows::Bars holds the y and the height of a link's picture; here each leg has its own, for which a Bars would be made at each call.
 fn bar<O: Write>(
     out: &mut O,
     axis: Axis,
@@ -245,6 +246,7 @@ fn leg<O: Write>(out: &mut O, r: &Route, a: usize, y: u64) -> io::Result<()> {
 }
 
 /// The grounds of every other row.
+// Kept: a ground belongs to each row whose number is even, which a step of two would leave to the reader.
 fn stripes<O: Write>(out: &mut O, r: &Route) -> io::Result<()> {
     for i in 0..r.end.saturating_sub(r.first) {
         if i % 2 == 0 {
@@ -254,6 +256,7 @@ fn stripes<O: Write>(out: &mut O, r: &Route) -> io::Result<()> {
     Ok(())
 }
 
+// Kept: a is the number of the leg, and its row is told by how far it is from the first.
 fn rows<O: Write>(out: &mut O, r: &Route) -> io::Result<()> {
     for a in r.first..r.end {
         leg(out, r, a, row_at(a.saturating_sub(r.first)))?;
@@ -316,6 +319,7 @@ fn put_about<O: Write>(out: &mut O, r: &Route) -> io::Result<()> {
     )
 }
 
+// Kept: the link's picture differs in width, a sentence, name and about; one function would take these four, two of them as closures.
 fn head<O: Write>(out: &mut O, r: &Route, height: u64) -> io::Result<()> {
     svg::begin(out, PAGE, height)?;
     write!(out, "<title>")?;

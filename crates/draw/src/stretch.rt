@@ -24,6 +24,7 @@ pub(crate) fn periods_on(alloc: Global, plan: &Named, link: u32) -> Result<Vec<u
 }
 
 /// The least common multiple of a cycle and a period, unless it passes the limit.
+// Kept: export's begins from a proved cycle; gates::cycle, which both see, goes by slots, of which it asks more than a period.
 fn common(cycle: u64, period: u64) -> Option<u64> {
     let parts = cycle.checked_div(overlap::gcd(cycle, period))?;
     let all = parts.checked_mul(period)?;

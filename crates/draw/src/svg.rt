@@ -16,20 +16,6 @@ impl fmt::Display for Pixels {
     }
 }
 
-/// The attribute of a class, or nothing.
-#[derive(Clone, Copy, Debug)]
-struct Class<'a>(&'a str);
-
-impl fmt::Display for Class<'_> {
-    fn fmt<W: fmt::Write>(&self, f: &mut fmt::Formatter<W>) -> fmt::Result {
-        let name = self.0;
-        if name.is_empty() {
-            return Ok(());
-        }
-        write!(f, " class=\"{name}\"")
-    }
-}
-
 /// How long something lasts, in the coarsest unit in which it is whole.
 #[derive(Clone, Copy, Debug, PartialEq, Eq)]
 pub(crate) struct Lasting(pub(crate) u64);
@@ -94,7 +80,7 @@ pub(crate) fn style<O: Write>(out: &mut O, width: u64, height: u64) -> io::Resul
 }
 
 /// A rectangle.
-// Kept: x, y, width and height are the element's four attributes; callers reckon each apart and keep no two together.
+// Kept: x, y, width and height are the element's four attributes; rows keeps y and height as Bars, and no other caller two together.
 pub(crate) fn rect<O: Write>(
     out: &mut O,
     class: &str,
@@ -103,11 +89,11 @@ pub(crate) fn rect<O: Write>(
     width: u64,
     height: u64,
 ) -> io::Result<()> {
-    let (class, x, y) = (Class(class), Pixels(x), Pixels(y));
+    let (x, y) = (Pixels(x), Pixels(y));
     let (width, height) = (Pixels(width), Pixels(height));
     writeln!(
         out,
-        "<rect{class} x=\"{x}\" y=\"{y}\" width=\"{width}\" height=\"{height}\"/>"
+        "<rect class=\"{class}\" x=\"{x}\" y=\"{y}\" width=\"{width}\" height=\"{height}\"/>"
     )
 }
 
@@ -121,15 +107,16 @@ pub(crate) fn line<O: Write>(
     x2: u64,
     y2: u64,
 ) -> io::Result<()> {
-    let (class, x1, y1) = (Class(class), Pixels(x1), Pixels(y1));
+    let (x1, y1) = (Pixels(x1), Pixels(y1));
     let (x2, y2) = (Pixels(x2), Pixels(y2));
     writeln!(
         out,
-        "<line{class} x1=\"{x1}\" y1=\"{y1}\" x2=\"{x2}\" y2=\"{y2}\"/>"
+        "<line class=\"{class}\" x1=\"{x1}\" y1=\"{y1}\" x2=\"{x2}\" y2=\"{y2}\"/>"
     )
 }
 
 /// A ring.
+// Kept: x and y are attributes of the element; most texts have a fixed x and a reckoned y, so that a point would be made at each call.
 pub(crate) fn ring<O: Write>(
     out: &mut O,
     class: &str,
@@ -137,14 +124,18 @@ pub(crate) fn ring<O: Write>(
     y: u64,
     radius: u64,
 ) -> io::Result<()> {
-    let (class, x, y, radius) = (Class(class), Pixels(x), Pixels(y), Pixels(radius));
-    writeln!(out, "<circle{class} cx=\"{x}\" cy=\"{y}\" r=\"{radius}\"/>")
+    let (x, y, radius) = (Pixels(x), Pixels(y), Pixels(radius));
+    writeln!(
+        out,
+        "<circle class=\"{class}\" cx=\"{x}\" cy=\"{y}\" r=\"{radius}\"/>"
+    )
 }
 
 /// Begins a text, which `end_text` ends.
+// Kept: x and y are attributes of the element; most texts have a fixed x and a reckoned y, so that a point would be made at each call.
 pub(crate) fn begin_text<O: Write>(out: &mut O, class: &str, x: u64, y: u64) -> io::Result<()> {
-    let (class, x, y) = (Class(class), Pixels(x), Pixels(y));
-    write!(out, "<text{class} x=\"{x}\" y=\"{y}\">")
+    let (x, y) = (Pixels(x), Pixels(y));
+    write!(out, "<text class=\"{class}\" x=\"{x}\" y=\"{y}\">")
 }
 
 pub(crate) fn end_text<O: Write>(out: &mut O) -> io::Result<()> {
@@ -152,6 +143,7 @@ pub(crate) fn end_text<O: Write>(out: &mut O) -> io::Result<()> {
 }
 
 /// A text of letters that need no care.
+// Kept: x and y are attributes of the element; most texts have a fixed x and a reckoned y, so that a point would be made at each call.
 pub(crate) fn text<O: Write, S: fmt::Display + Drop>(
     out: &mut O,
     class: &str,

@@ -16,7 +16,7 @@ const ENOENT: i32 = 2;
 const EILSEQ: i32 = 84;
 
 /// What reading a file gives: its bytes, that there is no such file, or that it cannot be read.
-// Kept: three answers, which most callers treat each in its own way; an Option of an Option would not name them.
+// Kept: a missing file is no error to kept and plan_text, and a failed one is said already, so no caller would hand either on by `?`.
 #[derive(Clone, Copy, Debug, PartialEq, Eq)]
 pub enum FileRead<'a> {
     Bytes(&'a [u8]),
@@ -187,7 +187,7 @@ pub fn dropped<R: Files>(rt: &R, path: &[u8]) {
 }
 
 /// Makes a file, which no other has the name of, and brings it to the disk.
-// Kept: callers ask only whether it was done, and chain such calls by &&; why it was not is said here and goes no further.
+// Kept: its one caller asks only whether it was done; why it was not is said here and goes no further.
 pub fn made<R: Files, E: Write>(rt: &R, err: &mut E, path: &[u8], bytes: &[u8]) -> bool {
     said(err, path, made_new(rt, path, bytes))
 }

@@ -9,6 +9,7 @@ use std::io;
 use std::io::Write;
 
 // A whole check of a plan, which is well-formed. No table has as many places as the budget.
+// Kept: slots has the same; of what both programs see only the library's crates know checker, and those ask for a cursor.
 fn checked(t: &[u32]) -> SliceAnswer {
     let cursor = Cursor {
         revision: records::header_word(t, table::REVISION_AT),

@@ -34,6 +34,7 @@ const FOLDER_AT: usize = 3;
 
 /// What is asked for of the plan on standard input.
 // Kept: nobody compares or prints it, and each derive more is a function more to prove.
+// Kept: it is matched once, where each arm takes other arguments.
 #[derive(Clone, Copy)]
 enum OfPlan {
     Print(u32),
@@ -52,6 +53,7 @@ enum Order {
 
 // The link that is asked for, or nothing where there is no number of one, which is said.
 // Kept: std hands an argument out as bytes into a lent array alone; env::args gives none of them where one is no UTF-8.
+// Kept: desk, draw, export and operator each say another sentence of an argument that is no number, and draw takes an empty one as 0.
 fn link_given<R: Env, E: Write>(rt: &R, err: &mut E) -> Option<u32> {
     let mut room = [0u8; 4096];
     let digits = input::argument_or_nothing(rt, LINK_AT, &mut room);

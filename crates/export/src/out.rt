@@ -1,6 +1,6 @@
 // The answers on standard output.
 use crate::form::cycle;
-use basics::{Cause, Refusal};
+use basics::Refusal;
 use files::Cursor;
 use reasons::records;
 use rules::Rule;
@@ -9,6 +9,7 @@ use std::{fmt, io};
 use table::Link;
 
 // How many pairs a list has, and how long it lasts.
+// Kept: nobody compares it, and each derive more is a function more to prove.
 #[derive(Clone, Copy)]
 struct Size<'a>(&'a [u32]);
 
@@ -48,8 +49,7 @@ pub(crate) fn no_command<O: Write>(out: &mut O) -> io::Result<()> {
 
 /// A plan that is not accepted, and its first violated place.
 pub(crate) fn not_accepted<O: Write>(out: &mut O, at: Cursor, rule: Rule) -> io::Result<()> {
-    show::refused(out, Cause::NotAccepted.at(0))?;
-    show::told::violated(out, at, rule)?;
+    show::answers::not_accepted(out, at, rule)?;
     writeln!(out, "\nstatus 2")
 }
 

@@ -12,6 +12,7 @@ use std::io::Write;
 use table::Leg;
 
 /// Why a plan has no lists whose first violated place this is.
+// Kept: the sentence of slots differs in its second half, on what the plan is for.
 pub(crate) fn not_accepted<E: Write>(err: &mut E, at: Cursor) {
     let Cursor { leg, place, .. } = at;
     report(
@@ -23,7 +24,7 @@ pub(crate) fn not_accepted<E: Write>(err: &mut E, at: Cursor) {
 }
 
 /// A link that the plan does not have.
-// Kept: draw says this of streams too, and slots with a request in front; one function for all would take the word, the count and how it is printed.
+// Kept: draw says this of streams too, by their word and count, and slots with a label in front; all three see only reasons, which explains refused files and tables.
 pub(crate) fn no_link<E: Write>(err: &mut E, t: &[u32], link: u32) {
     match header_word(t, table::LINKS_AT).checked_sub(1) {
         None => report(
@@ -48,6 +49,7 @@ fn period_on(t: &[u32], link: u32, leg: Leg) -> u32 {
 }
 
 // The least common multiple of a cycle and a period, or nothing where it passes the limit.
+// Kept: draw's knows no bound of the cycle that it begins from; gates::cycle, which both see, goes by slots, of which it asks more than a period.
 fn common(cycle: u64, period: u64) -> Option<u64>
     requires { cycle ≤ max_cycle }
     ensures { IfSome result (λ all. all ≤ max_cycle) }
@@ -90,6 +92,7 @@ fn long_cycle<E: Write>(err: &mut E, t: &[u32], link: u32) {
 }
 
 /// Why a link of an accepted plan has no list.
+// Kept: of an AskedLink each sentence would take table and link apart again, since it prints the one and reads the other.
 pub(crate) fn link_refused<E: Write>(err: &mut E, t: &[u32], link: u32, refusal: Refusal) {
     if refusal.cause == Cause::LongCycle {
         return long_cycle(err, t, link);

@@ -11,8 +11,8 @@ use std::io::{Read, Write};
 use std::rt::Clock;
 use std::time::{SystemTime, UNIX_EPOCH};
 
-// The bytes of the largest plan file and one more, so that a byte left over is seen.
-const PLAN_ROOM: usize = files::MAX_FILE_BYTES + 1;
+/// The bytes of the largest plan file and one more, so that a byte left over is seen.
+pub const PLAN_ROOM: usize = files::MAX_FILE_BYTES + 1;
 
 // What the system says of an argument that is missing, and of one that is too long.
 const EINVAL: i32 = 22;
@@ -73,6 +73,7 @@ fn ends<R: Read>(input: &mut R, n: usize, room: usize) -> io::Result<()> {
 }
 
 /// Reads to the end, or as much as there is room for, and returns what was read.
+// Kept: each call here says of another answer (slice, Option, Result) that it is no longer than what was lent; a type for it would be unwrapped at each.
 pub fn whole<'a, R: Read>(input: &mut R, buffer: &'a mut [u8]) -> io::Result<&'a [u8]>
     ensures { IfOk result (λ bytes. length bytes.now ≤ length buffer.old) }
 {

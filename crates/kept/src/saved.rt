@@ -19,6 +19,7 @@ pub(crate) const SEEN_ROOM: usize = seen::MAX_SEEN_BYTES + 1;
 const SEEN: &[u8] = b".seen";
 
 // A cursor file: its cursor, why it is none, that there is no file, or that it cannot be read.
+// Kept: a missing file and one that is no cursor are no errors to `standing`, and a failed read is said already, so nothing would go on by `?`.
 #[derive(Clone, Copy, Debug, PartialEq, Eq)]
 pub(crate) enum Saved {
     At(Cursor),
@@ -28,7 +29,7 @@ pub(crate) enum Saved {
 }
 
 /// Whether a cursor is at the end of a plan.
-// Kept: no other function says it.
+// Kept: checker's is_place_or_end asks for a Plan and is private there, and kept does not use checker.
 pub fn is_end(t: &[u32], c: Cursor) -> bool {
     c == Cursor {
         revision: header_word(t, table::REVISION_AT),

@@ -4,6 +4,7 @@ use basics::{Cause, Refusal};
 use checker::SliceAnswer;
 use durable::FileRead;
 use files::{Cursor, Returned};
+use input::PLAN_ROOM;
 use kept::ours::Standing;
 use kept::{Check, refused, saved};
 use reasons::records;
@@ -14,9 +15,6 @@ use std::io;
 use std::io::Write;
 use std::rt::Files;
 use table::Move;
-
-// One byte more than the largest plan file, so that a byte left over is seen.
-pub(crate) const PLAN_ROOM: usize = files::MAX_FILE_BYTES + 1;
 
 // What is asked of a plan and its check.
 // Kept: an order is matched once, at the call that it is for; in its place a closure would have to hold the check and the plan, which are made later.
@@ -44,6 +42,7 @@ pub(crate) struct Call<'a, R: Files, O: Write, E: Write> {
 
 // Kept: operator reaches no allocator (docs/TRUST.md), so files and tables lie in arrays of the largest size, and what was read or written is a slice of one.
 // Kept: a bool says whether it was done or is so, as callers ask and chain by &&; what went wrong is said or answered already.
+// Kept: moved changes t and leaves the bytes as they were, so a struct of plan and table would hold two that do not match.
 impl<'a, R: Files, O: Write, E: Write> Call<'a, R, O, E> {
     // What is refused is said on standard error before the answer is written.
     pub(crate) fn judged(&mut self, t: &[u32], refusal: Refusal, part: Part) -> io::Result<()> {

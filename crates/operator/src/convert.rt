@@ -1,6 +1,6 @@
 // A plan file of the first layout, written anew in the layout of today: under a name that no file has. The old file stays as it is.
-use crate::calls::PLAN_ROOM;
 use durable::FileRead;
+use input::PLAN_ROOM;
 use reasons::records::header_word;
 use show::answers;
 use std::io;

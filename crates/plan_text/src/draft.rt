@@ -20,7 +20,7 @@ pub(crate) struct NamedStream<'t> {
 }
 
 /// The links between two nodes.
-// Kept: three answers, of which two are faults, each with a sentence of its own; an Option of an Option would not name them.
+// Kept: a Result says no more: put_route takes None and Several alike, and only link_between has the names that their faults show.
 #[derive(Clone, Copy, Debug, PartialEq, Eq)]
 pub(crate) enum Between {
     One(u32),
@@ -56,6 +56,7 @@ impl<'t> Draft<'t> {
     }
 
     /// The draft of a table, with no names.
+    // Kept: records::link_at takes a number; the parts of a table ask that it has its size, which this public call does not.
     pub fn of_table(alloc: Global, t: &[u32]) -> Result<Draft<'t>, AllocError> {
         let mut draft = Draft::empty(alloc);
         draft.revision = records::header_word(t, table::REVISION_AT);
@@ -108,6 +109,7 @@ impl<'t> Draft<'t> {
         !self.nodes.is_empty() || self.streams.iter().any(|stream| stream.name.is_some())
     }
 
+    // Kept: nodes are found by name and by number and written in the order of their lines; two maps would stand beside the list.
     pub(crate) fn node_named(&self, name: &[u8]) -> Option<Node<'t>> {
         self.nodes.iter().copied().find(|node| node.name == name)
     }

@@ -61,6 +61,7 @@ impl Fields {
     }
 
     /// Reads the fields of a record from the word of an index on. Those before the first that is wrong are kept.
+    // Kept: fields are lent, not returned: those read before a fault are used too, since a record with a fault is added all the same.
     pub(crate) fn read<'t>(
         &mut self,
         record: Record,
@@ -120,6 +121,7 @@ fn read_value(form: Form, word: &[u8]) -> Result<u32, Fault<'_>> {
     read.map_err(|sentence| Fault::Word(word, sentence))
 }
 
+// Kept: TimeError has two sentences, a time's and a rate's, and these errors lie in units and decimal, so no Display of theirs says these.
 fn no_number(error: DecimalError) -> &'static str {
     match error {
         DecimalError::Empty | DecimalError::NoDigit(_) => {

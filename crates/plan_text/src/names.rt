@@ -47,6 +47,7 @@ impl Names {
     }
 
     /// Reads the names beside a plan file.
+    // Kept: path_of and durable::file fill lent bytes; a text that is too long must be seen, so it has TEXT_ROOM and is cut to what was read.
     pub fn beside<R: Files, E: Write>(
         alloc: Global,
         rt: &R,
@@ -136,6 +137,7 @@ impl NamesFile {
 fn is_same_but_moved(t: &[u32], other: &[u32]) -> bool {
     let links = reasons::records::header_word(t, table::LINKS_AT) as usize;
     let streams = reasons::records::header_word(t, table::STREAMS_AT) as usize;
+    // Kept: reasons::records has this sum for its own records; a public one would owe a contract that says where the legs begin.
     let leg_start = table::HEAD_WORDS + table::LINK_WORDS * links + table::STREAM_WORDS * streams;
     let is_moved = |at: usize| {
         at == table::REVISION_AT || (leg_start <= at && 2 <= (at - leg_start) % table::LEG_WORDS)

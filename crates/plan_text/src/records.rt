@@ -27,6 +27,7 @@ pub(crate) struct Reader<'t> {
 }
 
 /// The word of an index, or nothing.
+// Kept: no word of a line is empty, and to Fault an empty one is the end of the line; an Option would be unwrapped to that at each call.
 fn word<'t>(words: &[&'t [u8]], i: usize) -> &'t [u8] {
     words.get(i).copied().unwrap_or(&[])
 }

@@ -60,7 +60,7 @@ pub fn begin<E: Write>(err: &mut E) {
 }
 
 /// A number as a word, or the largest word where it is larger.
-// Kept: no twin of it is left, and no method of std stops at the largest word.
+// Kept: no `From`, since a usize need not fit a u32, and no method of std stops at the largest word.
 pub fn small(n: usize) -> u32 {
     u32::try_from(n).unwrap_or(u32::MAX)
 }

@@ -13,6 +13,7 @@ pub(crate) struct Target<'a> {
     pub(crate) is_replacing: bool,
 }
 
+// Kept: a bool says whether it was done, as of durable's calls, which callers chain; why it was not is said there already.
 impl Target<'_> {
     /// Puts bytes under the path: a new one, or one that may be there.
     fn put<R: Files, E: Write>(self, rt: &R, err: &mut E, file: &[u8]) -> bool {
@@ -58,6 +59,7 @@ fn write<R: Files, O: Write, E: Write>(
         return Ok(());
     };
     file.truncate(bytes);
+    // Kept: no length stands beside the array: a path is put together in it, and `path_of` gives back the slice.
     let mut room = [0u8; names::MAX_PATH];
     let path = names::path_of(target.path, &mut room);
     let beside = Target { path, ..target };

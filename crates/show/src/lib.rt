@@ -45,6 +45,7 @@ pub fn rows<O: Write>(out: &mut O, words: &[u32], width: usize) -> io::Result<()
 }
 
 /// Prints a table, a record to a line: header, links, streams, legs. Where its size is refused it prints that, and returns false.
+// Kept: callers ask only whether the table was printed; a refusal is printed here and goes no further.
 pub fn table<O: Write>(out: &mut O, t: &[u32]) -> io::Result<bool> {
     if let Err(refusal) = table::judged_size(t) {
         refused(out, refusal)?;

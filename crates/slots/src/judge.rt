@@ -10,6 +10,7 @@ use std::io;
 use std::io::Write;
 
 // A whole check of a plan, which is well-formed. No table has as many places as the budget.
+// Kept: export has the same; of what both programs see only the library's crates know checker, and those ask for a cursor.
 fn checked(t: &[u32]) -> SliceAnswer {
     let cursor = Cursor {
         revision: records::header_word(t, table::REVISION_AT),
@@ -20,6 +21,7 @@ fn checked(t: &[u32]) -> SliceAnswer {
 }
 
 /// Whether the plan is accepted. Where it is not, the answer has the first violated place too.
+// Kept: a bool says whether it is so, as callers ask and chain by &&; where it is not, why is said and answered here already.
 pub(crate) fn is_accepted<O: Write, E: Write>(
     out: &mut O,
     err: &mut E,

@@ -26,6 +26,7 @@ pub(crate) enum Way {
 /// What is wanted of a stream. A stream that is asked for alone has an empty label.
 #[derive(Drop)]
 pub(crate) struct Request<'a> {
+    // Kept: the command hands over an empty label for a stream alone, and the bytes are put in front as they came; an Option would be made for three is_empty.
     pub(crate) label: &'a [u8],
     pub(crate) want: Wanted,
     pub(crate) way: Way,

@@ -5,6 +5,7 @@
 
 use crate::lines::{LinesError, Request};
 use durable::FileRead;
+use input::PLAN_ROOM;
 use reasons::report;
 use show::answers;
 use std::alloc::Global;
@@ -28,9 +29,6 @@ const NEW_AT: usize = 2;
 
 // How long an argument may be.
 const ROOM: usize = 4096;
-
-// One byte more than the largest plan file, so that a byte left over is seen.
-const PLAN_ROOM: usize = files::MAX_FILE_BYTES + 1;
 
 // One byte more than what is wanted may have.
 const TEXT_ROOM: usize = lines::MAX_BYTES + 1;
@@ -62,6 +60,7 @@ fn on_plan<R: Clock + Files, O: Write, E: Write>(
     }
 }
 
+// Kept: requests and new_path part in list::admitted: take_all gets the one, write_new the other.
 fn on_paths<R: Clock + Files, O: Write, E: Write>(
     rt: &R,
     alloc: Global,

@@ -1,5 +1,5 @@
 // The answers on standard output. The numbers of an admitted stream are those of the enlarged table.
-use basics::{Cause, Refusal};
+use basics::Refusal;
 use files::Cursor;
 use reasons::records;
 use rules::Rule;
@@ -26,8 +26,7 @@ pub(crate) fn refused<O: Write>(out: &mut O, label: &[u8], refusal: Refusal) -> 
 
 /// A plan that is not accepted, and its first violated place.
 pub(crate) fn not_accepted<O: Write>(out: &mut O, at: Cursor, rule: Rule) -> io::Result<()> {
-    show::refused(out, Cause::NotAccepted.at(0))?;
-    show::told::violated(out, at, rule)?;
+    show::answers::not_accepted(out, at, rule)?;
     writeln!(out)
 }
 

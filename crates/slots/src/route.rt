@@ -54,6 +54,7 @@ fn distances(alloc: Global, links: &[Link], to: u32) -> Result<BTreeMap<u32, u32
     distances.insert(to, 0u32)?;
     queue.push_back(to)?;
     // Each node is taken from the queue once, and each but the last node begins a link.
+    // Kept: a while on the queue would need a measure, the nodes not yet reached; each is queued once, and each but the last begins a link.
     for _ in 0..=links.len() {
         let Some(node) = queue.pop_front() else {
             break;

@@ -46,6 +46,7 @@ pub(crate) fn look<R: Clock, E: Write>(
     let mut from = 0;
     let mut until = LEAST_PIECE;
     let mut began = input::seconds(rt);
+    // Kept: no index is counted: pieces are as large as the clock allows, and the range only bounds their number.
     for _ in 0..MOST_PIECES {
         let found = admission::admit_between(plan, want, links, from, until, out)?;
         if found.is_some() {

@@ -7,6 +7,7 @@ use shape::streams::MAX_OCTETS;
 use table::Link;
 
 // How long a frame is on the wire of a link.
+// Kept: wire and hold differ in the law of rules alone; as a closure, what that law asks of rate and octets would be its contract.
 fn wire(octets: u32, l: Link) -> u64 {
     if shape::links::is_rate(l.rate) && octets <= MAX_OCTETS {
         return rules::times::wire_time(octets, l.rate);

@@ -61,6 +61,7 @@ pub(crate) fn cannot_rise<E: Write>(err: &mut E, label: &[u8]) {
 }
 
 /// Why a plan takes no stream whose first violated place this is.
+// Kept: export's sentence differs in its second half, on what the plan is for.
 pub(crate) fn not_accepted<E: Write>(err: &mut E, at: Cursor) {
     let Cursor { leg, place, .. } = at;
     report(
@@ -312,6 +313,7 @@ impl Asked<'_> {
     }
 
     // How many links the route is said to have: one along no nodes too many.
+    // Kept: of no nodes the largest number is printed, as a route that is too long, and what a program prints stays.
     fn count(self) -> u32 {
         match &self.request.way {
             Way::Nodes(nodes) if nodes.is_empty() => u32::MAX,

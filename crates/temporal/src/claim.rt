@@ -44,7 +44,7 @@ fn in_line(wishes: &Wishes, line: u32) -> Option<usize> {
 
 impl Claimed {
     // The place of an event's time among the times, if it has one.
-    // Kept: one function alone; no map, since a network's events are renumbered in the order of the times.
+    // Kept: no map beside the list: renumbered needs an event's place in it, and a claim times each of at most 128 events once.
     pub(crate) fn place_of(&self, event: usize) -> Option<usize> {
         self.times.iter().position(|timed| timed.event == event)
     }
@@ -110,6 +110,7 @@ impl Claimed {
     }
 
     // Takes in a constraint of a chain, by its line in the network.
+    // Kept: take_time and say need the number without the content, and a WrongLine means a line that is wrong.
     fn take_link<E: Write>(
         &mut self,
         err: &mut E,

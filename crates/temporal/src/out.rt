@@ -5,6 +5,7 @@ use std::io::Write;
 use wishes::reading::{Constraint, Wishes};
 
 // A refusal's line, and the last one.
+// Kept: show::answers::plan_refused prints the same, but show uses rules and places, which temporal does not (crates.txt).
 pub(crate) fn refused<O: Write>(out: &mut O, refusal: Refusal) -> io::Result<()> {
     let number = u32::from(refusal.cause);
     let at = refusal.at;

@@ -45,6 +45,7 @@ fn links<O: Write>(out: &mut O, wishes: &Wishes, chain: &[u32]) -> io::Result<()
 
 // Solves a network, and prints its times or a chain.
 // Kept: `solver::solve` writes a chain into lent words, and a chain has no more than this array.
+// Kept: on_times judges other words of the same wishes (renumbered), so the two are not one value.
 pub(crate) fn solved<O: Write, E: Write>(
     out: &mut O,
     err: &mut E,

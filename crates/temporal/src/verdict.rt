@@ -68,7 +68,7 @@ fn on_times<O: Write, E: Write>(
 // ---- Chains
 
 // The first constraint of a chain that does not end where the next one begins, and that next one.
-// Kept: after the last comes the first, which `windows` does not give.
+// Kept: after the last comes the first, which `windows` does not give; a zip with cycle and skip would end only by its shorter side.
 fn unlinked<'w, 'a>(
     links: &[&'w Constraint<'a>],
 ) -> Option<(&'w Constraint<'a>, &'w Constraint<'a>)> {
@@ -94,6 +94,7 @@ fn say_unlinked<E: Write>(err: &mut E, wishes: &Wishes, link: &Constraint, next:
 }
 
 // The first event that two constraints of a chain begin at.
+// Kept: each link is held against those before it; a find would nest a second closure and give the link, of which the event is taken again.
 fn repeated(links: &[&Constraint]) -> Option<usize> {
     for (i, link) in links.iter().enumerate() {
         let event = link.from;

@@ -74,6 +74,7 @@ fn constraint<'a>(first: &'a [u8], second: &'a [u8], sign: &'a [u8], number: &'a
 }
 
 // The first words of a line: one more than the longest form has, by which a longer line is known.
+// Kept: lines::words makes a Vec; this takes six words without memory, and no function may hand out the iterator (no impl Trait as a result).
 fn first_words<'a>(line: &'a [u8]) -> [Option<&'a [u8]>; 6] {
     let mut words = line
         .split(|byte| *byte == b' ' || *byte == b'\t')
