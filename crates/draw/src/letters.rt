@@ -9,7 +9,9 @@ use std::io::Write;
 /// How many bytes the first letter of a name has, and 0 where none that can be shown stands there. No letter is written longer than it has to be, and none is half of a pair, past the last one
 /// or a control, shows nothing, or turns the direction of what is written.
 // Kept: utf8_chunks takes letters that show nothing or turn the direction, and gives the bytes of a broken one together; here each is a '?'.
-fn letter(name: &[u8]) -> usize {
+fn letter(name: &[u8]) -> usize
+    ensures { result ≤ 4 }
+{
     match name {
         [0x20..=0x7E, ..] => 1,
         [0xC2, 0xA0..=0xBF, ..] | [0xC3..=0xDF, 0x80..=0xBF, ..] => 2,

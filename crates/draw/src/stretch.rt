@@ -1,4 +1,7 @@
 //! The stretch of time that a picture of a link shows: its cycle, or as much of that as has few enough holds.
+ghost use Rattle.std.specs.Prelude.{◌≤◌, IfSome};
+ghost use Rattle.gates.specs.Pairs.{max_cycle};
+
 use crate::axis::POWERS;
 use crate::plan::Named;
 use std::alloc::{AllocError, Global};
@@ -25,7 +28,9 @@ pub(crate) fn periods_on(alloc: Global, plan: &Named, link: u32) -> Result<Vec<u
 
 /// The least common multiple of a cycle and a period, unless it passes the limit.
 // Kept: export's begins from a proved cycle; gates::cycle, which both see, goes by slots, of which it asks more than a period.
-fn common(cycle: u64, period: u64) -> Option<u64> {
+fn common(cycle: u64, period: u64) -> Option<u64>
+    ensures { IfSome result (λ all. all ≤ max_cycle) }
+{
     let parts = cycle.checked_div(overlap::gcd(cycle, period))?;
     let all = parts.checked_mul(period)?;
     if gates::MAX_CYCLE < all {
