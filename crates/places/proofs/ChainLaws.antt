@@ -101,6 +101,21 @@ pub record Seeking (t next : List ℕ) (l n b : ℕ) : Type 0 where
   pub small : leg_count t ≤ max_legs
   pub at : NextOn t l n b
 
+-- No leg of the link is skipped where fewer are asked for.
+next_from : {t : List ℕ} {l n b : ℕ} (m : ℕ) → NextOn t l n b → n ≤ m → NextOn t l m b
+next_from m x h = record { on = x.on; none = λ c from below inside. x.none c (omega arith) below inside }
+
+-- The next leg of the chain is sought from as the one before it was.
+module _ {t next : List ℕ} {l n b : ℕ} (i : Seeking t next l n b) (h : b < n) where
+  seeking_leg : b < leg_count t
+  seeking_leg = omega (arith, i.inside)
+
+  pub seeking_on : Seeking t next l n (get_or next b 0)
+  seeking_on =
+      let x = i.chained.later b (omega arith) seeking_leg in
+      let y = subst (λ (k : ℕ). NextOn t k (b + 1) (get_or next b 0)) (i.at.on seeking_leg) x in
+      record { chained = i.chained; inside = i.inside; small = i.small; at = next_from n y (omega arith) }
+
 -- Two arrays as a check begins with them.
 pub none_begun : Unbegun (replicate max_links max_legs)
 none_begun = record {
