@@ -27,7 +27,7 @@ impl<'p> Candidate<'p> {
         ensures { Searches (AllAsked self.now.table self.now.wanted self.now.route) limit from result }
     {
         let count = self.asked.table[table::LEGS_AT] as usize + self.asked.route.len();
-        let mut all = [offsets::FREE; table::MAX_LEGS];
+        let mut all = [offsets::ANY_CONDITION; table::MAX_LEGS];
         self.keep_all(&mut all);
         let conditions = &all[..count];
         let mut order = [ANY_WORD; table::MAX_LEGS];

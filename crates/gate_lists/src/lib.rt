@@ -9,7 +9,7 @@ ghost use Rattle.gate_lists.specs.Lists.{MayList, WritesGateList, may_list_refus
 ghost use Rattle.gate_lists.specs.Steps.{Gathered, ListTold};
 
 use basics::{Cause, Refusal};
-use gates::slots::{NO_SLOT, StoredSlot};
+use gates::slots::{ANY_SLOT, StoredSlot};
 use std::marker::Model;
 
 // What the words of a call's own hold at first: any word, since none is read before it is written.
@@ -99,7 +99,7 @@ impl<'a> AskedLink<'a> {
         ensures told { ListTold self.now.0 self.now.1 words.new result }
         ensures may_list { MayList self.now.0 self.now.1 }
     {
-        let mut slots = [NO_SLOT; table::MAX_LEGS];
+        let mut slots = [ANY_SLOT; table::MAX_LEGS];
         let count = self.gather(&mut slots);
         self.list_slots(&slots[..count], words)
     }

@@ -13,11 +13,11 @@ pub struct StoredSlot {
     pub hold: u32,
 }
 
-/// Internal: what stands in a list before it is filled.
-pub const NO_SLOT: StoredSlot = StoredSlot {
-    offset: 0,
-    period: 0,
-    hold: 0,
+/// Internal: what stands in a list before it is filled: any words, since none is read before (docs/DECISIONS.md, 51).
+pub const ANY_SLOT: StoredSlot = StoredSlot {
+    offset: 1,
+    period: 1,
+    hold: 1,
 };
 
 /// The slot to compute with.

@@ -60,10 +60,10 @@ impl<'a> Named<'a> {
             return n;
         }
         let at = self.place(&order[..n], key(q));
-        order[n] = hint;
-        for i in at..n {
-            order.swap(i, n);
+        for i in (at..n).rev() {
+            order[i + 1] = order[i];
         }
+        order[at] = hint;
         n + 1
     }
 }

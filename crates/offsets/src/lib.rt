@@ -30,12 +30,12 @@ pub struct StoredCondition {
     pub after: u32,
 }
 
-/// Internal: allows every offset; for lists before they are filled.
-pub const FREE: StoredCondition = StoredCondition {
+/// Internal: what stands in a list before it is filled: any words, since none is read before (docs/DECISIONS.md, 51).
+pub const ANY_CONDITION: StoredCondition = StoredCondition {
     modulus: 1,
-    shift: 0,
-    before: 0,
-    after: 0,
+    shift: 1,
+    before: 1,
+    after: 1,
 };
 
 /// The condition to compute with.
@@ -84,7 +84,6 @@ pub fn pair_condition(after: u64, period: u64, hold: u64, other: Slot, g: u64) -
 }
 
 /// Internal: the condition that allows every offset.
-// Kept: FREE is the same in words of 32 bits; made from it, AllowsAll would have to be proved through `widened`.
 pub fn free_condition() -> Condition
     ensures { AllowsAll result }
 {
