@@ -1,26 +1,23 @@
 //! A claim read: times of events, or the constraints of a chain by their lines. What is wrong in it is said on standard error.
 use crate::sentences;
+use arrayvec::ArrayVec;
 use lines::shown::shown;
 use reasons::{begin, text};
-use std::alloc::{AllocError, Global};
 use std::io::Write;
 use wishes::forms;
 use wishes::forms::Claim;
 use wishes::reading::{Wishes, WrongLine};
 
-// The time that a claim gives to an event.
-// Kept: nobody compares or prints it, and each further derive is one more function to prove.
-#[derive(Clone, Copy)]
-pub(crate) struct Timed {
-    pub(crate) event: usize,
-    pub(crate) time: i64,
-}
+// One constraint more than a chain has at most.
+const LINKS: usize = network::MAX_EVENTS + 1;
 
-// What was read: the times; the constraints of a chain; the first line that is wrong; and whether a line that says something was passed.
+// What was read: the times, in their order; the place of each event's time among them; the constraints of a chain, one past the limit at most; the first line that is
+// wrong; and whether a line that says something was passed.
 #[derive(Drop)]
 pub(crate) struct Claimed {
-    pub(crate) times: Vec<Timed>,
-    pub(crate) chain: Vec<u32>,
+    pub(crate) times: ArrayVec<i64, { network::MAX_EVENTS }>,
+    places: [Option<usize>; network::MAX_EVENTS],
+    pub(crate) chain: ArrayVec<u32, LINKS>,
     pub(crate) wrong: Option<usize>,
     begun: bool,
 }
@@ -34,31 +31,22 @@ fn say<E: Write>(err: &mut E, line: usize, words: &str, there: &[u8], but: &str)
     text(err, b"\n");
 }
 
-// The constraint in a line of the network, if there is one.
+// The constraint in a line of the network, if there is one. The constraints are in the order of their lines.
 fn in_line(wishes: &Wishes, line: u32) -> Option<usize> {
     wishes
         .constraints
-        .iter()
-        .position(|c| c.line == line as usize)
+        .binary_search_by_key(&(line as usize), |c| c.line)
+        .ok()
 }
 
 impl Claimed {
     // The place of an event's time among the times, if it has one.
-    // Kept: no map beside the list: renumbered needs an event's place in it, and a claim times each of at most 128 events once.
-    pub(crate) fn place_of(&self, event: usize) -> Option<usize> {
-        self.times.iter().position(|timed| timed.event == event)
+    pub(crate) fn place(&self, event: usize) -> Option<usize> {
+        self.places.get(event).copied()?
     }
 
     pub(crate) fn time_of(&self, event: usize) -> Option<i64> {
-        self.times
-            .iter()
-            .find(|timed| timed.event == event)
-            .map(|timed| timed.time)
-    }
-
-    // The times alone, in their order.
-    pub(crate) fn times(&self, alloc: Global) -> Result<Vec<i64>, AllocError> {
-        self.times.iter().map(|timed| timed.time).collect(alloc)
+        self.times.get(self.place(event)?).copied()
     }
 
     fn is_wrong(&mut self, line: usize) {
@@ -82,7 +70,7 @@ impl Claimed {
         name: &[u8],
         time: i64,
         line: usize,
-    ) -> Result<(), AllocError> {
+    ) {
         let Some(event) = wishes.event(name) else {
             say(
                 err,
@@ -92,9 +80,9 @@ impl Claimed {
                 ", but the network has no such event",
             );
             self.is_wrong(line);
-            return Ok(());
+            return;
         };
-        if self.place_of(event).is_some() {
+        if self.place(event).is_some() {
             say(
                 err,
                 line,
@@ -103,13 +91,15 @@ impl Claimed {
                 ", but a line before it did so too",
             );
             self.is_wrong(line);
-            return Ok(());
+            return;
         }
-        self.times.push(Timed { event, time })?;
-        Ok(())
+        if let Some(place) = self.places.get_mut(event) {
+            *place = Some(self.times.len());
+        }
+        let _ = self.times.try_push(time);
     }
 
-    // Takes in a constraint of a chain, by its line in the network.
+    // Takes in a constraint of a chain, by its line in the network. Past the limit none is kept, since no chain has so many.
     // Kept: take_time and say need the number without the content, and a WrongLine means a line that is wrong.
     fn take_link<E: Write>(
         &mut self,
@@ -118,7 +108,7 @@ impl Claimed {
         named: u32,
         content: &[u8],
         line: usize,
-    ) -> Result<(), AllocError> {
+    ) {
         let Some(k) = in_line(wishes, named) else {
             say(
                 err,
@@ -128,10 +118,9 @@ impl Claimed {
                 ", but there is no constraint in that line of the network",
             );
             self.is_wrong(line);
-            return Ok(());
+            return;
         };
-        self.chain.push(reasons::small(k))?;
-        Ok(())
+        let _ = self.chain.try_push(reasons::small(k));
     }
 
     fn take_line<E: Write>(
@@ -140,13 +129,13 @@ impl Claimed {
         wishes: &Wishes,
         content: &[u8],
         line: usize,
-    ) -> Result<(), AllocError> {
+    ) {
         match forms::claim_in(content) {
-            Claim::Nothing => return Ok(()),
+            Claim::Nothing => return,
             // The first line of an answer may be in front of the others.
             Claim::Head if !self.begun => {}
             Claim::Head | Claim::Wrong => self.bad_form(err, content, line),
-            Claim::Time(name, time) => self.take_time(err, wishes, name, time, line)?,
+            Claim::Time(name, time) => self.take_time(err, wishes, name, time, line),
             Claim::FarTime(number) => {
                 say(
                     err,
@@ -157,28 +146,23 @@ impl Claimed {
                 );
                 self.is_wrong(line);
             }
-            Claim::Line(named) => self.take_link(err, wishes, named, content, line)?,
+            Claim::Line(named) => self.take_link(err, wishes, named, content, line),
         }
         self.begun = true;
-        Ok(())
     }
 }
 
 // Reads a claim on a network that was read.
-pub(crate) fn read<E: Write>(
-    alloc: Global,
-    err: &mut E,
-    claim: &[u8],
-    wishes: &Wishes,
-) -> Result<Claimed, AllocError> {
+pub(crate) fn read<E: Write>(err: &mut E, claim: &[u8], wishes: &Wishes) -> Claimed {
     let mut got = Claimed {
-        times: Vec::new(alloc),
-        chain: Vec::new(alloc),
+        times: ArrayVec::new(),
+        places: [None; network::MAX_EVENTS],
+        chain: ArrayVec::new(),
         wrong: None,
         begun: false,
     };
     for (i, line) in claim.split(|byte| *byte == b'\n').enumerate() {
-        got.take_line(err, wishes, lines::content(line), i + 1)?;
+        got.take_line(err, wishes, lines::content(line), i + 1);
     }
-    Ok(got)
+    got
 }

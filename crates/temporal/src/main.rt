@@ -4,7 +4,6 @@
 #![tactic(auto)]
 
 use durable::FileRead;
-use std::alloc::Global;
 use std::env::Env;
 use std::io;
 use std::io::Write;
@@ -25,20 +24,19 @@ const ROOM: usize = wishes::MAX_BYTES + 1;
 
 // Solves a network, or judges the claim on it.
 fn answered<O: Write, E: Write>(
-    alloc: Global,
     out: &mut O,
     err: &mut E,
     network: &[u8],
     claim: Option<&[u8]>,
 ) -> io::Result<()> {
-    let wishes = reading::read(alloc, network)?;
-    if let Some(first) = wishes.wrong.first() {
-        sentences::wrong_lines(err, &wishes.wrong);
-        return out::refused_line(out, first.line);
+    let wishes = reading::read(network);
+    if let Some(line) = wishes.wrong {
+        sentences::wrong_lines(err, network);
+        return out::refused_line(out, line);
     }
-    let words = wishes.words(alloc, |event| event)?;
+    let words = wishes.words(|event| event);
     match claim {
-        Some(claim) => verdict::judged(alloc, out, err, &wishes, &words, claim),
+        Some(claim) => verdict::judged(out, err, &wishes, &words, claim),
         None => solution::solved(out, err, &wishes, &words),
     }
 }
@@ -47,7 +45,6 @@ fn answered<O: Write, E: Write>(
 // Kept: `durable::file` reads into lent bytes, and one byte past the longest text tells a longer one.
 fn on_claim<R: Files, O: Write, E: Write>(
     rt: &R,
-    alloc: Global,
     out: &mut O,
     err: &mut E,
     network: &[u8],
@@ -59,7 +56,7 @@ fn on_claim<R: Files, O: Write, E: Write>(
             sentences::too_long(out, err, "the claim")
         }
         FileRead::Bytes(claim) => {
-            answered(alloc, out, err, network, Some(lines::without_mark(claim)))
+            answered(out, err, network, Some(lines::without_mark(claim)))
         }
         FileRead::Missing => {
             durable::missing(err, path);
@@ -72,7 +69,6 @@ fn on_claim<R: Files, O: Write, E: Write>(
 // Kept: `input::standard` and `input::argument` read into lent bytes, and one byte past the longest text tells a longer one.
 fn run<R: Env + Files + Input, O: Write, E: Write>(
     rt: &R,
-    alloc: Global,
     out: &mut O,
     err: &mut E,
 ) -> io::Result<()> {
@@ -85,16 +81,16 @@ fn run<R: Env + Files + Input, O: Write, E: Write>(
     }
     let network = lines::without_mark(network);
     if !input::has_argument(rt, CLAIM_AT) {
-        return answered(alloc, out, err, network, None);
+        return answered(out, err, network, None);
     }
     let mut path = [0u8; 4096];
     match input::argument(rt, err, CLAIM_AT, &mut path, b"the path of the claim") {
-        Some(path) => on_claim(rt, alloc, out, err, network, path),
+        Some(path) => on_claim(rt, out, err, network, path),
         None => Ok(()),
     }
 }
 
 fn main(rt: HostRuntime) {
     let mut out = output::to(rt.stdout());
-    let _ = run(&rt, rt.alloc(), &mut out, &mut rt.stderr());
+    let _ = run(&rt, &mut out, &mut rt.stderr());
 }

@@ -5,6 +5,8 @@ use lines::shown::shown;
 use reasons::{begin, report, text};
 use std::io;
 use std::io::Write;
+use wishes::forms;
+use wishes::forms::Wish;
 use wishes::reading::{Wishes, WrongLine};
 
 // Says that a line has none of the forms that it may have.
@@ -16,15 +18,21 @@ pub(crate) fn wrong<E: Write>(err: &mut E, wrong: &WrongLine, of: &str, forms: &
     let _ = writeln!(err, ", but a line there is {forms}");
 }
 
-// Says of each line with none of the forms what is there.
-pub(crate) fn wrong_lines<E: Write>(err: &mut E, lines: &[WrongLine]) {
-    for line in lines {
-        wrong(
-            err,
-            line,
-            "network",
-            "TO - FROM <= NUMBER, TO - FROM >= NUMBER, event NAME or empty, with blanks between all words and whole numbers",
-        );
+// Says of each line with none of the forms what is there. The text is read again, since no such line is kept.
+pub(crate) fn wrong_lines<E: Write>(err: &mut E, network: &[u8]) {
+    for (i, line) in network.split(|byte| *byte == b'\n').enumerate() {
+        let content = lines::content(line);
+        if let Wish::Wrong = forms::wish_in(content) {
+            wrong(
+                err,
+                &WrongLine {
+                    line: i + 1,
+                    content,
+                },
+                "network",
+                "TO - FROM <= NUMBER, TO - FROM >= NUMBER, event NAME or empty, with blanks between all words and whole numbers",
+            );
+        }
     }
 }
 
@@ -40,7 +48,7 @@ fn too_many<E: Write>(err: &mut E, wishes: &Wishes) {
         text(err, b"\n");
         return;
     }
-    let count = wishes.constraints.len();
+    let count = wishes.constraint_count;
     let most = network::MAX_CONSTRAINTS;
     report(
         err,

@@ -2,10 +2,10 @@
 use crate::claim::Claimed;
 use crate::solution::{named, sum_of};
 use crate::{claim, out, sentences};
+use arrayvec::ArrayVec;
 use lines::shown::shown;
 use network::Network;
 use reasons::{begin, report, text};
-use std::alloc::{AllocError, Global};
 use std::io;
 use std::io::Write;
 use wishes::reading::{Constraint, Wishes};
@@ -14,9 +14,9 @@ use wishes::reading::{Constraint, Wishes};
 
 // The constraints with the events renumbered so that those with a time come first, in the order of the times. Any other event has the last number, which is past
 // the times.
-fn renumbered(alloc: Global, wishes: &Wishes, claimed: &Claimed) -> Result<Vec<i64>, AllocError> {
+fn renumbered(wishes: &Wishes, claimed: &Claimed) -> ArrayVec<i64, { wishes::KEPT_WORDS }> {
     let last = wishes.events.len().saturating_sub(1);
-    wishes.words(alloc, |event| claimed.place_of(event).unwrap_or(last))
+    wishes.words(|event| claimed.place(event).unwrap_or(last))
 }
 
 fn untimed<O: Write>(out: &mut O, wishes: &Wishes, event: usize) -> io::Result<()> {
@@ -43,15 +43,13 @@ fn but<O: Write>(
 }
 
 fn on_times<O: Write, E: Write>(
-    alloc: Global,
     out: &mut O,
     err: &mut E,
     wishes: &Wishes,
     claimed: &Claimed,
 ) -> io::Result<()> {
-    let words = renumbered(alloc, wishes, claimed)?;
-    let times = claimed.times(alloc)?;
-    match claims::test_times(wishes.events.len(), &words, &times) {
+    let words = renumbered(wishes, claimed);
+    match claims::test_times(wishes.events.len(), &words, &claimed.times) {
         Ok(None) => out.write_all(b"kept\nstatus 0\n"),
         Ok(Some(k)) => {
             out.write_all(b"broken\n")?;
@@ -70,11 +68,13 @@ fn on_times<O: Write, E: Write>(
 // The first constraint of a chain that does not end where the next one begins, and that next one.
 // Kept: after the last comes the first, which `windows` does not give; a zip with cycle and skip would end only by its shorter side.
 fn unlinked<'w, 'a>(
-    links: &[&'w Constraint<'a>],
+    wishes: &'w Wishes<'a>,
+    chain: &[u32],
 ) -> Option<(&'w Constraint<'a>, &'w Constraint<'a>)> {
-    let first = links.first()?;
-    for (i, link) in links.iter().enumerate() {
-        let next = links.get(i + 1).unwrap_or(first);
+    let first = chain.first()?;
+    for (i, k) in chain.iter().enumerate() {
+        let link = named(wishes, *k)?;
+        let next = named(wishes, *chain.get(i + 1).unwrap_or(first))?;
         if link.to != next.from {
             return Some((link, next));
         }
@@ -95,10 +95,15 @@ fn say_unlinked<E: Write>(err: &mut E, wishes: &Wishes, link: &Constraint, next:
 
 // The first event that two constraints of a chain begin at.
 // Kept: each link is held against those before it; a find would nest a second closure and give the link, of which the event is taken again.
-fn repeated(links: &[&Constraint]) -> Option<usize> {
-    for (i, link) in links.iter().enumerate() {
-        let event = link.from;
-        if links.iter().take(i).any(|before| before.from == event) {
+fn repeated(wishes: &Wishes, chain: &[u32]) -> Option<usize> {
+    for (i, k) in chain.iter().enumerate() {
+        let event = named(wishes, *k)?.from;
+        if chain
+            .iter()
+            .take(i)
+            .filter_map(|k| named(wishes, *k))
+            .any(|before| before.from == event)
+        {
             return Some(event);
         }
     }
@@ -113,42 +118,31 @@ fn say_repeated<E: Write>(err: &mut E, wishes: &Wishes, event: usize) {
 }
 
 // Says why this is no chain.
-fn say_why<E: Write>(
-    alloc: Global,
-    err: &mut E,
-    wishes: &Wishes,
-    chain: &[u32],
-) -> Result<(), AllocError> {
+fn say_why<E: Write>(err: &mut E, wishes: &Wishes, chain: &[u32]) {
     if network::MAX_EVENTS < chain.len() {
         let most = network::MAX_EVENTS;
         report(
             err,
             format_args!("there are more than {most} constraints, but a chain has no event twice"),
         );
-        return Ok(());
+        return;
     }
-    let links: Vec<&Constraint> = chain
-        .iter()
-        .filter_map(|k| named(wishes, *k))
-        .collect(alloc)?;
-    if let Some((link, next)) = unlinked(&links) {
+    if let Some((link, next)) = unlinked(wishes, chain) {
         say_unlinked(err, wishes, link, next);
-        return Ok(());
+        return;
     }
-    if let Some(event) = repeated(&links) {
+    if let Some(event) = repeated(wishes, chain) {
         say_repeated(err, wishes, event);
-        return Ok(());
+        return;
     }
     let sum = sum_of(wishes, chain);
     report(
         err,
         format_args!("the sum is {sum}, but that of a chain is below 0"),
     );
-    Ok(())
 }
 
 fn on_chain<O: Write, E: Write>(
-    alloc: Global,
     out: &mut O,
     err: &mut E,
     wishes: &Wishes,
@@ -158,7 +152,7 @@ fn on_chain<O: Write, E: Write>(
     match claims::test_chain(wishes.events.len(), words, chain) {
         Ok(true) => out.write_all(b"chain\nstatus 0\n"),
         Ok(false) => {
-            say_why(alloc, err, wishes, chain)?;
+            say_why(err, wishes, chain);
             out.write_all(b"no chain\nstatus 1\n")
         }
         Err(refusal) => sentences::refused(out, err, wishes, refusal),
@@ -174,7 +168,6 @@ fn refused_claim<O: Write, E: Write>(out: &mut O, err: &mut E, why: &str) -> io:
 
 // Judges a claim on a network. Where the network is refused, the claim is not read.
 pub(crate) fn judged<O: Write, E: Write>(
-    alloc: Global,
     out: &mut O,
     err: &mut E,
     wishes: &Wishes,
@@ -184,7 +177,7 @@ pub(crate) fn judged<O: Write, E: Write>(
     if let Err(refusal) = Network::judge(wishes.events.len(), words) {
         return sentences::refused(out, err, wishes, refusal);
     }
-    let claimed = claim::read(alloc, err, claim, wishes)?;
+    let claimed = claim::read(err, claim, wishes);
     if let Some(line) = claimed.wrong {
         return out::refused_line(out, line);
     }
@@ -199,7 +192,7 @@ pub(crate) fn judged<O: Write, E: Write>(
             err,
             "the claim has lines time NAME NUMBER and lines line N:, and only one of the two may be there",
         ),
-        (false, true) => on_times(alloc, out, err, wishes, &claimed),
-        (true, false) => on_chain(alloc, out, err, wishes, words, &claimed.chain),
+        (false, true) => on_times(out, err, wishes, &claimed),
+        (true, false) => on_chain(out, err, wishes, words, &claimed.chain),
     }
 }

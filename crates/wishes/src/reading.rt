@@ -1,11 +1,12 @@
 //! A network read from its text.
 use crate::forms;
 use crate::forms::{Between, Wish};
-use std::alloc::{AllocError, Global};
+use crate::{KEPT_CONSTRAINTS, KEPT_EVENTS, KEPT_WORDS};
+use arrayvec::ArrayVec;
 
 /// The time of event `to` minus the time of event `from` is at most `most`, as a line says.
 // Kept: nobody compares or prints it as a whole, and each further derive is one more function to prove.
-#[derive(Clone, Copy)]
+#[derive(Clone, Copy, Default)]
 pub struct Constraint<'a> {
     pub from: usize,
     pub to: usize,
@@ -24,12 +25,14 @@ pub struct WrongLine<'a> {
     pub content: &'a [u8],
 }
 
-/// What was read: the names of the events, one past the limit at most; the constraints; and the lines that have none of the forms.
+/// What was read: the names of the events and the constraints, one past the limit of each at most; how many constraints there are; and the first line that has none
+/// of the forms.
 #[derive(Drop)]
 pub struct Wishes<'a> {
-    pub events: Vec<&'a [u8]>,
-    pub constraints: Vec<Constraint<'a>>,
-    pub wrong: Vec<WrongLine<'a>>,
+    pub events: ArrayVec<&'a [u8], KEPT_EVENTS>,
+    pub constraints: ArrayVec<Constraint<'a>, KEPT_CONSTRAINTS>,
+    pub constraint_count: usize,
+    pub wrong: Option<usize>,
 }
 
 // A number as a word of the solver's. No text has as many events as an i64 has values.
@@ -51,74 +54,69 @@ impl<'a> Wishes<'a> {
     }
 
     // The event that a line names. A new name gets the next number. Past the limit no name is kept, since a network with so many events is refused.
-    fn named(&mut self, name: &'a [u8]) -> Result<usize, AllocError> {
+    fn named(&mut self, name: &'a [u8]) -> usize {
         if let Some(event) = self.event(name) {
-            return Ok(event);
+            return event;
         }
         let event = self.events.len();
-        if event <= network::MAX_EVENTS {
-            self.events.push(name)?;
-        }
-        Ok(event)
+        let _ = self.events.try_push(name);
+        event
     }
 
-    fn take_constraint(&mut self, between: Between<'a>, line: usize) -> Result<(), AllocError> {
-        let first = self.named(between.first)?;
-        let second = self.named(between.second)?;
+    // Past the limit no constraint is kept, and it counts alone.
+    fn take_constraint(&mut self, between: Between<'a>, line: usize) {
+        let first = self.named(between.first);
+        let second = self.named(between.second);
         let (from, to) = if between.is_turned {
             (first, second)
         } else {
             (second, first)
         };
-        self.constraints.push(Constraint {
+        let _ = self.constraints.try_push(Constraint {
             from,
             to,
             most: between.most,
             line,
             number: between.number,
-        })?;
-        Ok(())
+        });
+        self.constraint_count = self.constraint_count.saturating_add(1);
     }
 
-    fn take_line(&mut self, content: &'a [u8], line: usize) -> Result<(), AllocError> {
+    fn take_line(&mut self, content: &'a [u8], line: usize) {
         match forms::wish_in(content) {
             Wish::Nothing => {}
             Wish::Event(name) => {
-                self.named(name)?;
+                self.named(name);
             }
-            Wish::Constraint(between) => self.take_constraint(between, line)?,
-            Wish::Wrong => self.wrong.push(WrongLine { line, content })?,
+            Wish::Constraint(between) => self.take_constraint(between, line),
+            Wish::Wrong => self.wrong = self.wrong.or(Some(line)),
         }
-        Ok(())
     }
 
     /// The constraints as the solver takes them, each event by a number that it is given.
-    pub fn words<F: Fn(usize) -> usize>(
-        &self,
-        alloc: Global,
-        number: F,
-    ) -> Result<Vec<i64>, AllocError>
+    pub fn words<F: Fn(usize) -> usize>(&self, number: F) -> ArrayVec<i64, KEPT_WORDS>
         requires { F.IsAlwaysCallable number }
     {
-        let mut words = Vec::new(alloc);
+        let mut words = ArrayVec::new();
         for c in &self.constraints {
-            words.push(word(number(c.from)))?;
-            words.push(word(number(c.to)))?;
-            words.push(c.most)?;
+            let _ = words.try_push(word(number(c.from)));
+            let _ = words.try_push(word(number(c.to)));
+            let _ = words.try_push(c.most);
         }
-        Ok(words)
+        words
     }
 }
 
 /// Internal: reads a network.
-pub fn read<'a>(alloc: Global, text: &'a [u8]) -> Result<Wishes<'a>, AllocError> {
+pub fn read<'a>(text: &'a [u8]) -> Wishes<'a> {
     let mut wishes = Wishes {
-        events: Vec::new(alloc),
-        constraints: Vec::new(alloc),
-        wrong: Vec::new(alloc),
+        events: ArrayVec::new(),
+        constraints: ArrayVec::new(),
+        constraint_count: 0,
+        wrong: None,
     };
     for (i, line) in text.split(|byte| *byte == b'\n').enumerate() {
-        wishes.take_line(lines::content(line), i + 1)?;
+        wishes.take_line(lines::content(line), i + 1);
     }
-    Ok(wishes)
+    wishes
 }
