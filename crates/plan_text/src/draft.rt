@@ -1,11 +1,11 @@
 //! A draft: the records of a plan and the names of its nodes and streams.
 use crate::fault::Fault;
+use arrayvec::ArrayVec;
 use reasons::{records, small};
-use std::alloc::{AllocError, Global};
 use table::{Leg, Link, Stream};
 
 /// A node that has a name. The number is declared where a line of its own gave it.
-#[derive(Clone, Copy, Debug, PartialEq, Eq)]
+#[derive(Clone, Copy, Debug, Default, PartialEq, Eq)]
 pub(crate) struct Node<'t> {
     pub(crate) name: &'t [u8],
     pub(crate) number: u32,
@@ -13,7 +13,7 @@ pub(crate) struct Node<'t> {
 }
 
 /// A stream, and its name if it has one.
-#[derive(Clone, Copy, Debug, PartialEq, Eq)]
+#[derive(Clone, Copy, Debug, Default, PartialEq, Eq)]
 pub(crate) struct NamedStream<'t> {
     pub(crate) name: Option<&'t [u8]>,
     pub(crate) record: Stream,
@@ -33,73 +33,83 @@ pub(crate) enum Between {
 pub struct Draft<'t> {
     pub(crate) revision: u32,
     pub(crate) precision: u32,
-    pub(crate) nodes: Vec<Node<'t>>,
-    pub(crate) links: Vec<Link>,
-    pub(crate) streams: Vec<NamedStream<'t>>,
-    pub(crate) legs: Vec<Leg>,
+    pub(crate) nodes: ArrayVec<Node<'t>, { crate::MAX_NAMED }>,
+    pub(crate) links: ArrayVec<Link, { table::MAX_LINKS }>,
+    pub(crate) streams: ArrayVec<NamedStream<'t>, { table::MAX_STREAMS }>,
+    pub(crate) legs: ArrayVec<Leg, { table::MAX_LEGS }>,
     /// No number below it is free for a name.
     lowest_free: u32,
 }
 
 impl<'t> Draft<'t> {
     /// A draft with no record.
-    pub(crate) fn empty(alloc: Global) -> Draft<'t> {
+    pub(crate) fn empty() -> Draft<'t> {
         Draft {
             revision: 0,
             precision: 0,
-            nodes: Vec::new(alloc),
-            links: Vec::new(alloc),
-            streams: Vec::new(alloc),
-            legs: Vec::new(alloc),
+            nodes: ArrayVec::new(),
+            links: ArrayVec::new(),
+            streams: ArrayVec::new(),
+            legs: ArrayVec::new(),
             lowest_free: 0,
         }
     }
 
-    /// The draft of a table, with no names.
+    /// The draft of a table, with no names. Records past what a plan may have are left out.
     // Kept: records::link_at takes a number; the parts of a table ask that it has its size, which this public call does not.
-    pub fn of_table(alloc: Global, t: &[u32]) -> Result<Draft<'t>, AllocError> {
-        let mut draft = Draft::empty(alloc);
+    pub fn of_table(t: &[u32]) -> Draft<'t> {
+        let mut draft = Draft::empty();
         draft.revision = records::header_word(t, table::REVISION_AT);
         draft.precision = records::header_word(t, table::PRECISION_AT);
         for i in 0..records::header_word(t, table::LINKS_AT) {
-            draft.links.push(records::link_at(t, i))?;
+            if draft.links.try_push(records::link_at(t, i)).is_err() {
+                break;
+            }
         }
         for i in 0..records::header_word(t, table::STREAMS_AT) {
             let record = records::stream_at(t, i);
-            draft.streams.push(NamedStream { name: None, record })?;
+            let stream = NamedStream { name: None, record };
+            if draft.streams.try_push(stream).is_err() {
+                break;
+            }
         }
         for a in 0..records::header_word(t, table::LEGS_AT) {
-            draft.legs.push(records::leg_at(t, a))?;
+            if draft.legs.try_push(records::leg_at(t, a)).is_err() {
+                break;
+            }
         }
-        Ok(draft)
+        draft
     }
 
-    /// The table of the draft.
-    pub fn table(&self, alloc: Global) -> Result<Vec<u32>, AllocError> {
-        let mut words = vec![in alloc;
+    /// The table of the draft, which has room: no part has more records than a plan may have.
+    pub fn table(&self) -> ArrayVec<u32, { table::MAX_TABLE_WORDS }> {
+        let mut words = ArrayVec::new();
+        let _ = words.try_extend_from_slice(&[
             self.revision,
             small(self.links.len()),
             small(self.streams.len()),
             small(self.legs.len()),
             self.precision,
-        ]?;
-        for l in &self.links {
-            words.extend_from_slice(&[l.from, l.to, l.rate, l.propagation])?;
+        ]);
+        for l in self.links.as_slice() {
+            let _ = words.try_extend_from_slice(&[l.from, l.to, l.rate, l.propagation]);
         }
-        for stream in &self.streams {
+        for stream in self.streams.as_slice() {
             let s = stream.record;
-            words.extend_from_slice(&[s.period, s.deadline, s.octets, s.first, s.count])?;
+            let _ = words.try_extend_from_slice(&[
+                s.period, s.deadline, s.octets, s.first, s.count,
+            ]);
         }
-        for l in &self.legs {
-            words.extend_from_slice(&[l.stream, l.link, l.offset, l.periods])?;
+        for l in self.legs.as_slice() {
+            let _ = words.try_extend_from_slice(&[l.stream, l.link, l.offset, l.periods]);
         }
-        Ok(words)
+        words
     }
 
     /// Takes revision, offsets and period words from a table that is the same but for them.
     pub(crate) fn moved_to(&mut self, t: &[u32]) {
         self.revision = records::header_word(t, table::REVISION_AT);
-        for (leg, a) in self.legs.iter_mut().zip(0..u32::MAX) {
+        for (leg, a) in self.legs.as_mut_slice().iter_mut().zip(0..u32::MAX) {
             *leg = records::leg_at(t, a);
         }
     }
@@ -176,10 +186,9 @@ impl<'t> Draft<'t> {
 
     /// Gives a node a name.
     pub(crate) fn name_node(&mut self, node: Node<'t>) -> Result<u32, Fault<'t>> {
-        if crate::MAX_NAMED <= self.nodes.len() {
-            return Err(Fault::TooManyNames(node.name));
-        }
-        self.nodes.push(node)?;
+        self.nodes
+            .try_push(node)
+            .map_err(|_| Fault::TooManyNames(node.name))?;
         Ok(node.number)
     }
 }

@@ -1,7 +1,6 @@
 //! What is wrong with a line. The first fault of a line is said, and no other.
 use lines::shown::shown;
-use std::alloc::{AllocError, AllocFailed};
-use std::io;
+use std::fmt;
 use std::io::Write;
 
 /// A fault, with the words and numbers that its sentence shows.
@@ -27,106 +26,107 @@ pub(crate) enum Fault<'t> {
     /// No link goes from a node to another.
     NoLink(&'t [u8], &'t [u8]),
     ManyLinks(&'t [u8], &'t [u8]),
-    /// There is no memory to read the line: whoever reads stops.
-    NoMemory,
 }
 
-impl From<AllocError> for Fault<'_> {
-    fn from(_: AllocError) -> Self {
-        Fault::NoMemory
-    }
+/// Says a part of a sentence. What cannot be written is lost, and the part after it is tried all the same.
+fn say<E: Write, D: fmt::Display + Drop>(err: &mut E, part: D) {
+    let _ = write!(err, "{part}");
 }
 
-impl<T: Drop> From<AllocFailed<T>> for Fault<'_> {
-    fn from(_: AllocFailed<T>) -> Self {
-        Fault::NoMemory
-    }
-}
-
-// What stands somewhere, where the line may have ended.
-fn stands<E: Write>(err: &mut E, word: &[u8]) -> io::Result<()> {
+/// What stands somewhere, where the line may have ended.
+fn stands<E: Write>(err: &mut E, word: &[u8]) {
     if word.is_empty() {
-        return err.write_all(b"the end of the line");
+        say(err, "the end of the line");
+    } else {
+        shown(err, word);
     }
-    shown(err, word);
-    Ok(())
 }
 
-// The two ends of a link.
-fn ends<E: Write>(err: &mut E, from: &[u8], to: &[u8]) -> io::Result<()> {
+/// The two ends of a link.
+fn ends<E: Write>(err: &mut E, from: &[u8], to: &[u8]) {
     shown(err, from);
-    err.write_all(b" to ")?;
+    say(err, " to ");
     shown(err, to);
-    Ok(())
 }
 
 // Kept: a line and a name are bytes of any kind, which Display, a text of characters, cannot write.
 impl Fault<'_> {
     /// Says what is wrong with the line of a number.
-    pub(crate) fn say<E: Write>(&self, err: &mut E, line: u32) -> io::Result<()> {
-        write!(err, "conepalhui: line {line}: ")?;
+    pub(crate) fn say<E: Write>(&self, err: &mut E, line: u32) {
+        reasons::begin(err);
+        say(err, "line ");
+        say(err, line);
+        say(err, ": ");
         match *self {
             Fault::Word(word, sentence) => {
-                stands(err, word)?;
-                err.write_all(sentence.as_bytes())?;
+                stands(err, word);
+                say(err, sentence);
             }
-            Fault::Line(sentence) => err.write_all(sentence.as_bytes())?,
+            Fault::Line(sentence) => say(err, sentence),
             Fault::TooMany(kind, most) => {
-                write!(err, "one {kind} too many: expected at most {most} {kind}s")?;
+                say(err, "one ");
+                say(err, kind);
+                say(err, " too many: expected at most ");
+                say(err, most);
+                say(err, " ");
+                say(err, kind);
+                say(err, "s");
             }
-            Fault::TooManyWords(words) => write!(
-                err,
-                "the line has {words} words: expected a record with its fields, each once"
-            )?,
+            Fault::TooManyWords(words) => {
+                say(err, "the line has ");
+                say(err, words);
+                say(err, " words: expected a record with its fields, each once");
+            }
             Fault::TooManyNames(name) => {
                 shown(err, name);
-                write!(
-                    err,
-                    " is one name too many: expected names for at most {} nodes",
-                    crate::MAX_NAMED
-                )?;
+                say(err, " is one name too many: expected names for at most ");
+                say(err, crate::MAX_NAMED);
+                say(err, " nodes");
             }
             Fault::Precision(ns) => {
-                write!(err, "the precision is {ns}ns: expected at most 1ms")?;
+                say(err, "the precision is ");
+                say(err, ns);
+                say(err, "ns: expected at most 1ms");
             }
             Fault::NameOfNode(name, node) => {
                 shown(err, name);
-                write!(
+                say(err, " is node ");
+                say(err, node);
+                say(
                     err,
-                    " is node {node} already: expected each name for one node, and declared above its first use"
-                )?;
+                    " already: expected each name for one node, and declared above its first use",
+                );
             }
             Fault::NameOfStream(name, stream) => {
                 shown(err, name);
-                write!(
-                    err,
-                    " is stream {stream} already: expected each name for one stream"
-                )?;
+                say(err, " is stream ");
+                say(err, stream);
+                say(err, " already: expected each name for one stream");
             }
             Fault::NotOwnNumber(word, own) => {
                 shown(err, word);
-                write!(
-                    err,
-                    " is not the number of this stream: expected {own}, or a name, which does not begin with a digit"
-                )?;
+                say(err, " is not the number of this stream: expected ");
+                say(err, own);
+                say(err, ", or a name, which does not begin with a digit");
             }
             Fault::Named(node, name, sentence) => {
-                write!(err, "node {node} is ")?;
+                say(err, "node ");
+                say(err, node);
+                say(err, " is ");
                 shown(err, name);
-                err.write_all(sentence.as_bytes())?;
+                say(err, sentence);
             }
             Fault::NoLink(from, to) => {
-                err.write_all(b"no link goes from ")?;
-                ends(err, from, to)?;
-                err.write_all(b": expected the ends of a link above")?;
+                say(err, "no link goes from ");
+                ends(err, from, to);
+                say(err, ": expected the ends of a link above");
             }
             Fault::ManyLinks(from, to) => {
-                err.write_all(b"more than one link goes from ")?;
-                ends(err, from, to)?;
-                err.write_all(b": expected the number of one, as in leg link 7")?;
+                say(err, "more than one link goes from ");
+                ends(err, from, to);
+                say(err, ": expected the number of one, as in leg link 7");
             }
-            Fault::NoMemory => err.write_all(b"there is no memory to read it")?,
         }
-        err.write_all(b"\n")
+        say(err, "\n");
     }
 }

@@ -1,10 +1,12 @@
 //! The fields of a record: a name and its value, in any order. A field that a later version adds has a default, so that an older text means what it meant.
 use crate::fault::Fault;
 use decimal::DecimalError;
+use lines::words;
+use lines::words::FirstWords;
 use units::TimeError;
 
-/// More words than any record has.
-const MOST_WORDS: usize = 24;
+/// More words than any record has. So many of a line are kept.
+const MOST_WORDS: usize = words::KEPT;
 
 /// The records that have fields.
 #[derive(Clone, Copy, Debug, PartialEq, Eq)]
@@ -65,13 +67,13 @@ impl Fields {
     pub(crate) fn read<'t>(
         &mut self,
         record: Record,
-        words: &[&'t [u8]],
+        words: &FirstWords<'t>,
         from: usize,
     ) -> Result<(), Fault<'t>> {
-        if MOST_WORDS < words.len() {
-            return Err(Fault::TooManyWords(words.len()));
+        if MOST_WORDS < words.count {
+            return Err(Fault::TooManyWords(words.count));
         }
-        for pair in words.get(from..).unwrap_or(&[]).chunks(2) {
+        for pair in words.first.as_slice().get(from..).unwrap_or(&[]).chunks(2) {
             let [name, value @ ..] = pair else {
                 return Ok(());
             };

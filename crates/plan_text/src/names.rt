@@ -3,7 +3,6 @@ ghost use Rattle.std.specs.Prelude.{◌≤◌, length};
 
 use crate::{Draft, read};
 use durable::FileRead;
-use std::alloc::Global;
 use std::io;
 use std::io::Write;
 use std::rt::Files;
@@ -21,16 +20,18 @@ pub fn path_of<'a>(plan: &[u8], room: &'a mut [u8]) -> &'a [u8]
 }
 
 /// A file of names that was read.
-#[derive(Drop)]
-struct NamesFile {
-    path: Vec<u8>,
-    text: Vec<u8>,
+// Kept: nobody compares or prints it, and each further derive is one more function to prove.
+#[derive(Clone, Copy)]
+struct NamesFile<'r> {
+    path: &'r [u8],
+    text: &'r [u8],
 }
 
 /// The names that stand beside a plan file, if there are some.
-#[derive(Drop)]
-pub struct Names {
-    file: Option<NamesFile>,
+// Kept: nobody compares or prints it, and each further derive is one more function to prove.
+#[derive(Clone, Copy)]
+pub struct Names<'r> {
+    file: Option<NamesFile<'r>>,
 }
 
 /// Prints why numbers are used in place of the names that a path leads to.
@@ -40,93 +41,76 @@ fn report<E: Write>(err: &mut E, path: &[u8], sentence: &[u8]) {
     reasons::text(err, sentence);
 }
 
-impl Names {
+impl<'r> Names<'r> {
     /// No names.
-    pub fn none() -> Names {
+    pub fn none() -> Names<'r> {
         Names { file: None }
     }
 
-    /// Reads the names beside a plan file.
-    // Kept: path_of and durable::file fill lent bytes; a text that is too long must be seen, so it has TEXT_ROOM and is cut to what was read.
+    /// Reads the names beside a plan file, into a lent path of `MAX_PATH` bytes and a lent text of `TEXT_ROOM`, so that a text that is too long is seen.
     pub fn beside<R: Files, E: Write>(
-        alloc: Global,
         rt: &R,
         err: &mut E,
         plan: &[u8],
-    ) -> io::Result<Names> {
-        let mut room = [0u8; MAX_PATH];
-        let mut path = Vec::new(alloc);
-        path.extend_from_slice(path_of(plan, &mut room))?;
-        let mut text = vec![in alloc; 0u8; crate::TEXT_ROOM]?;
-        let n = match durable::file(rt, err, &path, &mut text) {
-            FileRead::Bytes(bytes) => bytes.len(),
-            FileRead::Missing => return Ok(Names::none()),
+        path: &'r mut [u8],
+        text: &'r mut [u8],
+    ) -> Names<'r> {
+        let path = path_of(plan, path);
+        match durable::file(rt, err, path, text) {
+            FileRead::Bytes(text) => Names {
+                file: Some(NamesFile { path, text }),
+            },
+            FileRead::Missing => Names::none(),
             FileRead::Failed => {
-                report(
-                    err,
-                    &path,
-                    b" cannot be read: numbers are used in place of names\n",
-                );
-                return Ok(Names::none());
+                report(err, path, b" cannot be read: numbers are used in place of names\n");
+                Names::none()
             }
-        };
-        text.truncate(n);
-        Ok(Names {
-            file: Some(NamesFile { path, text }),
-        })
+        }
     }
 
     /// The draft of a table, with these names if they are of this plan.
-    pub fn draft<'t, E: Write>(
-        &'t self,
-        alloc: Global,
-        err: &mut E,
-        t: &[u32],
-    ) -> io::Result<Draft<'t>> {
-        if let Some(file) = &self.file {
-            if let Some(mut draft) = file.draft(alloc, err, t)? {
+    pub fn draft<E: Write>(&self, err: &mut E, t: &[u32]) -> Draft<'r> {
+        if let Some(file) = self.file {
+            if let Some(mut draft) = file.draft(err, t) {
                 draft.moved_to(t);
-                return Ok(draft);
+                return draft;
             }
         }
-        Ok(Draft::of_table(alloc, t)?)
+        Draft::of_table(t)
     }
 }
 
-impl NamesFile {
+impl<'r> NamesFile<'r> {
     /// The draft of the text, if it is of this plan.
-    fn draft<'t, E: Write>(
-        &'t self,
-        alloc: Global,
-        err: &mut E,
-        t: &[u32],
-    ) -> io::Result<Option<Draft<'t>>> {
+    fn draft<E: Write>(self, err: &mut E, t: &[u32]) -> Option<Draft<'r>> {
         if crate::MAX_BYTES < self.text.len() {
             report(
                 err,
-                &self.path,
+                self.path,
                 b" has more than 262144 bytes: numbers are used in place of its names\n",
             );
-            return Ok(None);
+            return None;
         }
-        match read(alloc, &mut io::sink(), &self.text)? {
+        match read(&mut io::sink(), self.text) {
             Ok(draft) => {
-                if is_same_but_moved(t, &draft.table(alloc)?) {
-                    return Ok(Some(draft));
+                if is_same_but_moved(t, draft.table().as_slice()) {
+                    return Some(draft);
                 }
                 report(
                     err,
-                    &self.path,
+                    self.path,
                     b" is of another plan: numbers are used in place of its names\n",
                 );
-                Ok(None)
+                None
             }
             Err(wrong) => {
                 reasons::begin(err);
-                let _ = write!(err, "line {} of ", wrong.first);
-                reasons::text(err, &self.path);
+                reasons::text(err, b"line ");
+                let _ = write!(err, "{}", wrong.first);
+                reasons::text(err, b" of ");
+                reasons::text(err, self.path);
                 reasons::text(err, b" is wrong: numbers are used in place of its names\n");
-                Ok(None)
+                None
             }
         }
     }

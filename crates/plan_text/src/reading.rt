@@ -4,8 +4,6 @@ use crate::fault::Fault;
 use crate::records::{Above, Reader};
 use lines::content;
 use lines::words::{has_control, words};
-use std::alloc::{AllocError, Global};
-use std::io;
 use std::io::Write;
 
 /// How many lines of a text are wrong, and the first of them, counted from 1.
@@ -16,9 +14,9 @@ pub struct WrongLines {
 }
 
 impl<'t> Reader<'t> {
-    fn read_line(&mut self, alloc: Global, line: &'t [u8]) -> Result<(), Fault<'t>> {
-        let words = words(alloc, line)?;
-        if words.is_empty() {
+    fn read_line(&mut self, line: &'t [u8]) -> Result<(), Fault<'t>> {
+        let words = words(line);
+        if words.first.is_empty() {
             return Ok(());
         }
         if has_control(line) {
@@ -34,39 +32,31 @@ impl<'t> Reader<'t> {
 }
 
 /// Reads a text into a draft, or answers which lines are wrong. What is wrong with each is said on the writer.
-pub fn read<'t, E: Write>(
-    alloc: Global,
-    err: &mut E,
-    text: &'t [u8],
-) -> io::Result<Result<Draft<'t>, WrongLines>> {
+pub fn read<'t, E: Write>(err: &mut E, text: &'t [u8]) -> Result<Draft<'t>, WrongLines> {
     let mut reader = Reader {
-        draft: Draft::empty(alloc),
+        draft: Draft::empty(),
         above: Above::Nothing,
         is_begun: false,
     };
     let mut wrong: Option<WrongLines> = None;
     let lines = lines::without_mark(text).split(|byte| *byte == b'\n');
     for (line, number) in lines.zip(1..u32::MAX) {
-        match reader.read_line(alloc, content(line)) {
-            Ok(()) => {}
-            Err(Fault::NoMemory) => return Err(io::Error::from(AllocError)),
-            Err(fault) => {
-                let _ = fault.say(err, number);
-                wrong = Some(match wrong {
-                    None => WrongLines {
-                        count: 1,
-                        first: number,
-                    },
-                    Some(before) => WrongLines {
-                        count: before.count.saturating_add(1),
-                        ..before
-                    },
-                });
-            }
+        if let Err(fault) = reader.read_line(content(line)) {
+            fault.say(err, number);
+            wrong = Some(match wrong {
+                None => WrongLines {
+                    count: 1,
+                    first: number,
+                },
+                Some(before) => WrongLines {
+                    count: before.count.saturating_add(1),
+                    ..before
+                },
+            });
         }
     }
     match wrong {
-        None => Ok(Ok(reader.draft)),
-        Some(wrong) => Ok(Err(wrong)),
+        None => Ok(reader.draft),
+        Some(wrong) => Err(wrong),
     }
 }

@@ -3,6 +3,7 @@ use crate::draft::{Between, Draft, NamedStream, Node};
 use crate::fault::Fault;
 use crate::fields::{Fields, Record, needs};
 use decimal::DecimalError;
+use lines::words::FirstWords;
 use reasons::small;
 use table::{Leg, Link, Stream};
 
@@ -28,8 +29,8 @@ pub(crate) struct Reader<'t> {
 
 /// The word of an index, or nothing.
 // Kept: no word of a line is empty, and to Fault an empty one is the end of the line; an Option would be unwrapped to that at each call.
-fn word<'t>(words: &[&'t [u8]], i: usize) -> &'t [u8] {
-    words.get(i).copied().unwrap_or(&[])
+fn word<'t>(words: &FirstWords<'t>, i: usize) -> &'t [u8] {
+    words.first.as_slice().get(i).copied().unwrap_or(&[])
 }
 
 /// Whether a word begins with a digit, as a number does and no name.
@@ -53,7 +54,7 @@ fn judge_name(word: &[u8]) -> Result<(), Fault<'_>> {
 
 impl<'t> Reader<'t> {
     /// Reads the words of a line, of which there is one at least.
-    pub(crate) fn record(&mut self, words: &[&'t [u8]]) -> Result<(), Fault<'t>> {
+    pub(crate) fn record(&mut self, words: &FirstWords<'t>) -> Result<(), Fault<'t>> {
         match word(words, 0) {
             b"leg" => self.leg(words),
             b"stream" => self.stream(words),
@@ -68,7 +69,7 @@ impl<'t> Reader<'t> {
         }
     }
 
-    fn plan(&mut self, words: &[&'t [u8]]) -> Result<(), Fault<'t>> {
+    fn plan(&mut self, words: &FirstWords<'t>) -> Result<(), Fault<'t>> {
         if self.is_begun {
             return Err(Fault::Word(
                 word(words, 0),
@@ -89,8 +90,8 @@ impl<'t> Reader<'t> {
     // ---- Nodes
 
     /// A line that declares a name: node NAME NUMBER.
-    fn node(&mut self, words: &[&'t [u8]]) -> Result<(), Fault<'t>> {
-        if let Some(more) = words.get(3) {
+    fn node(&mut self, words: &FirstWords<'t>) -> Result<(), Fault<'t>> {
+        if let Some(more) = words.first.as_slice().get(3) {
             return Err(Fault::Word(more, " is one word too many: expected node NAME NUMBER"));
         }
         let name = word(words, 1);
@@ -183,7 +184,7 @@ impl<'t> Reader<'t> {
 
     // ---- Links
 
-    fn link(&mut self, words: &[&'t [u8]]) -> Result<(), Fault<'t>> {
+    fn link(&mut self, words: &FirstWords<'t>) -> Result<(), Fault<'t>> {
         let arrow = word(words, 2);
         if arrow != ARROW {
             return Err(Fault::Word(
@@ -205,17 +206,16 @@ impl<'t> Reader<'t> {
     }
 
     fn add_link(&mut self, link: Link) -> Result<(), Fault<'t>> {
-        if table::MAX_LINKS <= self.draft.links.len() {
-            return Err(Fault::TooMany("link", table::MAX_LINKS));
-        }
-        self.draft.links.push(link)?;
-        Ok(())
+        self.draft
+            .links
+            .try_push(link)
+            .map_err(|_| Fault::TooMany("link", table::MAX_LINKS))
     }
 
     // ---- Streams
 
-    fn stream(&mut self, words: &[&'t [u8]]) -> Result<(), Fault<'t>> {
-        if table::MAX_STREAMS <= self.draft.streams.len() {
+    fn stream(&mut self, words: &FirstWords<'t>) -> Result<(), Fault<'t>> {
+        if self.draft.streams.is_full() {
             return Err(Fault::TooMany("stream", table::MAX_STREAMS));
         }
         let mut fields = Fields::default();
@@ -233,7 +233,7 @@ impl<'t> Reader<'t> {
             first: fields.first.unwrap_or(small(self.draft.legs.len())),
             count: fields.legs.unwrap_or(0),
         };
-        self.draft.streams.push(NamedStream { name, record })?;
+        self.draft.streams.push(NamedStream { name, record });
         read
     }
 
@@ -241,7 +241,7 @@ impl<'t> Reader<'t> {
         &self,
         name: &mut Option<&'t [u8]>,
         fields: &mut Fields,
-        words: &[&'t [u8]],
+        words: &FirstWords<'t>,
     ) -> Result<(), Fault<'t>> {
         *name = self.name_of_stream(word(words, 1))?;
         fields.read(Record::Stream, words, 2)?;
@@ -275,8 +275,8 @@ impl<'t> Reader<'t> {
         }
     }
 
-    fn rest(&mut self, words: &[&'t [u8]]) -> Result<(), Fault<'t>> {
-        if let Some(more) = words.get(1) {
+    fn rest(&mut self, words: &FirstWords<'t>) -> Result<(), Fault<'t>> {
+        if let Some(more) = words.first.as_slice().get(1) {
             return Err(Fault::Word(
                 more,
                 " is one word too many: expected rest alone, and legs below it",
@@ -288,7 +288,7 @@ impl<'t> Reader<'t> {
 
     // ---- Legs
 
-    fn leg(&mut self, words: &[&'t [u8]]) -> Result<(), Fault<'t>> {
+    fn leg(&mut self, words: &FirstWords<'t>) -> Result<(), Fault<'t>> {
         if self.above == Above::Nothing {
             return Err(Fault::Word(
                 word(words, 0),
@@ -304,14 +304,14 @@ impl<'t> Reader<'t> {
             }
             // A leg that is on no link counts too.
             Err(fault) => {
-                self.count_leg(0, &fields)?;
+                self.count_leg(0, &fields);
                 Err(fault)
             }
         }
     }
 
     /// The link of a leg, by its ends or its number.
-    fn route(&self, words: &[&'t [u8]]) -> Result<u32, Fault<'t>> {
+    fn route(&self, words: &FirstWords<'t>) -> Result<u32, Fault<'t>> {
         let second = word(words, 2);
         if second == ARROW {
             return self.link_between(word(words, 1), word(words, 3));
@@ -339,7 +339,7 @@ impl<'t> Reader<'t> {
         }
     }
 
-    fn leg_fields(&self, fields: &mut Fields, words: &[&'t [u8]]) -> Result<(), Fault<'t>> {
+    fn leg_fields(&self, fields: &mut Fields, words: &FirstWords<'t>) -> Result<(), Fault<'t>> {
         // They begin after the two ends, or after the number of the link.
         let from = if word(words, 2) == ARROW { 4 } else { 3 };
         fields.read(Record::Leg, words, from)?;
@@ -357,31 +357,31 @@ impl<'t> Reader<'t> {
     }
 
     fn add_leg(&mut self, link: u32, fields: &Fields) -> Result<(), Fault<'t>> {
-        if table::MAX_LEGS <= self.draft.legs.len() {
+        if self.draft.legs.is_full() {
             return Err(Fault::TooMany("leg", table::MAX_LEGS));
         }
-        self.count_leg(link, fields)
+        self.count_leg(link, fields);
+        Ok(())
     }
 
-    /// Adds a leg, and counts it at the stream above, which is its own unless another is given.
-    fn count_leg(&mut self, link: u32, fields: &Fields) -> Result<(), Fault<'t>> {
+    /// Adds a leg where there is room, and counts it at the stream above, which is its own unless another is given.
+    fn count_leg(&mut self, link: u32, fields: &Fields) {
         let above = small(self.draft.streams.len()).wrapping_sub(1);
-        self.draft.legs.push(Leg {
+        let _ = self.draft.legs.try_push(Leg {
             stream: fields.stream.unwrap_or(above),
             link,
             offset: fields.offset.unwrap_or(0),
             periods: fields.periods.unwrap_or(0),
-        })?;
+        });
         if self.above == Above::Counting {
-            if let Some(stream) = self.draft.streams.last_mut() {
+            if let Some(stream) = self.draft.streams.as_mut_slice().last_mut() {
                 stream.record.count = stream.record.count.wrapping_add(1);
             }
         }
-        Ok(())
     }
 }
 
-fn link_fields<'t>(fields: &mut Fields, words: &[&'t [u8]]) -> Result<(), Fault<'t>> {
+fn link_fields<'t>(fields: &mut Fields, words: &FirstWords<'t>) -> Result<(), Fault<'t>> {
     fields.read(Record::Link, words, 4)?;
     needs(
         fields.rate,

@@ -1,7 +1,7 @@
 //! A draft written as a text.
 use crate::draft::{Between, Draft};
+use arrayvec::ArrayVec;
 use reasons::small;
-use std::alloc::Global;
 use std::io::Write;
 use std::{fmt, io};
 use table::{Leg, Stream};
@@ -10,28 +10,33 @@ use units::largest;
 /// A text of at most `MAX_BYTES`. What has no room is left out, and whoever reads the text again sees that.
 #[derive(Drop)]
 pub struct Page {
-    text: Vec<u8>,
+    text: ArrayVec<u8, { crate::MAX_BYTES }>,
 }
 
 impl Page {
-    pub fn new(alloc: Global) -> Page {
+    pub fn new() -> Page {
         Page {
-            text: Vec::new(alloc),
+            text: ArrayVec::new(),
         }
+    }
+
+    /// The text of a draft.
+    pub fn of(draft: &Draft) -> Page {
+        let mut page = Page::new();
+        let _ = write(&mut page, draft);
+        page
     }
 
     /// What was written.
     // Kept: it hands the bytes out and prints nothing.
     pub fn text(&self) -> &[u8] {
-        &self.text
+        self.text.as_slice()
     }
 }
 
 impl Write for Page {
     fn write(&mut self, part: &[u8]) -> io::Result<usize> {
-        if part.len() <= crate::MAX_BYTES.saturating_sub(self.text.len()) {
-            self.text.extend_from_slice(part)?;
-        }
+        let _ = self.text.try_extend_from_slice(part);
         Ok(part.len())
     }
 
@@ -62,13 +67,13 @@ pub fn write<W: Write>(out: &mut W, draft: &Draft) -> io::Result<()> {
     let precision = largest(draft.precision);
     write!(out, "plan revision {revision} precision {precision}")?;
     out.write_all(b"\n")?;
-    for node in &draft.nodes {
+    for node in draft.nodes.as_slice() {
         out.write_all(b"node ")?;
         out.write_all(node.name)?;
         write!(out, " {}", node.number)?;
         out.write_all(b"\n")?;
     }
-    for link in &draft.links {
+    for link in draft.links.as_slice() {
         out.write_all(b"link ")?;
         put_ends(out, draft, link.from, link.to)?;
         let rate = Rate(link.rate);

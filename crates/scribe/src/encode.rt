@@ -1,7 +1,6 @@
 //! A text written as a plan file, and its names beside it. Nothing is written where a line is wrong.
 use plan_text::{Draft, names};
 use reasons::{records, report};
-use std::alloc::Global;
 use std::io;
 use std::io::Write;
 use std::rt::Files;
@@ -44,8 +43,8 @@ impl Target<'_> {
 }
 
 /// Writes the plan file of a draft, and its names before it.
+// Kept: no length stands beside the array of the file: the largest plan has room in it, and what was written is a slice of it.
 fn write<R: Files, O: Write, E: Write>(
-    alloc: Global,
     rt: &R,
     out: &mut O,
     err: &mut E,
@@ -53,12 +52,13 @@ fn write<R: Files, O: Write, E: Write>(
     text: &[u8],
     draft: &Draft,
 ) -> io::Result<()> {
-    let t = draft.table(alloc)?;
-    let mut file = vec![in alloc; 0u8; files::MAX_FILE_BYTES]?;
-    let Ok(bytes) = files::write_plan(&t, &mut file) else {
+    let t = draft.table();
+    let t = t.as_slice();
+    let mut file = [0u8; files::MAX_FILE_BYTES];
+    let Ok(bytes) = files::write_plan(t, &mut file) else {
         return Ok(());
     };
-    file.truncate(bytes);
+    let file = &file[..bytes];
     // Kept: no length stands beside the array: a path is put together in it, and `path_of` gives back the slice.
     let mut room = [0u8; names::MAX_PATH];
     let path = names::path_of(target.path, &mut room);
@@ -66,8 +66,8 @@ fn write<R: Files, O: Write, E: Write>(
     if !beside.put_names(rt, err, text, draft) {
         return Ok(());
     }
-    if target.put(rt, err, &file) {
-        return put_answer(out, &t, bytes);
+    if target.put(rt, err, file) {
+        return put_answer(out, t, bytes);
     }
     // A new plan file that could not be put in its place has no names: those that were put go again.
     if !target.is_replacing {
@@ -88,14 +88,14 @@ fn put_answer<O: Write>(out: &mut O, t: &[u32], bytes: usize) -> io::Result<()> 
 }
 
 /// The text on standard input, to a plan file.
+// Kept: no length stands beside the array: what was read is a slice of it.
 pub(crate) fn to<R: Files + Input, O: Write, E: Write>(
-    alloc: Global,
     rt: &R,
     out: &mut O,
     err: &mut E,
     target: Target,
 ) -> io::Result<()> {
-    let mut room = vec![in alloc; 0u8; plan_text::TEXT_ROOM]?;
+    let mut room = [0u8; plan_text::TEXT_ROOM];
     let text = input::standard(rt, &mut room)?;
     if text.len() == plan_text::TEXT_ROOM {
         report(
@@ -107,8 +107,8 @@ pub(crate) fn to<R: Files + Input, O: Write, E: Write>(
         );
         return writeln!(out, "refused long\nstatus 2");
     }
-    match plan_text::read(alloc, err, text)? {
-        Ok(draft) => write(alloc, rt, out, err, target, text, &draft),
+    match plan_text::read(err, text) {
+        Ok(draft) => write(rt, out, err, target, text, &draft),
         Err(wrong) => writeln!(out, "refused lines {}\nstatus 2", wrong.count),
     }
 }

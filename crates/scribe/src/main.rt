@@ -4,7 +4,6 @@
 #![tactic(auto)]
 
 use encode::Target;
-use std::alloc::Global;
 use std::env::Env;
 use std::io;
 use std::io::Write;
@@ -35,7 +34,6 @@ fn is_replacing<R: Env>(rt: &R) -> bool {
 /// Does what the first argument asks.
 // Kept: no length stands beside the array: an argument is read into it and comes back as a slice.
 fn run<R: Env + Files + Input, O: Write, E: Write>(
-    alloc: Global,
     rt: &R,
     out: &mut O,
     err: &mut E,
@@ -49,9 +47,9 @@ fn run<R: Env + Files + Input, O: Write, E: Write>(
                 path,
                 is_replacing: is_replacing(rt),
             };
-            encode::to(alloc, rt, out, err, target)
+            encode::to(rt, out, err, target)
         }
-        b"decode" => decode::of(alloc, rt, out, err, path),
+        b"decode" => decode::of(rt, out, err, path),
         _ => {
             reasons::text(err, b"the first argument is encode or decode\n");
             Ok(())
@@ -61,5 +59,5 @@ fn run<R: Env + Files + Input, O: Write, E: Write>(
 
 fn main(rt: HostRuntime) {
     let mut out = output::to(rt.stdout());
-    let _ = run(rt.alloc(), &rt, &mut out, &mut rt.stderr());
+    let _ = run(&rt, &mut out, &mut rt.stderr());
 }
