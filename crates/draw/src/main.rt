@@ -190,5 +190,5 @@ fn run<R: Env + Files + Input, O: Write, E: Write>(
 
 fn main(rt: HostRuntime) {
     let mut out = output::to(rt.stdout());
-    let _ = run(rt.alloc(), &rt, &mut out, &mut rt.stderr());
+    let _ = run(rt.alloc(), &rt, &mut out, &mut output::errors(rt.stderr()));
 }

@@ -1,4 +1,4 @@
-// Standard output as the programs write to it.
+// Standard output and standard error as the programs write to them.
 #![tactic(auto)]
 
 use std::io;
@@ -27,6 +27,28 @@ impl<W: Write> Write for Output<W> {
             Err(e) if !is_told(&e) => Ok(buf.len()),
             told => told,
         }
+    }
+
+    fn flush(&mut self) -> io::Result<()> {
+        self.to.flush()
+    }
+}
+
+// What is written to standard error, or lost there: after any error the print is lost, and what comes after it is tried all the same, since no answer depends on it.
+#[derive(Drop)]
+pub struct Errors<W: Write> {
+    to: W,
+}
+
+// Internal: standard error, which never fails.
+pub fn errors<W: Write>(to: W) -> Errors<W> {
+    Errors { to }
+}
+
+impl<W: Write> Write for Errors<W> {
+    fn write(&mut self, buf: &[u8]) -> io::Result<usize> {
+        let _ = self.to.write_all(buf);
+        Ok(buf.len())
     }
 
     fn flush(&mut self) -> io::Result<()> {

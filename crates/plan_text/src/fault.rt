@@ -1,6 +1,6 @@
 //! What is wrong with a line. The first fault of a line is said, and no other.
 use lines::shown::shown;
-use std::fmt;
+use std::io;
 use std::io::Write;
 
 /// A fault, with the words and numbers that its sentence shows.
@@ -28,105 +28,89 @@ pub(crate) enum Fault<'t> {
     ManyLinks(&'t [u8], &'t [u8]),
 }
 
-/// Says a part of a sentence. What cannot be written is lost, and the part after it is tried all the same.
-fn say<E: Write, D: fmt::Display + Drop>(err: &mut E, part: D) {
-    let _ = write!(err, "{part}");
-}
-
-/// What stands somewhere, where the line may have ended.
-fn stands<E: Write>(err: &mut E, word: &[u8]) {
+// What stands somewhere, where the line may have ended.
+fn stands<E: Write>(err: &mut E, word: &[u8]) -> io::Result<()> {
     if word.is_empty() {
-        say(err, "the end of the line");
-    } else {
-        shown(err, word);
+        return err.write_all(b"the end of the line");
     }
+    shown(err, word);
+    Ok(())
 }
 
-/// The two ends of a link.
-fn ends<E: Write>(err: &mut E, from: &[u8], to: &[u8]) {
+// The two ends of a link.
+fn ends<E: Write>(err: &mut E, from: &[u8], to: &[u8]) -> io::Result<()> {
     shown(err, from);
-    say(err, " to ");
+    err.write_all(b" to ")?;
     shown(err, to);
+    Ok(())
 }
 
 // Kept: a line and a name are bytes of any kind, which Display, a text of characters, cannot write.
 impl Fault<'_> {
     /// Says what is wrong with the line of a number.
-    pub(crate) fn say<E: Write>(&self, err: &mut E, line: u32) {
-        reasons::begin(err);
-        say(err, "line ");
-        say(err, line);
-        say(err, ": ");
+    pub(crate) fn say<E: Write>(&self, err: &mut E, line: u32) -> io::Result<()> {
+        write!(err, "conepalhui: line {line}: ")?;
         match *self {
             Fault::Word(word, sentence) => {
-                stands(err, word);
-                say(err, sentence);
+                stands(err, word)?;
+                err.write_all(sentence.as_bytes())?;
             }
-            Fault::Line(sentence) => say(err, sentence),
+            Fault::Line(sentence) => err.write_all(sentence.as_bytes())?,
             Fault::TooMany(kind, most) => {
-                say(err, "one ");
-                say(err, kind);
-                say(err, " too many: expected at most ");
-                say(err, most);
-                say(err, " ");
-                say(err, kind);
-                say(err, "s");
+                write!(err, "one {kind} too many: expected at most {most} {kind}s")?;
             }
-            Fault::TooManyWords(words) => {
-                say(err, "the line has ");
-                say(err, words);
-                say(err, " words: expected a record with its fields, each once");
-            }
+            Fault::TooManyWords(words) => write!(
+                err,
+                "the line has {words} words: expected a record with its fields, each once"
+            )?,
             Fault::TooManyNames(name) => {
                 shown(err, name);
-                say(err, " is one name too many: expected names for at most ");
-                say(err, crate::MAX_NAMED);
-                say(err, " nodes");
+                write!(
+                    err,
+                    " is one name too many: expected names for at most {} nodes",
+                    crate::MAX_NAMED
+                )?;
             }
             Fault::Precision(ns) => {
-                say(err, "the precision is ");
-                say(err, ns);
-                say(err, "ns: expected at most 1ms");
+                write!(err, "the precision is {ns}ns: expected at most 1ms")?;
             }
             Fault::NameOfNode(name, node) => {
                 shown(err, name);
-                say(err, " is node ");
-                say(err, node);
-                say(
+                write!(
                     err,
-                    " already: expected each name for one node, and declared above its first use",
-                );
+                    " is node {node} already: expected each name for one node, and declared above its first use"
+                )?;
             }
             Fault::NameOfStream(name, stream) => {
                 shown(err, name);
-                say(err, " is stream ");
-                say(err, stream);
-                say(err, " already: expected each name for one stream");
+                write!(
+                    err,
+                    " is stream {stream} already: expected each name for one stream"
+                )?;
             }
             Fault::NotOwnNumber(word, own) => {
                 shown(err, word);
-                say(err, " is not the number of this stream: expected ");
-                say(err, own);
-                say(err, ", or a name, which does not begin with a digit");
+                write!(
+                    err,
+                    " is not the number of this stream: expected {own}, or a name, which does not begin with a digit"
+                )?;
             }
             Fault::Named(node, name, sentence) => {
-                say(err, "node ");
-                say(err, node);
-                say(err, " is ");
+                write!(err, "node {node} is ")?;
                 shown(err, name);
-                say(err, sentence);
+                err.write_all(sentence.as_bytes())?;
             }
             Fault::NoLink(from, to) => {
-                say(err, "no link goes from ");
-                ends(err, from, to);
-                say(err, ": expected the ends of a link above");
+                err.write_all(b"no link goes from ")?;
+                ends(err, from, to)?;
+                err.write_all(b": expected the ends of a link above")?;
             }
             Fault::ManyLinks(from, to) => {
-                say(err, "more than one link goes from ");
-                ends(err, from, to);
-                say(err, ": expected the number of one, as in leg link 7");
+                err.write_all(b"more than one link goes from ")?;
+                ends(err, from, to)?;
+                err.write_all(b": expected the number of one, as in leg link 7")?;
             }
         }
-        say(err, "\n");
+        err.write_all(b"\n")
     }
 }

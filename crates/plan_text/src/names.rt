@@ -105,9 +105,7 @@ impl<'r> NamesFile<'r> {
             }
             Err(wrong) => {
                 reasons::begin(err);
-                reasons::text(err, b"line ");
-                let _ = write!(err, "{}", wrong.first);
-                reasons::text(err, b" of ");
+                let _ = write!(err, "line {} of ", wrong.first);
                 reasons::text(err, self.path);
                 reasons::text(err, b" is wrong: numbers are used in place of its names\n");
                 None

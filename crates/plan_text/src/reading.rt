@@ -42,7 +42,7 @@ pub fn read<'t, E: Write>(err: &mut E, text: &'t [u8]) -> Result<Draft<'t>, Wron
     let lines = lines::without_mark(text).split(|byte| *byte == b'\n');
     for (line, number) in lines.zip(1..u32::MAX) {
         if let Err(fault) = reader.read_line(content(line)) {
-            fault.say(err, number);
+            let _ = fault.say(err, number);
             wrong = Some(match wrong {
                 None => WrongLines {
                     count: 1,

@@ -139,5 +139,5 @@ fn run<R: Clock + Env + Files + Input, O: Write, E: Write>(
 fn main(rt: HostRuntime) {
     let alloc = rt.alloc();
     let mut out = output::to(rt.stdout());
-    let _ = run(&rt, alloc, &mut out, &mut rt.stderr());
+    let _ = run(&rt, alloc, &mut out, &mut output::errors(rt.stderr()));
 }

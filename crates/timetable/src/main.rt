@@ -41,5 +41,5 @@ fn run<R: Input, O: Write, E: Write>(rt: &R, out: &mut O, err: &mut E) -> io::Re
 
 fn main(rt: HostRuntime) {
     let mut out = output::to(rt.stdout());
-    let _ = run(&rt, &mut out, &mut rt.stderr());
+    let _ = run(&rt, &mut out, &mut output::errors(rt.stderr()));
 }
