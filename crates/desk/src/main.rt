@@ -4,10 +4,9 @@
 #![tactic(auto)]
 
 use legs::NamedTable;
-use plan_text::Draft;
 use plan_text::names::Names;
+use plan_text::{Draft, names};
 use show::answers;
-use std::alloc::Global;
 use std::env::Env;
 use std::io;
 use std::io::Write;
@@ -22,7 +21,7 @@ mod tour;
 mod whole;
 
 /// What is asked for.
-// Kept: it is matched once, and no closure could take what each arm takes: all take out and err, some rt too, and others alloc and names.
+// Kept: it is matched once, and no closure could take what each arm takes: all take out and err, some rt too, and others names.
 #[derive(Clone, Copy, Debug, PartialEq, Eq)]
 enum Verb {
     All,
@@ -31,7 +30,7 @@ enum Verb {
 }
 
 /// What is answered with the names of nodes and streams.
-// Kept: it is matched once, and no closure could take what each arm takes: all take out and err, some rt too, and others alloc and names.
+// Kept: it is matched once, and no closure could take what each arm takes: all take out and err, some rt too, and others names.
 #[derive(Clone, Copy, Debug, PartialEq, Eq)]
 enum Question {
     First,
@@ -97,7 +96,6 @@ fn cursor_place<R: Env + Files, O: Write, E: Write>(
 
 /// Answers a question. The names beside the plan are read first.
 fn named<R: Env + Files, O: Write, E: Write>(
-    alloc: Global,
     rt: &R,
     out: &mut O,
     err: &mut E,
@@ -107,13 +105,15 @@ fn named<R: Env + Files, O: Write, E: Write>(
     // Kept: the system puts an argument into lent bytes, and input gives back what came as a slice.
     let mut room = [0u8; args::ROOM];
     let path = input::argument_or_nothing(rt, args::PLAN_AT, &mut room);
-    let names = Names::beside(alloc, rt, err, path)?;
-    let draft = names.draft(alloc, err, t)?;
-    answer(alloc, rt, out, err, t, &draft, question)
+    // Kept: the path of the names and their text are read into lent bytes, and come back as slices.
+    let mut names_path = [0u8; names::MAX_PATH];
+    let mut text = [0u8; plan_text::TEXT_ROOM];
+    let names = Names::beside(rt, err, path, &mut names_path, &mut text);
+    let draft = names.draft(err, t);
+    answer(rt, out, err, t, &draft, question)
 }
 
 fn answer<R: Env + Files, O: Write, E: Write>(
-    alloc: Global,
     rt: &R,
     out: &mut O,
     err: &mut E,
@@ -126,17 +126,16 @@ fn answer<R: Env + Files, O: Write, E: Write>(
         Question::First => explain::first(out, err, plan),
         Question::Given => given_place(rt, out, err, plan),
         Question::Cursor => cursor_place(rt, out, err, plan),
-        Question::Slack => slack::of(alloc, out, err, plan),
+        Question::Slack => slack::of(out, err, plan),
     }
 }
 
 fn run<R: Env + Files + Input, O: Write, E: Write>(
-    alloc: Global,
     rt: &R,
     out: &mut O,
     err: &mut E,
 ) -> io::Result<()> {
-    // Kept: input::given_plan reads into lent words and gives back the table as a slice; a Vec would be one allocation more that can fail.
+    // Kept: input::given_plan reads into lent words and gives back the table as a slice; nothing is allocated.
     let mut words = [0u32; table::MAX_TABLE_WORDS];
     let t = match input::given_plan(rt, err, &mut words)? {
         Ok(t) => t,
@@ -145,12 +144,12 @@ fn run<R: Env + Files + Input, O: Write, E: Write>(
     match verb_given(rt, err) {
         Some(Verb::All) => tour::all(out, err, t),
         Some(Verb::Part) => tour::part(rt, out, err, t),
-        Some(Verb::Named(question)) => named(alloc, rt, out, err, t, question),
+        Some(Verb::Named(question)) => named(rt, out, err, t, question),
         None => Ok(()),
     }
 }
 
 fn main(rt: HostRuntime) {
     let mut out = output::to(rt.stdout());
-    let _ = run(rt.alloc(), &rt, &mut out, &mut output::errors(rt.stderr()));
+    let _ = run(&rt, &mut out, &mut output::errors(rt.stderr()));
 }

@@ -6,7 +6,6 @@ use crate::plan::Named;
 use crate::svg::Lasting;
 use crate::{axis, pairs, rows, stretch, svg};
 use reasons::report;
-use std::alloc::Global;
 use std::io;
 use std::io::Write;
 
@@ -129,7 +128,7 @@ fn top_labels<O: Write>(out: &mut O, page: &Page) -> io::Result<()> {
 /// The picture, with what is violated on the link.
 fn put<O: Write>(out: &mut O, page: &Page, found: &Found) -> io::Result<()> {
     let list = page.bottom().saturating_add(FOOT);
-    let lines = found.first.len() as u64;
+    let lines = found.count.min(MOST_LISTED as u64);
     let end = list.saturating_add(lines.saturating_mul(LINE));
     head(out, page, end.saturating_add(2000))?;
     rows::stripes(out, page)?;
@@ -157,7 +156,6 @@ fn too_many<O: Write, E: Write>(out: &mut O, err: &mut E, holds: u64) -> io::Res
 
 /// Draws a link that is there, over a stretch of time or, where that is empty, over its cycle.
 pub(crate) fn draw<O: Write, E: Write>(
-    alloc: Global,
     out: &mut O,
     err: &mut E,
     plan: &Named,
@@ -165,19 +163,20 @@ pub(crate) fn draw<O: Write, E: Write>(
     from: u64,
     to: u64,
 ) -> io::Result<()> {
-    let periods = stretch::periods_on(alloc, plan, link)?;
-    let cycle = stretch::cycle(&periods);
+    let all = stretch::periods_on(plan, link);
+    let periods = all.as_slice();
+    let cycle = stretch::cycle(periods);
     let end = if from < to {
         to
     } else {
-        from.saturating_add(stretch::length(&periods, cycle))
+        from.saturating_add(stretch::length(periods, cycle))
     };
-    let holds = stretch::holds(&periods, end.saturating_sub(from));
+    let holds = stretch::holds(periods, end.saturating_sub(from));
     if stretch::MOST_HOLDS < holds {
         return too_many(out, err, holds);
     }
     let axis = Axis { from, to: end };
     let page = Page::new(plan, link, axis, cycle, periods.len() as u64);
-    let found = Found::on_link(alloc, plan, link)?;
+    let found = Found::on_link(plan, link);
     put(out, &page, &found)
 }

@@ -11,7 +11,6 @@ use plan_text::names::Names;
 use reasons::{records, report};
 use shape::plan::Plan;
 use show::answers;
-use std::alloc::Global;
 use std::env::Env;
 use std::io;
 use std::io::Write;
@@ -119,7 +118,6 @@ fn no_stream<O: Write, E: Write>(
 }
 
 fn draw<O: Write, E: Write>(
-    alloc: Global,
     out: &mut O,
     err: &mut E,
     order: Order,
@@ -132,7 +130,7 @@ fn draw<O: Write, E: Write>(
     match order {
         Order::Link { link, .. } if links <= link => no_link(out, err, link, links),
         Order::Link { link, from, to } => {
-            link::draw(alloc, out, err, &plan, link, u64::from(from), u64::from(to))
+            link::draw(out, err, &plan, link, u64::from(from), u64::from(to))
         }
         Order::Stream(stream) if streams <= stream => no_stream(out, err, stream, streams),
         Order::Stream(stream) => stream::draw(out, &plan, stream),
@@ -140,32 +138,37 @@ fn draw<O: Write, E: Write>(
 }
 
 /// The names beside the plan whose path is given, if there are some.
-fn read_names<R: Env + Files, E: Write>(alloc: Global, rt: &R, err: &mut E) -> io::Result<Names> {
+fn read_names<'r, R: Env + Files, E: Write>(
+    rt: &R,
+    err: &mut E,
+    path_room: &'r mut [u8],
+    text: &'r mut [u8],
+) -> Names<'r> {
     // Kept: the system puts an argument into lent bytes, and input gives back what came as a slice.
     let mut room = [0u8; ROOM];
     let path = input::argument_or_nothing(rt, PATH_AT, &mut room);
     if path.is_empty() {
-        return Ok(Names::none());
+        return Names::none();
     }
-    Names::beside(alloc, rt, err, path)
+    Names::beside(rt, err, path, path_room, text)
 }
 
 /// Draws a plan with its names.
 fn on_plan<R: Env + Files, O: Write, E: Write>(
-    alloc: Global,
     rt: &R,
     out: &mut O,
     err: &mut E,
     order: Order,
     plan: &Plan,
 ) -> io::Result<()> {
-    let names = read_names(alloc, rt, err)?;
-    let draft = names.draft(alloc, err, plan.words())?;
-    draw(alloc, out, err, order, plan, &draft)
+    let mut path = [0u8; plan_text::names::MAX_PATH];
+    let mut text = [0u8; plan_text::TEXT_ROOM];
+    let names = read_names(rt, err, &mut path, &mut text);
+    let draft = names.draft(err, plan.words());
+    draw(out, err, order, plan, &draft)
 }
 
 fn run<R: Env + Files + Input, O: Write, E: Write>(
-    alloc: Global,
     rt: &R,
     out: &mut O,
     err: &mut E,
@@ -173,14 +176,14 @@ fn run<R: Env + Files + Input, O: Write, E: Write>(
     let Some(order) = order_given(rt, err) else {
         return Ok(());
     };
-    // Kept: input::given_plan reads into lent words and gives back the table as a slice; a Vec would be one allocation more that can fail.
+    // Kept: input::given_plan reads into lent words and gives back the table as a slice; nothing is allocated.
     let mut words = [0u32; table::MAX_TABLE_WORDS];
     let t = match input::given_plan(rt, err, &mut words)? {
         Ok(t) => t,
         Err(refusal) => return answers::plan_refused(out, refusal),
     };
     match Plan::judge(t) {
-        Ok(plan) => on_plan(alloc, rt, out, err, order, &plan),
+        Ok(plan) => on_plan(rt, out, err, order, &plan),
         Err(refusal) => {
             records::why(err, t, refusal);
             answers::plan_refused(out, refusal)
@@ -190,5 +193,5 @@ fn run<R: Env + Files + Input, O: Write, E: Write>(
 
 fn main(rt: HostRuntime) {
     let mut out = output::to(rt.stdout());
-    let _ = run(rt.alloc(), &rt, &mut out, &mut output::errors(rt.stderr()));
+    let _ = run(&rt, &mut out, &mut output::errors(rt.stderr()));
 }

@@ -4,7 +4,6 @@ use crate::page::Page;
 use crate::plan::{Named, meet};
 use crate::svg;
 use reasons::small;
-use std::alloc::{AllocError, Global};
 use std::io;
 use std::io::Write;
 
@@ -28,40 +27,39 @@ pub(crate) enum Violated {
 #[derive(Drop)]
 pub(crate) struct Found {
     pub(crate) count: u64,
-    pub(crate) first: Vec<Violated>,
-    pub(crate) is_bad: Vec<bool>,
+    pub(crate) first: [Option<Violated>; MOST_LISTED],
+    pub(crate) is_bad: [bool; table::MAX_LEGS],
 }
 
 impl Found {
     /// Judges windows and overlaps of the legs on a link.
-    pub(crate) fn on_link(alloc: Global, plan: &Named, link: u32) -> Result<Found, AllocError> {
+    pub(crate) fn on_link(plan: &Named, link: u32) -> Found {
         let mut found = Found {
             count: 0,
-            first: Vec::new(alloc),
-            is_bad: vec![in alloc; false; plan.legs()]?,
+            first: [None; MOST_LISTED],
+            is_bad: [false; table::MAX_LEGS],
         };
         for a in (0..plan.legs()).filter(|a| plan.is_on(*a, link)) {
-            found.judge_leg(plan, a)?;
+            found.judge_leg(plan, a);
         }
-        Ok(found)
+        found
     }
 
-    fn judge_leg(&mut self, plan: &Named, a: usize) -> Result<(), AllocError> {
+    fn judge_leg(&mut self, plan: &Named, a: usize) {
         let Some(leg) = plan.timed(a) else {
-            return Ok(());
+            return;
         };
         if !leg.keeps_window() {
             self.mark(a);
-            self.add(Violated::Window(a))?;
+            self.add(Violated::Window(a));
         }
         for b in 0..a {
             if meet(&leg, b) {
                 self.mark(a);
                 self.mark(b);
-                self.add(Violated::Pair(a, b))?;
+                self.add(Violated::Pair(a, b));
             }
         }
-        Ok(())
     }
 
     fn mark(&mut self, a: usize) {
@@ -70,12 +68,11 @@ impl Found {
         }
     }
 
-    fn add(&mut self, place: Violated) -> Result<(), AllocError> {
-        self.count = self.count.saturating_add(1);
-        if self.first.len() < MOST_LISTED {
-            self.first.push(place)?;
+    fn add(&mut self, place: Violated) {
+        if let Some(free) = self.first.get_mut(self.count as usize) {
+            *free = Some(place);
         }
-        Ok(())
+        self.count = self.count.saturating_add(1);
     }
 }
 
@@ -124,7 +121,7 @@ fn pair_line<O: Write>(out: &mut O, page: &Page, a: usize, b: usize, y: u64) -> 
 /// Lists the first violated places of a link, from a height on.
 pub(crate) fn list<O: Write>(out: &mut O, page: &Page, from: u64, found: &Found) -> io::Result<()> {
     let mut y = from;
-    for place in &found.first {
+    for place in found.first.iter().flatten() {
         match *place {
             Violated::Window(a) => window_line(out, page, a, y)?,
             Violated::Pair(a, b) => pair_line(out, page, a, b, y)?,

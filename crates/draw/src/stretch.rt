@@ -4,7 +4,7 @@ ghost use Rattle.gates.specs.Pairs.{max_cycle};
 
 use crate::axis::POWERS;
 use crate::plan::Named;
-use std::alloc::{AllocError, Global};
+use arrayvec::ArrayVec;
 
 /// A picture has about so many holds at most where the stretch is not asked for.
 const FEW_HOLDS: u64 = 4000;
@@ -19,11 +19,12 @@ pub(crate) const MOST_HOLDS: u64 = 20000;
 const NOTHING_LASTS: u64 = 1000;
 
 /// The periods of the legs on a link.
-pub(crate) fn periods_on(alloc: Global, plan: &Named, link: u32) -> Result<Vec<u64>, AllocError> {
-    (0..plan.legs())
-        .filter(|a| plan.is_on(*a, link))
-        .map(|a| u64::from(plan.stream(plan.leg(a).stream).period))
-        .collect(alloc)
+pub(crate) fn periods_on(plan: &Named, link: u32) -> ArrayVec<u64, { table::MAX_LEGS }> {
+    let mut periods = ArrayVec::new();
+    for a in (0..plan.legs()).filter(|a| plan.is_on(*a, link)) {
+        let _ = periods.try_push(u64::from(plan.stream(plan.leg(a).stream).period));
+    }
+    periods
 }
 
 /// The least common multiple of a cycle and a period, unless it passes the limit.

@@ -1,9 +1,8 @@
 // The gate lists of all links, a file each, in a folder that is there. The plan is judged once.
-use crate::form::Form;
+use crate::form::{Form, ROOM};
 use crate::{judge, one, out, why};
 use gate_lists::AskedLink;
 use reasons::said::Said;
-use std::alloc::Global;
 use std::io;
 use std::io::Write;
 use std::rt::{Clock, Files};
@@ -29,7 +28,6 @@ fn count(n: &mut u32) {
 #[derive(Drop)]
 struct Folder<'a, R: Clock + Files, O: Write, E: Write> {
     rt: &'a R,
-    alloc: Global,
     out: &'a mut O,
     err: &'a mut E,
     path: &'a [u8],
@@ -39,39 +37,47 @@ struct Folder<'a, R: Clock + Files, O: Write, E: Write> {
 
 impl<'a, R: Clock + Files, O: Write, E: Write> Folder<'a, R, O, E> {
     // The path of a link's file. Such names stand in the order of the links.
-    fn path_of(&self, link: u32) -> io::Result<Vec<u8>> {
+    fn write_path<W: Write>(&self, path: &mut W, link: u32) -> io::Result<()> {
         let ending = if self.form.is_for_tc() {
             "taprio"
         } else {
             "gates"
         };
-        let mut path = Vec::new(self.alloc);
         path.write_all(self.path)?;
-        write!(path, "/link-{link:03}.{ending}")?;
-        Ok(path)
+        write!(path, "/link-{link:03}.{ending}")
+    }
+
+    // The same, or nothing where it is too long.
+    fn path_of<'r>(&self, link: u32, room: &'r mut [u8]) -> Option<&'r [u8]> {
+        let all = room.len();
+        let mut rest: &mut [u8] = &mut *room;
+        self.write_path(&mut rest, link).ok()?;
+        let left = rest.len();
+        room.get(..all.saturating_sub(left))
     }
 
     // Makes the file of a link, and returns how many bytes it has, or nothing where that failed.
-    fn make_file(&mut self, link: u32, words: &[u32]) -> io::Result<Option<usize>> {
-        let Some(bytes) = self.form.file(self.alloc, words)? else {
-            return Ok(None);
-        };
-        let path = self.path_of(link)?;
-        if PATH_ROOM < path.len() {
+    // Kept: bytes and path lie in arrays of the largest size; nothing is allocated.
+    fn make_file(&mut self, link: u32, words: &[u32]) -> Option<usize> {
+        let mut room = [0u8; ROOM];
+        let bytes = self.form.file(words, &mut room)?;
+        let mut path_room = [0u8; PATH_ROOM];
+        let Some(path) = self.path_of(link, &mut path_room) else {
             reasons::fail(self.err, self.path, &io::Error::from_raw_os_error(0));
-            return Ok(None);
+            return None;
+        };
+        if !durable::made(self.rt, self.err, path, bytes) {
+            return None;
         }
-        if !durable::made(self.rt, self.err, &path, &bytes) {
-            return Ok(None);
-        }
-        Ok(Some(bytes.len()))
+        Some(bytes.len())
     }
 
     // Writes the list of a link, or says why it has none, and counts it. Returns whether it is not so that a file could not be written.
     fn write_link(&mut self, asked: &AskedLink<'_>) -> io::Result<bool> {
         let t = asked.t;
         let link = asked.link;
-        let list = match one::list_of_accepted(self.alloc, asked)? {
+        let mut words = [0u32; gates::MAX_LIST_WORDS];
+        let list = match one::list_of_accepted(asked, &mut words) {
             Ok(list) => list,
             Err(refusal) => {
                 why::link_refused(self.err, t, link, refusal);
@@ -80,15 +86,15 @@ impl<'a, R: Clock + Files, O: Write, E: Write> Folder<'a, R, O, E> {
                 return Ok(true);
             }
         };
-        let Some(bytes) = self.make_file(link, &list)? else {
+        let Some(bytes) = self.make_file(link, list) else {
             return Ok(false);
         };
-        out::line(self.out, t, link, &list, bytes)?;
+        out::line(self.out, t, link, list, bytes)?;
         count(&mut self.tally.lists);
         if list.is_empty() {
             count(&mut self.tally.empty);
         }
-        if self.form.is_cut(&list) {
+        if self.form.is_cut(list) {
             count(&mut self.tally.cut);
         }
         Ok(true)
@@ -117,7 +123,6 @@ impl<'a, R: Clock + Files, O: Write, E: Write> Folder<'a, R, O, E> {
 /// Writes the lists of all links. A plan without links has none, and is refused as one that has not the first.
 pub(crate) fn written<'a, R: Clock + Files, O: Write, E: Write>(
     rt: &'a R,
-    alloc: Global,
     out: &'a mut O,
     err: &'a mut E,
     t: &[u32],
@@ -130,7 +135,6 @@ pub(crate) fn written<'a, R: Clock + Files, O: Write, E: Write>(
     };
     let mut folder = Folder {
         rt,
-        alloc,
         out,
         err,
         path,

@@ -1,13 +1,12 @@
 // The form in which lists are printed and written.
-use std::alloc::Global;
 use std::io;
 use std::io::Write;
 
 // Longer lists than this are cut off by tc, which says so and goes on: its message has 1,024 bytes (iproute2 6.1.0 to 7.3.0).
 pub(crate) const MOST_OF_TC: usize = 30;
 
-// A number takes at most so many bytes of a list file.
-const NUMBER_BYTES: usize = 5;
+/// More bytes than a list has in either form.
+pub(crate) const ROOM: usize = 65536;
 
 /// Where the base time is empty, lists are list files; else they are as tc takes them, as a whole command where there is a device.
 // Kept: both are as the arguments give them, where an empty one stands for none; an enum would forget a device beside an empty base, which refuses long lists.
@@ -27,16 +26,9 @@ pub(crate) fn cycle(words: &[u32]) -> u64 {
 }
 
 // The list file of a list.
-fn list_file(alloc: Global, words: &[u32]) -> io::Result<Option<Vec<u8>>> {
-    let room = words.len().saturating_mul(NUMBER_BYTES);
-    let mut bytes = vec![in alloc; 0u8; room]?;
-    match gate_files::write_list(words, &mut bytes) {
-        Ok(n) => {
-            bytes.truncate(n);
-            Ok(Some(bytes))
-        }
-        Err(_) => Ok(None),
-    }
+fn list_file<'r>(words: &[u32], room: &'r mut [u8]) -> Option<&'r [u8]> {
+    let n = gate_files::write_list(words, room).ok()?;
+    room.get(..n)
 }
 
 impl Form<'_> {
@@ -64,12 +56,10 @@ impl Form<'_> {
         }
     }
 
-    /// A list as tc takes it: the words of its qdisc taprio, from the base time on; with a device, as a whole command. Masks are hexadecimal. The list of a link without legs is no
-    /// text at all. The command has eight classes, one for each gate, with a queue each. Priorities from 8 on are those of class 0.
-    pub(crate) fn for_tc(self, alloc: Global, words: &[u32]) -> io::Result<Vec<u8>> {
-        let mut text = Vec::new(alloc);
+    // Writes a list as tc takes it.
+    fn write_for_tc<W: Write>(self, text: &mut W, words: &[u32]) -> io::Result<()> {
         if words.is_empty() {
-            return Ok(text);
+            return Ok(());
         }
         let end = self.line_end();
         if !self.device.is_empty() {
@@ -91,14 +81,24 @@ impl Form<'_> {
         if !self.device.is_empty() {
             writeln!(text, "flags 0x2")?;
         }
-        Ok(text)
+        Ok(())
+    }
+
+    /// A list as tc takes it: the words of its qdisc taprio, from the base time on; with a device, as a whole command. Masks are hexadecimal. The list of a link without legs is no
+    /// text at all. The command has eight classes, one for each gate, with a queue each. Priorities from 8 on are those of class 0. Nothing where the room is too small, as for no list.
+    pub(crate) fn for_tc<'r>(self, words: &[u32], room: &'r mut [u8]) -> Option<&'r [u8]> {
+        let all = room.len();
+        let mut rest: &mut [u8] = &mut *room;
+        self.write_for_tc(&mut rest, words).ok()?;
+        let left = rest.len();
+        room.get(..all.saturating_sub(left))
     }
 
     /// The bytes of a list's file, or nothing where it has none, as no list of a link.
-    pub(crate) fn file(self, alloc: Global, words: &[u32]) -> io::Result<Option<Vec<u8>>> {
+    pub(crate) fn file<'r>(self, words: &[u32], room: &'r mut [u8]) -> Option<&'r [u8]> {
         if self.is_for_tc() {
-            return Ok(Some(self.for_tc(alloc, words)?));
+            return self.for_tc(words, room);
         }
-        list_file(alloc, words)
+        list_file(words, room)
     }
 }

@@ -6,7 +6,6 @@
 
 use crate::form::Form;
 use show::answers;
-use std::alloc::Global;
 use std::env::Env;
 use std::io;
 use std::io::Write;
@@ -83,7 +82,6 @@ fn order_given<R: Env, E: Write>(rt: &R, err: &mut E) -> Option<Order> {
 // Kept: std hands an argument out as bytes into a lent array alone; env::args gives none of them where one is no UTF-8.
 fn write_to_file<R: Env + Files, O: Write, E: Write>(
     rt: &R,
-    alloc: Global,
     out: &mut O,
     err: &mut E,
     t: &[u32],
@@ -92,7 +90,7 @@ fn write_to_file<R: Env + Files, O: Write, E: Write>(
 ) -> io::Result<()> {
     let mut room = [0u8; 4096];
     match input::argument(rt, err, FILE_AT, &mut room, b"the path of the list") {
-        Some(path) => one::written(rt, alloc, out, err, t, link, path, form),
+        Some(path) => one::written(rt, out, err, t, link, path, form),
         None => Ok(()),
     }
 }
@@ -100,7 +98,6 @@ fn write_to_file<R: Env + Files, O: Write, E: Write>(
 // Kept: std hands an argument out as bytes into a lent array alone; env::args gives none of them where one is no UTF-8.
 fn write_to_folder<R: Clock + Env + Files, O: Write, E: Write>(
     rt: &R,
-    alloc: Global,
     out: &mut O,
     err: &mut E,
     t: &[u32],
@@ -109,7 +106,7 @@ fn write_to_folder<R: Clock + Env + Files, O: Write, E: Write>(
     let form = Form { base, device: b"" };
     let mut room = [0u8; 4096];
     match input::argument(rt, err, FOLDER_AT, &mut room, b"the path of the folder") {
-        Some(folder) => all::written(rt, alloc, out, err, t, folder, form),
+        Some(folder) => all::written(rt, out, err, t, folder, form),
         None => Ok(()),
     }
 }
@@ -117,7 +114,6 @@ fn write_to_folder<R: Clock + Env + Files, O: Write, E: Write>(
 // Kept: std hands an argument out as bytes into a lent array alone; env::args gives none of them where one is no UTF-8.
 fn on_table<R: Clock + Env + Files, O: Write, E: Write>(
     rt: &R,
-    alloc: Global,
     out: &mut O,
     err: &mut E,
     order: OfPlan,
@@ -130,23 +126,22 @@ fn on_table<R: Clock + Env + Files, O: Write, E: Write>(
         device: input::argument_or_nothing(rt, DEVICE_AT, &mut device),
     };
     match order {
-        OfPlan::Print(link) => one::printed(alloc, out, err, t, link, form),
-        OfPlan::Write(link) => write_to_file(rt, alloc, out, err, t, link, form),
-        OfPlan::All => write_to_folder(rt, alloc, out, err, t, form.base),
+        OfPlan::Print(link) => one::printed(out, err, t, link, form),
+        OfPlan::Write(link) => write_to_file(rt, out, err, t, link, form),
+        OfPlan::All => write_to_folder(rt, out, err, t, form.base),
     }
 }
 
 // Kept: the table is read into lent words, as files::read_plan takes them, and comes back as a slice.
 fn on_plan<R: Clock + Env + Files + Input, O: Write, E: Write>(
     rt: &R,
-    alloc: Global,
     out: &mut O,
     err: &mut E,
     order: OfPlan,
 ) -> io::Result<()> {
     let mut words = [0u32; table::MAX_TABLE_WORDS];
     match input::given_plan(rt, err, &mut words) {
-        Ok(Ok(t)) => on_table(rt, alloc, out, err, order, t),
+        Ok(Ok(t)) => on_table(rt, out, err, order, t),
         Ok(Err(refusal)) => answers::plan_refused(out, refusal),
         Err(_) => Ok(()),
     }
@@ -154,19 +149,17 @@ fn on_plan<R: Clock + Env + Files + Input, O: Write, E: Write>(
 
 fn run<R: Clock + Env + Files + Input, O: Write, E: Write>(
     rt: &R,
-    alloc: Global,
     out: &mut O,
     err: &mut E,
 ) -> io::Result<()> {
     match order_given(rt, err) {
-        Some(Order::OfPlan(order)) => on_plan(rt, alloc, out, err, order),
-        Some(Order::Read) => read::printed(rt, alloc, out, err),
+        Some(Order::OfPlan(order)) => on_plan(rt, out, err, order),
+        Some(Order::Read) => read::printed(rt, out, err),
         None => Ok(()),
     }
 }
 
 fn main(rt: HostRuntime) {
-    let alloc = rt.alloc();
     let mut out = output::to(rt.stdout());
-    let _ = run(&rt, alloc, &mut out, &mut output::errors(rt.stderr()));
+    let _ = run(&rt, &mut out, &mut output::errors(rt.stderr()));
 }

@@ -1,7 +1,6 @@
 // The list file on standard input, of whatever make: its pairs.
 use crate::out;
 use show::answers;
-use std::alloc::Global;
 use std::io;
 use std::io::Write;
 
@@ -10,18 +9,11 @@ const MAX_BYTES: usize = 65536;
 
 const ROOM: usize = MAX_BYTES + 1;
 
-fn on_bytes<O: Write, E: Write>(
-    alloc: Global,
-    out: &mut O,
-    err: &mut E,
-    bytes: &[u8],
-) -> io::Result<()> {
-    let mut words = vec![in alloc; 0u32; MAX_BYTES]?;
+fn on_bytes<O: Write, E: Write>(out: &mut O, err: &mut E, bytes: &[u8]) -> io::Result<()> {
+    // Kept: gate_files::read_list reads into lent words; nothing is allocated.
+    let mut words = [0u32; MAX_BYTES];
     match gate_files::read_list(bytes, &mut words) {
-        Ok(n) => {
-            words.truncate(n);
-            out::pairs(out, &words)
-        }
+        Ok(n) => out::pairs(out, words.get(..n).unwrap_or(&[])),
         Err(refusal) => {
             reasons::lists::why(err, bytes, refusal);
             answers::plan_refused(out, refusal)
@@ -33,7 +25,6 @@ fn on_bytes<O: Write, E: Write>(
 // Kept: standard input is read into lent bytes, one more than a list may have, and what was read comes back as a slice.
 pub(crate) fn printed<R: Input, O: Write, E: Write>(
     rt: &R,
-    alloc: Global,
     out: &mut O,
     err: &mut E,
 ) -> io::Result<()> {
@@ -48,5 +39,5 @@ pub(crate) fn printed<R: Input, O: Write, E: Write>(
         );
         return out::too_long(out);
     }
-    on_bytes(alloc, out, err, bytes)
+    on_bytes(out, err, bytes)
 }

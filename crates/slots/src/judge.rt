@@ -1,5 +1,5 @@
 // Whether a plan takes streams at all. Where it does not, that is the answer, and it is written.
-use crate::lines::Request;
+use crate::lines::Requests;
 use crate::{out, why};
 use basics::Cause;
 use checker::SliceAnswer;
@@ -58,14 +58,15 @@ fn is_well_formed<O: Write, E: Write>(out: &mut O, err: &mut E, t: &[u32]) -> io
 fn is_right<O: Write, E: Write>(
     out: &mut O,
     err: &mut E,
-    requests: &[Request<'_>],
+    requests: Requests,
     t: &[u32],
 ) -> io::Result<bool> {
     if !is_well_formed(out, err, t)? {
         return Ok(false);
     }
-    match requests {
-        [first, ..] if !first.label.is_empty() => {
+    let mut requests = requests;
+    match requests.next() {
+        Some(first) if !first.label.is_empty() => {
             Ok(can_rise(out, err, t)? && is_accepted(out, err, t)?)
         }
         _ => Ok(true),
@@ -76,7 +77,7 @@ fn is_right<O: Write, E: Write>(
 pub(crate) fn stands<O: Write, E: Write>(
     out: &mut O,
     err: &mut E,
-    requests: &[Request<'_>],
+    requests: Requests,
     t: &[u32],
 ) -> io::Result<bool> {
     let is_right = is_right(out, err, requests, t)?;

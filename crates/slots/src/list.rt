@@ -1,11 +1,11 @@
 // The streams that are wanted, one after the other: each is admitted to the table that the one before it left, or left out.
-use crate::lines::Request;
+use crate::lines::{Request, Requests, Row};
 use crate::route::Asked;
 use crate::{judge, out, route, search, why};
 use admission::Admitted;
+use arrayvec::ArrayVec;
 use basics::{Cause, Refusal};
 use reasons::said::Said;
-use std::alloc::Global;
 use std::io;
 use std::io::Write;
 use std::rt::{Clock, Files};
@@ -29,7 +29,7 @@ fn refused<O: Write, E: Write>(
     err: &mut E,
     plan: &[u32],
     request: &Request<'_>,
-    links: &[u32],
+    route: &Row,
     refusal: Refusal,
 ) -> io::Result<()> {
     if refusal.cause == Cause::NotAccepted {
@@ -39,7 +39,7 @@ fn refused<O: Write, E: Write>(
     let asked = Asked {
         plan,
         request,
-        links,
+        route,
     };
     asked.refused(err, refusal.cause);
     out::refused(out, request.label, refusal)
@@ -49,13 +49,13 @@ fn refused<O: Write, E: Write>(
 // Takes the streams in, where they fit. The plan is that with all that are admitted then. Returns nothing where a search did not end.
 fn take_all<R: Clock, O: Write, E: Write>(
     rt: &R,
-    alloc: Global,
     out: &mut O,
     err: &mut E,
-    requests: &[Request<'_>],
-    plan: &mut Vec<u32>,
+    requests: Requests,
+    plan: &mut ArrayVec<u32, { table::MAX_TABLE_WORDS }>,
 ) -> io::Result<Option<Tally>> {
-    let mut enlarged = vec![in alloc; 0u32; table::MAX_TABLE_WORDS]?;
+    // Kept: the admission writes the enlarged table into lent words, and says how many they are.
+    let mut enlarged = [0u32; table::MAX_TABLE_WORDS];
     let mut tally = Tally {
         admitted: 0,
         left_out: 0,
@@ -67,17 +67,25 @@ fn take_all<R: Clock, O: Write, E: Write>(
             why::so_far(err, tally.admitted, tally.left_out);
             said = Said::at(now);
         }
-        let links = route::of(alloc, plan, &request.way)?;
-        match search::look(rt, err, plan, request, &links, &mut said, &mut enlarged) {
+        let route = route::of(plan.as_slice(), &request.way);
+        match search::look(
+            rt,
+            err,
+            plan.as_slice(),
+            &request,
+            route.first.as_slice(),
+            &mut said,
+            &mut enlarged,
+        ) {
             Ok(Some(Admitted { offset, words })) => {
                 let table = enlarged.get(..words).unwrap_or(&[]);
                 out::admitted(out, request.label, table, offset)?;
                 plan.clear();
-                plan.extend_from_slice(table)?;
+                let _ = plan.try_extend_from_slice(table);
                 tally.admitted = tally.admitted.saturating_add(1);
             }
             Err(refusal) => {
-                refused(out, err, plan, request, &links, refusal)?;
+                refused(out, err, plan.as_slice(), &request, &route, refusal)?;
                 tally.left_out = tally.left_out.saturating_add(1);
             }
             Ok(None) => {
@@ -98,7 +106,7 @@ fn write_new<R: Files, O: Write, E: Write>(
     t: &[u32],
     tally: Tally,
 ) -> io::Result<()> {
-    // Kept: files::write_plan writes into lent bytes, and what it wrote goes on as a slice; a Vec would be one allocation more that can fail.
+    // Kept: files::write_plan writes into lent bytes, and what it wrote goes on as a slice; nothing is allocated.
     let mut buffer = [0u8; files::MAX_FILE_BYTES];
     let Ok(n) = files::write_plan(t, &mut buffer) else {
         return Ok(());
@@ -118,17 +126,17 @@ fn write_new<R: Files, O: Write, E: Write>(
 /// nobody reads that any more, the program ends there, and nothing is written.
 pub(crate) fn admitted<R: Clock + Files, O: Write, E: Write>(
     rt: &R,
-    alloc: Global,
     out: &mut O,
     err: &mut E,
-    requests: &[Request<'_>],
+    requests: Requests,
     new_path: &[u8],
     words: &[u32],
 ) -> io::Result<()> {
-    let mut plan = words.to_vec(alloc)?;
-    match take_all(rt, alloc, out, err, requests, &mut plan)? {
+    let mut plan = ArrayVec::new();
+    let _ = plan.try_extend_from_slice(words);
+    match take_all(rt, out, err, requests, &mut plan)? {
         None => Ok(()),
         Some(tally) if tally.admitted == 0 => out::nothing_written(out),
-        Some(tally) => write_new(rt, out, err, new_path, &plan, tally),
+        Some(tally) => write_new(rt, out, err, new_path, plan.as_slice(), tally),
     }
 }

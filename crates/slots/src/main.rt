@@ -3,12 +3,11 @@
 // written it writes no such line, and says so on standard error. NEW is written once, at the end.
 #![tactic(auto)]
 
-use crate::lines::{LinesError, Request};
+use crate::lines::Requests;
 use durable::FileRead;
 use input::PLAN_ROOM;
 use reasons::report;
 use show::answers;
-use std::alloc::Global;
 use std::env::Env;
 use std::io;
 use std::io::Write;
@@ -36,14 +35,13 @@ const TEXT_ROOM: usize = lines::MAX_BYTES + 1;
 // Kept: rt, out and err are lent apart, each to what reads, prints or explains; a struct of them would put its three type parameters on all of those.
 fn on_plan<R: Clock + Files, O: Write, E: Write>(
     rt: &R,
-    alloc: Global,
     out: &mut O,
     err: &mut E,
-    requests: &[Request<'_>],
+    requests: Requests,
     new_path: &[u8],
     plan: &[u8],
 ) -> io::Result<()> {
-    // Kept: files::read_plan reads into lent words, and what it read goes on as a slice; a Vec would be one allocation more that can fail.
+    // Kept: files::read_plan reads into lent words, and what it read goes on as a slice; nothing is allocated.
     let mut words = [0u32; table::MAX_TABLE_WORDS];
     match files::read_plan(plan, &mut words) {
         Err(refusal) => {
@@ -53,7 +51,7 @@ fn on_plan<R: Clock + Files, O: Write, E: Write>(
         Ok(n) => {
             let t = words.get(..n).unwrap_or(&[]);
             if judge::stands(out, err, requests, t)? {
-                list::admitted(rt, alloc, out, err, requests, new_path, t)?;
+                list::admitted(rt, out, err, requests, new_path, t)?;
             }
             Ok(())
         }
@@ -63,10 +61,9 @@ fn on_plan<R: Clock + Files, O: Write, E: Write>(
 // Kept: requests and new_path part in list::admitted: take_all gets the one, write_new the other.
 fn on_paths<R: Clock + Files, O: Write, E: Write>(
     rt: &R,
-    alloc: Global,
     out: &mut O,
     err: &mut E,
-    requests: &[Request<'_>],
+    requests: Requests,
     plan_path: &[u8],
     new_path: &[u8],
 ) -> io::Result<()> {
@@ -74,7 +71,7 @@ fn on_paths<R: Clock + Files, O: Write, E: Write>(
     let mut bytes = [0u8; PLAN_ROOM];
     match durable::file(rt, err, plan_path, &mut bytes) {
         FileRead::Bytes(plan) => {
-            on_plan(rt, alloc, out, err, requests, new_path, plan)?;
+            on_plan(rt, out, err, requests, new_path, plan)?;
         }
         FileRead::Missing => durable::missing(err, plan_path),
         FileRead::Failed => {}
@@ -84,14 +81,12 @@ fn on_paths<R: Clock + Files, O: Write, E: Write>(
 
 fn on_text<R: Clock + Env + Files, O: Write, E: Write>(
     rt: &R,
-    alloc: Global,
     out: &mut O,
     err: &mut E,
     text: &[u8],
 ) -> io::Result<()> {
-    let requests = match lines::requests(alloc, text) {
+    let requests = match Requests::read(text) {
         Ok(requests) => requests,
-        Err(LinesError::NoMemory(e)) => return Err(e.into()),
         Err(e) => {
             report(err, e);
             return Ok(());
@@ -108,12 +103,11 @@ fn on_text<R: Clock + Env + Files, O: Write, E: Write>(
     let Some(new) = input::argument(rt, err, NEW_AT, &mut room_of_new, what) else {
         return Ok(());
     };
-    on_paths(rt, alloc, out, err, &requests, plan, new)
+    on_paths(rt, out, err, requests, plan, new)
 }
 
 fn run<R: Clock + Env + Files + Input, O: Write, E: Write>(
     rt: &R,
-    alloc: Global,
     out: &mut O,
     err: &mut E,
 ) -> io::Result<()> {
@@ -128,7 +122,7 @@ fn run<R: Clock + Env + Files + Input, O: Write, E: Write>(
             );
             Ok(())
         }
-        Ok(text) => on_text(rt, alloc, out, err, text),
+        Ok(text) => on_text(rt, out, err, text),
         Err(e) => {
             reasons::fail(err, b"what is wanted", &e);
             Ok(())
@@ -137,7 +131,6 @@ fn run<R: Clock + Env + Files + Input, O: Write, E: Write>(
 }
 
 fn main(rt: HostRuntime) {
-    let alloc = rt.alloc();
     let mut out = output::to(rt.stdout());
-    let _ = run(&rt, alloc, &mut out, &mut output::errors(rt.stderr()));
+    let _ = run(&rt, &mut out, &mut output::errors(rt.stderr()));
 }

@@ -106,11 +106,11 @@ impl NoOffset {
             deadline,
             octets,
         } = asked.request.want;
-        let time = times::along(asked.plan, octets, asked.links);
+        let time = times::along(asked.plan, octets, asked.links());
         if u64::from(deadline) < time {
             return NoOffset::TooSlow { time, deadline };
         }
-        for link in asked.links {
+        for link in asked.links() {
             let hold = times::hold(octets, records::link_at(asked.plan, *link));
             if u64::from(period) < hold {
                 return NoOffset::HeldTooLong { link: *link, hold };
@@ -147,7 +147,7 @@ impl fmt::Display for NoOffset {
 impl Asked<'_> {
     // Whether the last leg may lie more periods late than a leg may lie, at the latest first offset.
     fn may_be_late(self) -> bool {
-        let Some((_, before)) = self.links.split_last() else {
+        let Some((_, before)) = self.links().split_last() else {
             return false;
         };
         let want = self.request.want;
@@ -158,7 +158,7 @@ impl Asked<'_> {
     fn no_offset<E: Write>(self, err: &mut E) {
         let period = self.request.want.period;
         let why = NoOffset::of(self);
-        let links = Links(self.links);
+        let links = Links(self.links());
         self.explain(
             err,
             format_args!("no first offset below {period} ns fits on the route {links}: {why}"),
@@ -216,7 +216,7 @@ impl Asked<'_> {
                 ),
             ),
             Way::Nodes(nodes) => {
-                let (from, to) = match nodes.get(i..) {
+                let (from, to) = match nodes.first.as_slice().get(i..) {
                     Some([from, to, ..]) => (*from, *to),
                     _ => (0, 0),
                 };
@@ -267,7 +267,7 @@ impl Asked<'_> {
                     format_args!("the route has no link, but a route has 1 to {MAX_ROUTE}"),
                 );
             }
-            Way::Nodes(nodes) => nodes.first().copied().unwrap_or(0),
+            Way::Nodes(nodes) => nodes.first.as_slice().first().copied().unwrap_or(0),
             Way::Shortest(from, _) => *from,
         };
         self.explain(
@@ -316,8 +316,8 @@ impl Asked<'_> {
     // Kept: of no nodes the largest number is printed, as a route that is too long, and what a program prints stays.
     fn count(self) -> u32 {
         match &self.request.way {
-            Way::Nodes(nodes) if nodes.is_empty() => u32::MAX,
-            _ => small(self.links.len()),
+            Way::Nodes(nodes) if nodes.count == 0 => u32::MAX,
+            _ => small(self.route.count),
         }
     }
 
@@ -329,7 +329,7 @@ impl Asked<'_> {
         if MAX_ROUTE < count {
             return self.too_many(err, count);
         }
-        match route_fault(self.plan, self.links) {
+        match route_fault(self.plan, self.links()) {
             Some(fault) => self.bad_link(err, fault),
             None => self.no_place(err, count),
         }
