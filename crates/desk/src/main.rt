@@ -107,6 +107,7 @@ fn named<R: Env + Files, O: Write, E: Write>(
     let path = input::argument_or_nothing(rt, args::PLAN_AT, &mut room);
     // Kept: the path of the names and their text are read into lent bytes, and come back as slices.
     let mut names_path = [0u8; names::MAX_PATH];
+    // Kept: as the path of the names.
     let mut text = [0u8; plan_text::TEXT_ROOM];
     let names = Names::beside(rt, err, path, &mut names_path, &mut text);
     let draft = names.draft(err, t);

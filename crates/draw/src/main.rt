@@ -154,6 +154,7 @@ fn read_names<'r, R: Env + Files, E: Write>(
 }
 
 /// Draws a plan with its names.
+// Kept: the path of the names and their text are read into lent bytes, and come back as slices.
 fn on_plan<R: Env + Files, O: Write, E: Write>(
     rt: &R,
     out: &mut O,

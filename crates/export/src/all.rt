@@ -73,6 +73,7 @@ impl<'a, R: Clock + Files, O: Write, E: Write> Folder<'a, R, O, E> {
     }
 
     // Writes the list of a link, or says why it has none, and counts it. Returns whether it is not so that a file could not be written.
+    // Kept: the list is written into lent words, and comes back as a slice of them.
     fn write_link(&mut self, asked: &AskedLink<'_>) -> io::Result<bool> {
         let t = asked.t;
         let link = asked.link;

@@ -44,6 +44,7 @@ fn list_of<'r, O: Write, E: Write>(
 }
 
 /// Prints the list of a link.
+// Kept: the list and its text are written into lent arrays, and come back as slices of them.
 pub(crate) fn printed<O: Write, E: Write>(
     out: &mut O,
     err: &mut E,
@@ -71,6 +72,7 @@ pub(crate) fn printed<O: Write, E: Write>(
 }
 
 /// Writes the list of a link beside the name of a new file.
+// Kept: the list and its bytes are written into lent arrays, and come back as slices of them.
 pub(crate) fn written<R: Files, O: Write, E: Write>(
     rt: &R,
     out: &mut O,

@@ -62,7 +62,11 @@ impl<'r> Names<'r> {
             },
             FileRead::Missing => Names::none(),
             FileRead::Failed => {
-                report(err, path, b" cannot be read: numbers are used in place of names\n");
+                report(
+                    err,
+                    path,
+                    b" cannot be read: numbers are used in place of names\n",
+                );
                 Names::none()
             }
         }

@@ -70,6 +70,7 @@ pub(crate) struct Request<'a> {
 }
 
 /// Why no streams are wanted: one of the lines is wrong, counted from 1, or there is none.
+// Kept: it is an error and no answer: an Option of the line would say nothing of a list without streams.
 #[derive(Clone, Copy, Debug, PartialEq, Eq)]
 pub(crate) enum LinesError {
     NotAStream(usize),
