@@ -1,28 +1,26 @@
 //! A draft written as a text.
 use crate::draft::{Between, Draft};
-use arrayvec::ArrayVec;
 use reasons::small;
 use std::io::Write;
 use std::{fmt, io};
 use table::{Leg, Stream};
 use units::largest;
 
-/// A text of at most `MAX_BYTES`. What has no room is left out, and whoever reads the text again sees that.
+/// A text in lent bytes. What has no room is left out, and whoever reads the text again sees that.
 #[derive(Drop)]
-pub struct Page {
-    text: ArrayVec<u8, { crate::MAX_BYTES }>,
+pub struct Page<'r> {
+    room: &'r mut [u8],
+    len: usize,
 }
 
-impl Page {
-    pub fn new() -> Page {
-        Page {
-            text: ArrayVec::new(),
-        }
+impl<'r> Page<'r> {
+    pub fn new(room: &'r mut [u8]) -> Page<'r> {
+        Page { room, len: 0 }
     }
 
-    /// The text of a draft.
-    pub fn of(draft: &Draft) -> Page {
-        let mut page = Page::new();
+    /// The text of a draft. No text has more than `MAX_BYTES`.
+    pub fn of(draft: &Draft, room: &'r mut [u8]) -> Page<'r> {
+        let mut page = Page::new(room);
         let _ = write(&mut page, draft);
         page
     }
@@ -30,13 +28,18 @@ impl Page {
     /// What was written.
     // Kept: it hands the bytes out and prints nothing.
     pub fn text(&self) -> &[u8] {
-        self.text.as_slice()
+        self.room.get(..self.len).unwrap_or(&[])
     }
 }
 
-impl Write for Page {
+impl Write for Page<'_> {
     fn write(&mut self, part: &[u8]) -> io::Result<usize> {
-        let _ = self.text.try_extend_from_slice(part);
+        let at = self.len;
+        if at <= self.room.len() && part.len() <= self.room.len() - at {
+            let end = at + part.len();
+            self.room[at..end].copy_from_slice(part);
+            self.len = end;
+        }
         Ok(part.len())
     }
 

@@ -13,8 +13,10 @@ fn is_text_of(text: &[u8], t: &[u32]) -> bool {
 }
 
 /// Writes the text of a draft if it gives the table back, and answers whether it was written.
+// Kept: no length stands beside the array: the page has it.
 fn is_written<O: Write>(out: &mut O, draft: &Draft, t: &[u32]) -> io::Result<bool> {
-    let page = Page::of(draft);
+    let mut room = [0u8; plan_text::MAX_BYTES];
+    let page = Page::of(draft, &mut room);
     let text = page.text();
     let is_whole = is_text_of(text, t);
     if is_whole {
