@@ -34,7 +34,7 @@ fn say<E: Write>(err: &mut E, line: usize, words: &str, there: &[u8], but: &str)
 // The constraint in a line of the network, if there is one. The constraints are in the order of their lines.
 fn in_line(wishes: &Wishes, line: u32) -> Option<usize> {
     wishes
-        .constraints
+        .constraints()
         .binary_search_by_key(&(line as usize), |c| c.line)
         .ok()
 }
@@ -123,13 +123,7 @@ impl Claimed {
         let _ = self.chain.try_push(reasons::small(k));
     }
 
-    fn take_line<E: Write>(
-        &mut self,
-        err: &mut E,
-        wishes: &Wishes,
-        content: &[u8],
-        line: usize,
-    ) {
+    fn take_line<E: Write>(&mut self, err: &mut E, wishes: &Wishes, content: &[u8], line: usize) {
         match forms::claim_in(content) {
             Claim::Nothing => return,
             // The first line of an answer may be in front of the others.

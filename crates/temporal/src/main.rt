@@ -9,6 +9,7 @@ use std::io;
 use std::io::Write;
 use std::rt::Files;
 use wishes::reading;
+use wishes::reading::Constraint;
 
 mod claim;
 mod out;
@@ -23,21 +24,24 @@ const CLAIM_AT: usize = 1;
 const ROOM: usize = wishes::MAX_BYTES + 1;
 
 // Solves a network, or judges the claim on it.
+// Kept: what is read of a network lies here once, in arrays of the largest size, so that reading copies and allocates nothing.
 fn answered<O: Write, E: Write>(
     out: &mut O,
     err: &mut E,
     network: &[u8],
     claim: Option<&[u8]>,
 ) -> io::Result<()> {
-    let wishes = reading::read(network);
+    let mut room = [Constraint::default(); wishes::KEPT_CONSTRAINTS];
+    let wishes = reading::read(network, &mut room);
     if let Some(line) = wishes.wrong {
         sentences::wrong_lines(err, network);
         return out::refused_line(out, line);
     }
-    let words = wishes.words(|event| event);
+    let mut room = [0i64; wishes::KEPT_WORDS];
+    let words = wishes.words(&mut room, |event| event);
     match claim {
-        Some(claim) => verdict::judged(out, err, &wishes, &words, claim),
-        None => solution::solved(out, err, &wishes, &words),
+        Some(claim) => verdict::judged(out, err, &wishes, words, claim),
+        None => solution::solved(out, err, &wishes, words),
     }
 }
 
@@ -55,9 +59,7 @@ fn on_claim<R: Files, O: Write, E: Write>(
         FileRead::Bytes(claim) if wishes::MAX_BYTES < claim.len() => {
             sentences::too_long(out, err, "the claim")
         }
-        FileRead::Bytes(claim) => {
-            answered(out, err, network, Some(lines::without_mark(claim)))
-        }
+        FileRead::Bytes(claim) => { answered(out, err, network, Some(lines::without_mark(claim))) }
         FileRead::Missing => {
             durable::missing(err, path);
             Ok(())

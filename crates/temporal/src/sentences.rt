@@ -57,7 +57,7 @@ fn too_many<E: Write>(err: &mut E, wishes: &Wishes) {
 }
 
 fn out_of_range<E: Write>(err: &mut E, wishes: &Wishes, k: usize) {
-    if let Some(c) = wishes.constraints.get(k) {
+    if let Some(c) = wishes.constraints().get(k) {
         let line = c.line;
         begin(err);
         let _ = write!(err, "line {line} of the network has the number ");

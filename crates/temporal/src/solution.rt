@@ -21,8 +21,8 @@ fn plus(sum: i64, c: &Constraint) -> i64 {
 }
 
 // The constraint that a number of a chain names.
-pub(crate) fn named<'w, 'a>(wishes: &'w Wishes<'a>, k: u32) -> Option<&'w Constraint<'a>> {
-    wishes.constraints.get(k as usize)
+pub(crate) fn named<'w, 'a>(wishes: &'w Wishes<'_, 'a>, k: u32) -> Option<&'w Constraint<'a>> {
+    wishes.constraints().get(k as usize)
 }
 
 // The sum of the constraints of a chain.

@@ -2,7 +2,6 @@
 use crate::claim::Claimed;
 use crate::solution::{named, sum_of};
 use crate::{claim, out, sentences};
-use arrayvec::ArrayVec;
 use lines::shown::shown;
 use network::Network;
 use reasons::{begin, report, text};
@@ -14,9 +13,9 @@ use wishes::reading::{Constraint, Wishes};
 
 // The constraints with the events renumbered so that those with a time come first, in the order of the times. Any other event has the last number, which is past
 // the times.
-fn renumbered(wishes: &Wishes, claimed: &Claimed) -> ArrayVec<i64, { wishes::KEPT_WORDS }> {
+fn renumbered<'w>(wishes: &Wishes, claimed: &Claimed, room: &'w mut [i64]) -> &'w [i64] {
     let last = wishes.events.len().saturating_sub(1);
-    wishes.words(|event| claimed.place(event).unwrap_or(last))
+    wishes.words(room, |event| claimed.place(event).unwrap_or(last))
 }
 
 fn untimed<O: Write>(out: &mut O, wishes: &Wishes, event: usize) -> io::Result<()> {
@@ -42,18 +41,20 @@ fn but<O: Write>(
     write!(out, ", but it is {difference}\nstatus 1\n")
 }
 
+// Kept: the renumbered words lie here once, in an array of the largest size, so that judging allocates nothing.
 fn on_times<O: Write, E: Write>(
     out: &mut O,
     err: &mut E,
     wishes: &Wishes,
     claimed: &Claimed,
 ) -> io::Result<()> {
-    let words = renumbered(wishes, claimed);
-    match claims::test_times(wishes.events.len(), &words, &claimed.times) {
+    let mut room = [0i64; wishes::KEPT_WORDS];
+    let words = renumbered(wishes, claimed, &mut room);
+    match claims::test_times(wishes.events.len(), words, &claimed.times) {
         Ok(None) => out.write_all(b"kept\nstatus 0\n"),
         Ok(Some(k)) => {
             out.write_all(b"broken\n")?;
-            let Some(c) = wishes.constraints.get(k) else {
+            let Some(c) = wishes.constraints().get(k) else {
                 return Ok(());
             };
             out::constraint(out, wishes, c)?;
@@ -68,7 +69,7 @@ fn on_times<O: Write, E: Write>(
 // The first constraint of a chain that does not end where the next one begins, and that next one.
 // Kept: after the last comes the first, which `windows` does not give; a zip with cycle and skip would end only by its shorter side.
 fn unlinked<'w, 'a>(
-    wishes: &'w Wishes<'a>,
+    wishes: &'w Wishes<'_, 'a>,
     chain: &[u32],
 ) -> Option<(&'w Constraint<'a>, &'w Constraint<'a>)> {
     let first = chain.first()?;

@@ -1,7 +1,6 @@
 //! A network read from its text.
-use crate::forms;
 use crate::forms::{Between, Wish};
-use crate::{KEPT_CONSTRAINTS, KEPT_EVENTS, KEPT_WORDS};
+use crate::{KEPT_EVENTS, forms};
 use arrayvec::ArrayVec;
 
 /// The time of event `to` minus the time of event `from` is at most `most`, as a line says.
@@ -25,12 +24,12 @@ pub struct WrongLine<'a> {
     pub content: &'a [u8],
 }
 
-/// What was read: the names of the events and the constraints, one past the limit of each at most; how many constraints there are; and the first line that has none
-/// of the forms.
+/// What was read: the names of the events, one past the limit at most; how many constraints there are; and the first line that has none of the forms. The constraints
+/// lie in an array that is lent, as many as it has room for.
 #[derive(Drop)]
-pub struct Wishes<'a> {
+pub struct Wishes<'r, 'a> {
     pub events: ArrayVec<&'a [u8], KEPT_EVENTS>,
-    pub constraints: ArrayVec<Constraint<'a>, KEPT_CONSTRAINTS>,
+    room: &'r mut [Constraint<'a>],
     pub constraint_count: usize,
     pub wrong: Option<usize>,
 }
@@ -41,7 +40,13 @@ fn word(n: usize) -> i64 {
     i64::try_from(n).unwrap_or(i64::MAX)
 }
 
-impl<'a> Wishes<'a> {
+fn set(words: &mut [i64], at: usize, n: i64) {
+    if let Some(word) = words.get_mut(at) {
+        *word = n;
+    }
+}
+
+impl<'r, 'a> Wishes<'r, 'a> {
     /// The event with a name, if there is one.
     // Kept: a map would stand beside the list, which gives the names by number; there are 129 at most.
     pub fn event(&self, name: &[u8]) -> Option<usize> {
@@ -51,6 +56,11 @@ impl<'a> Wishes<'a> {
     /// The name of an event, or nothing where there is no such event.
     pub fn name(&self, event: usize) -> &'a [u8] {
         self.events.get(event).copied().unwrap_or(&[])
+    }
+
+    /// The constraints that are kept, in the order of their lines.
+    pub fn constraints(&self) -> &[Constraint<'a>] {
+        self.room.get(..self.constraint_count).unwrap_or(self.room)
     }
 
     // The event that a line names. A new name gets the next number. Past the limit no name is kept, since a network with so many events is refused.
@@ -63,7 +73,7 @@ impl<'a> Wishes<'a> {
         event
     }
 
-    // Past the limit no constraint is kept, and it counts alone.
+    // A constraint that there is no room for counts alone.
     fn take_constraint(&mut self, between: Between<'a>, line: usize) {
         let first = self.named(between.first);
         let second = self.named(between.second);
@@ -72,14 +82,17 @@ impl<'a> Wishes<'a> {
         } else {
             (second, first)
         };
-        let _ = self.constraints.try_push(Constraint {
-            from,
-            to,
-            most: between.most,
-            line,
-            number: between.number,
-        });
-        self.constraint_count = self.constraint_count.saturating_add(1);
+        let count = self.constraint_count;
+        self.constraint_count = count.saturating_add(1);
+        if let Some(place) = self.room.get_mut(count) {
+            *place = Constraint {
+                from,
+                to,
+                most: between.most,
+                line,
+                number: between.number,
+            };
+        }
     }
 
     fn take_line(&mut self, content: &'a [u8], line: usize) {
@@ -93,25 +106,27 @@ impl<'a> Wishes<'a> {
         }
     }
 
-    /// The constraints as the solver takes them, each event by a number that it is given.
-    pub fn words<F: Fn(usize) -> usize>(&self, number: F) -> ArrayVec<i64, KEPT_WORDS>
+    /// The constraints that are kept as the solver takes them, each event by a number that it is given, in words that are lent.
+    pub fn words<'w, F: Fn(usize) -> usize>(&self, room: &'w mut [i64], number: F) -> &'w [i64]
         requires { F.IsAlwaysCallable number }
     {
-        let mut words = ArrayVec::new();
-        for c in &self.constraints {
-            let _ = words.try_push(word(number(c.from)));
-            let _ = words.try_push(word(number(c.to)));
-            let _ = words.try_push(c.most);
+        let mut at: usize = 0;
+        for c in self.constraints() {
+            set(room, at, word(number(c.from)));
+            set(room, at.saturating_add(1), word(number(c.to)));
+            set(room, at.saturating_add(2), c.most);
+            at = at.saturating_add(3);
         }
+        let (words, _) = room.split_at(at.min(room.len()));
         words
     }
 }
 
-/// Internal: reads a network.
-pub fn read<'a>(text: &'a [u8]) -> Wishes<'a> {
+/// Internal: reads a network. Lent is the room for its constraints.
+pub fn read<'r, 'a>(text: &'a [u8], room: &'r mut [Constraint<'a>]) -> Wishes<'r, 'a> {
     let mut wishes = Wishes {
         events: ArrayVec::new(),
-        constraints: ArrayVec::new(),
+        room,
         constraint_count: 0,
         wrong: None,
     };
