@@ -67,13 +67,13 @@ impl Fields {
     pub(crate) fn read<'t>(
         &mut self,
         record: Record,
-        words: &FirstWords<'t>,
+        words: &FirstWords<'_, 't>,
         from: usize,
     ) -> Result<(), Fault<'t>> {
         if MOST_WORDS < words.count {
             return Err(Fault::TooManyWords(words.count));
         }
-        for pair in words.first.as_slice().get(from..).unwrap_or(&[]).chunks(2) {
+        for pair in words.first.get(from..).unwrap_or(&[]).chunks(2) {
             let [name, value @ ..] = pair else {
                 return Ok(());
             };

@@ -1,7 +1,8 @@
 //! The names of a plan's nodes and streams, which stand in a text beside the plan file: PLAN.names.
 ghost use Rattle.std.specs.Prelude.{◌≤◌, length};
 
-use crate::{Draft, read};
+use crate::Draft;
+use crate::reading::read_silently;
 use durable::FileRead;
 use std::io;
 use std::io::Write;
@@ -95,7 +96,7 @@ impl<'r> NamesFile<'r> {
             );
             return None;
         }
-        match read(&mut io::sink(), self.text) {
+        match read_silently(self.text) {
             Ok(draft) => {
                 if is_same_but_moved(t, draft.table().as_slice()) {
                     return Some(draft);

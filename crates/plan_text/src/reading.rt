@@ -3,7 +3,8 @@ use crate::draft::Draft;
 use crate::fault::Fault;
 use crate::records::{Above, Reader};
 use lines::content;
-use lines::words::{has_control, words};
+use lines::words::{KEPT, has_control, words};
+use std::io;
 use std::io::Write;
 
 /// How many lines of a text are wrong, and the first of them, counted from 1.
@@ -14,9 +15,9 @@ pub struct WrongLines {
 }
 
 impl<'t> Reader<'t> {
-    fn read_line(&mut self, line: &'t [u8]) -> Result<(), Fault<'t>> {
-        let words = words(line);
-        if words.first.is_empty() {
+    fn read_line(&mut self, line: &'t [u8], room: &mut [&'t [u8]]) -> Result<(), Fault<'t>> {
+        let words = words(line, room);
+        if words.count == 0 {
             return Ok(());
         }
         if has_control(line) {
@@ -33,6 +34,21 @@ impl<'t> Reader<'t> {
 
 /// Reads a text into a draft, or answers which lines are wrong. What is wrong with each is said on the writer.
 pub fn read<'t, E: Write>(err: &mut E, text: &'t [u8]) -> Result<Draft<'t>, WrongLines> {
+    read_lines(err, true, text)
+}
+
+/// The same, with nothing said: a file of names may have a hundred thousand wrong lines.
+pub(crate) fn read_silently<'t>(text: &'t [u8]) -> Result<Draft<'t>, WrongLines> {
+    read_lines(&mut io::sink(), false, text)
+}
+
+// Kept: the words of a line are put into one array, as many as any record has, so that no line fills another.
+fn read_lines<'t, E: Write>(
+    err: &mut E,
+    is_said: bool,
+    text: &'t [u8],
+) -> Result<Draft<'t>, WrongLines> {
+    let mut room = [&text[..0]; KEPT];
     let mut reader = Reader {
         draft: Draft::empty(),
         above: Above::Nothing,
@@ -41,8 +57,10 @@ pub fn read<'t, E: Write>(err: &mut E, text: &'t [u8]) -> Result<Draft<'t>, Wron
     let mut wrong: Option<WrongLines> = None;
     let lines = lines::without_mark(text).split(|byte| *byte == b'\n');
     for (line, number) in lines.zip(1..u32::MAX) {
-        if let Err(fault) = reader.read_line(content(line)) {
-            let _ = fault.say(err, number);
+        if let Err(fault) = reader.read_line(content(line), &mut room) {
+            if is_said {
+                let _ = fault.say(err, number);
+            }
             wrong = Some(match wrong {
                 None => WrongLines {
                     count: 1,

@@ -29,8 +29,8 @@ pub(crate) struct Reader<'t> {
 
 /// The word of an index, or nothing.
 // Kept: no word of a line is empty, and to Fault an empty one is the end of the line; an Option would be unwrapped to that at each call.
-fn word<'t>(words: &FirstWords<'t>, i: usize) -> &'t [u8] {
-    words.first.as_slice().get(i).copied().unwrap_or(&[])
+fn word<'t>(words: &FirstWords<'_, 't>, i: usize) -> &'t [u8] {
+    words.first.get(i).copied().unwrap_or(&[])
 }
 
 /// Whether a word begins with a digit, as a number does and no name.
@@ -54,7 +54,7 @@ fn judge_name(word: &[u8]) -> Result<(), Fault<'_>> {
 
 impl<'t> Reader<'t> {
     /// Reads the words of a line, of which there is one at least.
-    pub(crate) fn record(&mut self, words: &FirstWords<'t>) -> Result<(), Fault<'t>> {
+    pub(crate) fn record(&mut self, words: &FirstWords<'_, 't>) -> Result<(), Fault<'t>> {
         match word(words, 0) {
             b"leg" => self.leg(words),
             b"stream" => self.stream(words),
@@ -69,7 +69,7 @@ impl<'t> Reader<'t> {
         }
     }
 
-    fn plan(&mut self, words: &FirstWords<'t>) -> Result<(), Fault<'t>> {
+    fn plan(&mut self, words: &FirstWords<'_, 't>) -> Result<(), Fault<'t>> {
         if self.is_begun {
             return Err(Fault::Word(
                 word(words, 0),
@@ -90,8 +90,8 @@ impl<'t> Reader<'t> {
     // ---- Nodes
 
     /// A line that declares a name: node NAME NUMBER.
-    fn node(&mut self, words: &FirstWords<'t>) -> Result<(), Fault<'t>> {
-        if let Some(more) = words.first.as_slice().get(3) {
+    fn node(&mut self, words: &FirstWords<'_, 't>) -> Result<(), Fault<'t>> {
+        if let Some(more) = words.first.get(3) {
             return Err(Fault::Word(more, " is one word too many: expected node NAME NUMBER"));
         }
         let name = word(words, 1);
@@ -184,7 +184,7 @@ impl<'t> Reader<'t> {
 
     // ---- Links
 
-    fn link(&mut self, words: &FirstWords<'t>) -> Result<(), Fault<'t>> {
+    fn link(&mut self, words: &FirstWords<'_, 't>) -> Result<(), Fault<'t>> {
         let arrow = word(words, 2);
         if arrow != ARROW {
             return Err(Fault::Word(
@@ -214,7 +214,7 @@ impl<'t> Reader<'t> {
 
     // ---- Streams
 
-    fn stream(&mut self, words: &FirstWords<'t>) -> Result<(), Fault<'t>> {
+    fn stream(&mut self, words: &FirstWords<'_, 't>) -> Result<(), Fault<'t>> {
         if self.draft.streams.is_full() {
             return Err(Fault::TooMany("stream", table::MAX_STREAMS));
         }
@@ -241,7 +241,7 @@ impl<'t> Reader<'t> {
         &self,
         name: &mut Option<&'t [u8]>,
         fields: &mut Fields,
-        words: &FirstWords<'t>,
+        words: &FirstWords<'_, 't>,
     ) -> Result<(), Fault<'t>> {
         *name = self.name_of_stream(word(words, 1))?;
         fields.read(Record::Stream, words, 2)?;
@@ -275,8 +275,8 @@ impl<'t> Reader<'t> {
         }
     }
 
-    fn rest(&mut self, words: &FirstWords<'t>) -> Result<(), Fault<'t>> {
-        if let Some(more) = words.first.as_slice().get(1) {
+    fn rest(&mut self, words: &FirstWords<'_, 't>) -> Result<(), Fault<'t>> {
+        if let Some(more) = words.first.get(1) {
             return Err(Fault::Word(
                 more,
                 " is one word too many: expected rest alone, and legs below it",
@@ -288,7 +288,7 @@ impl<'t> Reader<'t> {
 
     // ---- Legs
 
-    fn leg(&mut self, words: &FirstWords<'t>) -> Result<(), Fault<'t>> {
+    fn leg(&mut self, words: &FirstWords<'_, 't>) -> Result<(), Fault<'t>> {
         if self.above == Above::Nothing {
             return Err(Fault::Word(
                 word(words, 0),
@@ -311,7 +311,7 @@ impl<'t> Reader<'t> {
     }
 
     /// The link of a leg, by its ends or its number.
-    fn route(&self, words: &FirstWords<'t>) -> Result<u32, Fault<'t>> {
+    fn route(&self, words: &FirstWords<'_, 't>) -> Result<u32, Fault<'t>> {
         let second = word(words, 2);
         if second == ARROW {
             return self.link_between(word(words, 1), word(words, 3));
@@ -339,7 +339,7 @@ impl<'t> Reader<'t> {
         }
     }
 
-    fn leg_fields(&self, fields: &mut Fields, words: &FirstWords<'t>) -> Result<(), Fault<'t>> {
+    fn leg_fields(&self, fields: &mut Fields, words: &FirstWords<'_, 't>) -> Result<(), Fault<'t>> {
         // They begin after the two ends, or after the number of the link.
         let from = if word(words, 2) == ARROW { 4 } else { 3 };
         fields.read(Record::Leg, words, from)?;
@@ -381,7 +381,7 @@ impl<'t> Reader<'t> {
     }
 }
 
-fn link_fields<'t>(fields: &mut Fields, words: &FirstWords<'t>) -> Result<(), Fault<'t>> {
+fn link_fields<'t>(fields: &mut Fields, words: &FirstWords<'_, 't>) -> Result<(), Fault<'t>> {
     fields.read(Record::Link, words, 4)?;
     needs(
         fields.rate,
