@@ -4,7 +4,6 @@ ghost use Rattle.std.specs.Prelude.{◌≤◌, length};
 use crate::Draft;
 use crate::reading::read_silently;
 use durable::FileRead;
-use std::io;
 use std::io::Write;
 use std::rt::Files;
 
