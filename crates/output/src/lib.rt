@@ -36,16 +36,16 @@ impl<W: Write> Write for Output<W> {
 
 // What is written to standard error, or lost there: after any error the print is lost, and what comes after it is tried all the same, since no answer depends on it.
 #[derive(Drop)]
-pub struct Errors<W: Write> {
+pub struct Lossy<W: Write> {
     to: W,
 }
 
 // Internal: standard error, which never fails.
-pub fn errors<W: Write>(to: W) -> Errors<W> {
-    Errors { to }
+pub fn errors<W: Write>(to: W) -> Lossy<W> {
+    Lossy { to }
 }
 
-impl<W: Write> Write for Errors<W> {
+impl<W: Write> Write for Lossy<W> {
     fn write(&mut self, buf: &[u8]) -> io::Result<usize> {
         let _ = self.to.write_all(buf);
         Ok(buf.len())
