@@ -1,9 +1,13 @@
 //! A text read into a draft, a line at a time.
+ghost use Rattle.std.specs.Prelude.{length};
+ghost use Rattle.std.specs.Iterator.{at_most};
+
 use crate::draft::Draft;
 use crate::fault::Fault;
 use crate::records::{Above, Reader};
 use lines::content;
 use lines::words::{KEPT, has_control, words};
+use reasons::small;
 use std::io;
 use std::io::Write;
 
@@ -14,8 +18,36 @@ pub struct WrongLines {
     pub first: u32,
 }
 
+/// The lines of a text that are not empty, each with its number, counted from 1. A text may be empty lines for the most part, so these are passed over at once.
+#[derive(Clone, Copy, Debug, PartialEq, Eq, Drop)]
+struct Lines<'t> {
+    rest: &'t [u8],
+    number: u32,
+}
+
+impl<'t> Iterator for Lines<'t> {
+    type Item = (u32, &'t [u8]);
+
+    ghost remaining = { λ s. at_most (length s.rest.now) };
+
+    fn next(&mut self) -> Option<(u32, &'t [u8])> {
+        let ends = self.rest.iter().position(|byte| *byte != b'\n')?;
+        let rest = &self.rest[ends..];
+        let others = &rest[1..];
+        let more = others
+            .iter()
+            .position(|byte| *byte == b'\n')
+            .unwrap_or(others.len());
+        let (line, after) = rest.split_at(more + 1);
+        self.rest = after;
+        self.number = self.number.saturating_add(small(ends));
+        Some((self.number, line))
+    }
+}
+
 impl<'t> Reader<'t> {
     fn read_line(&mut self, line: &'t [u8], room: &mut [&'t [u8]]) -> Result<(), Fault<'t>> {
+        let line = content(line);
         let words = words(line, room);
         if words.count == 0 {
             return Ok(());
@@ -55,9 +87,12 @@ fn read_lines<'t, E: Write>(
         is_begun: false,
     };
     let mut wrong: Option<WrongLines> = None;
-    let lines = lines::without_mark(text).split(|byte| *byte == b'\n');
-    for (line, number) in lines.zip(1..u32::MAX) {
-        if let Err(fault) = reader.read_line(content(line), &mut room) {
+    let lines = Lines {
+        rest: lines::without_mark(text),
+        number: 1,
+    };
+    for (number, line) in lines {
+        if let Err(fault) = reader.read_line(line, &mut room) {
             if is_said {
                 let _ = fault.say(err, number);
             }
