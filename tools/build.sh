@@ -257,7 +257,7 @@ do_install() {
     put "$temp/flags" lib/pkgconfig/conepalhui.pc
     for name in docs/*.md docs/changes/*.md docs/pictures/*.svg; do
         # How the sources were brought to another kit is for developers.
-        [[ $name == docs/PORT.md || $name == docs/port-*.md || $name == docs/DESIGN-PASS.md || $name == docs/design-*.md ]] || put "$name" "share/doc/conepalhui/${name#docs/}"
+        [[ $name == docs/PORT.md || $name == docs/port-*.md || $name == docs/DESIGN-PASS.md || $name == docs/LOOK-BACK.md || $name == docs/design-*.md ]] || put "$name" "share/doc/conepalhui/${name#docs/}"
     done
     put "$temp/page" share/man/man1/conepalhui.1
     put "$temp/command" bin/conepalhui 755 # The last: without it nothing is run.
