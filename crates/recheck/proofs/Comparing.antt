@@ -63,10 +63,12 @@ module _ {t u : List ℕ} {m o : ℕ} (s : Sized t) (l : m < leg_count t) (long 
         (lt_or_ge i o);
   }
 
-  -- What the comparison of the first part tells where it fails, and that of the second where the first does not.
-  pub told_front : (q : Bool) → q ≡ pointwise eqb (take (o - 1) (drop 1 t)) (take (o - 1) (drop 1 u)) → q ≡ false → (q ≡ true → SameButLeg t u m) × (SameButLeg t u m → q ≡ true)
-  told_front q e n = ((λ y. absurd (true≢false (sym y ∙ n))), λ d. e ∙ (bytes_decides _ _).1 (same_front d))
+  -- What the comparison of the first part tells where it fails, and that of the second where the first does not. The first part is n words long.
+  pub told_front : (q : Bool) {n : ℕ} → q ≡ pointwise eqb (take n (drop 1 t)) (take n (drop 1 u)) → n ≡ o - 1 → q ≡ false → (q ≡ true → SameButLeg t u m) × (SameButLeg t u m → q ≡ true)
+  told_front q {n} e h f = ((λ y. absurd (true≢false (sym y ∙ f))), λ d. e ∙ (bytes_decides _ _).1 (ap (λ (x : ℕ). take x (drop 1 t)) h ∙ same_front d ∙ ap (λ (x : ℕ). take x (drop 1 u)) (sym h)))
 
-  pub told_back : (q r : Bool) → q ≡ pointwise eqb (take (o - 1) (drop 1 t)) (take (o - 1) (drop 1 u)) → q ≡ true → r ≡ pointwise eqb (take (length t - (o + 2)) (drop (o + 2) t)) (take (length u - (o + 2)) (drop (o + 2) u))
+  pub told_back : (q r : Bool) {n : ℕ} → q ≡ pointwise eqb (take n (drop 1 t)) (take n (drop 1 u)) → n ≡ o - 1 → q ≡ true → r ≡ pointwise eqb (take (length t - (o + 2)) (drop (o + 2) t)) (take (length u - (o + 2)) (drop (o + 2) u))
       → (r ≡ true → SameButLeg t u m) × (SameButLeg t u m → r ≡ true)
-  told_back q r e y k = ((λ z. same_parts ((bytes_decides _ _).0 (sym e ∙ y)) (sym (back_whole t o) ∙ (bytes_decides _ _).0 (sym k ∙ z) ∙ back_whole u o)), λ d. k ∙ (bytes_decides _ _).1 (back_whole t o ∙ same_back d ∙ sym (back_whole u o)))
+  told_back q r {n} e h y k =
+      let front : take (o - 1) (drop 1 t) ≡ take (o - 1) (drop 1 u) = ap (λ (x : ℕ). take x (drop 1 t)) (sym h) ∙ (bytes_decides _ _).0 (sym e ∙ y) ∙ ap (λ (x : ℕ). take x (drop 1 u)) h in
+      ((λ z. same_parts front (sym (back_whole t o) ∙ (bytes_decides _ _).0 (sym k ∙ z) ∙ back_whole u o)), λ d. k ∙ (bytes_decides _ _).1 (back_whole t o ∙ same_back d ∙ sym (back_whole u o)))
